@@ -1,0 +1,5 @@
+pub mod Bools
+pub mod Tests
+pub mod Ranges
+pub mod Counts
+pub mod Words

@@ -1,0 +1,4 @@
+pub mod Tests
+pub mod Ranges
+pub mod Parts
+pub mod Words

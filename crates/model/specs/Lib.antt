@@ -1,0 +1,13 @@
+pub mod Outcome
+pub mod Plan
+pub mod Labels
+pub mod Chart
+pub mod Geometry
+pub mod Sweep
+pub mod Turn
+pub mod Scan
+pub mod File
+pub mod Calls
+pub mod CallLists
+pub mod Transversal
+pub mod Trenches
