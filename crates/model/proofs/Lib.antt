@@ -1,1 +1,4 @@
+pub mod Outcomes
+pub mod Plans
+pub mod LabelRules
 pub mod Table

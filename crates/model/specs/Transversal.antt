@@ -20,7 +20,7 @@ pub record FourRuns (r : List ℕ) : Type 0 where
   pub b-some : 0 < b
   pub c-some : 0 < c
   pub d-some : 0 < d
-  pub runs : drop begins r ++ take begins r ≡ replicate a up ++ replicate b right ++ replicate c down ++ replicate d left
+  pub runs : drop begins r ++ take begins r ≡ replicate a up ++ (replicate b right ++ (replicate c down ++ replicate d left))
 
 -- C2: the label that each inner dart leaving a border context has
 pub record Borders (p : Plan) (ls : List ℕ) : Type 0 where
