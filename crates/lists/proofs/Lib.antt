@@ -2,4 +2,5 @@ pub mod Bools
 pub mod Tests
 pub mod Ranges
 pub mod Counts
+pub mod Joins
 pub mod Words

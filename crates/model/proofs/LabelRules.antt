@@ -94,9 +94,16 @@ runs-said r e =
     let (k, m, q) = some-of (reads r) (from 0 (length r)) (any-map _ _ (from 0 (length r)) ∙ e) in
     let (a, b, c, d, runs) = squeezed-runs (drop k r ++ take k r) (same-eq _ _ q) in
     record {
-      begins = k; a = suc a; b = suc b; c = suc c; d = suc d;
+      begins = k;
+      a = suc a;
+      b = suc b;
+      c = suc c;
+      d = suc d;
       within = (let h = mem-from 0 (length r) k m in omega arith);
-      a-some = omega arith; b-some = omega arith; c-some = omega arith; d-some = omega arith;
+      a-some = omega arith;
+      b-some = omega arith;
+      c-some = omega arith;
+      d-some = omega arith;
       runs = runs;
     }
 

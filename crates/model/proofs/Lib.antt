@@ -1,4 +1,6 @@
 pub mod Outcomes
 pub mod Plans
 pub mod LabelRules
+pub mod Least
+pub mod Placements
 pub mod Table
