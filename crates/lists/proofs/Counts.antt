@@ -1,5 +1,5 @@
 -- Sums and counts over the numbers below n.
-use Prim.Native.Nat.{ℕ, zero, suc, _+_, _*_, _≤_, _<_}
+use Prim.Native.Nat.{ℕ, zero, suc, _+_, _-_, _*_, _≤_, _<_}
 use mathlib.Core.Path.{_≡_, refl}
 use mathlib.Core.List.{List, [], _∷_, List·Memᴰ, List·Memᴰ·head, List·Memᴰ·tail}
 use mathlib.Core.Logic.{_≢_}
@@ -7,8 +7,8 @@ use mathlib.Core.Bool.{Bool, true, false, cond, false≢true, or-true}
 use native.Mathlib.Omega.{arith}
 use native.Mathlib.Nat.{suc-mul}
 use lib.ListN.{length}
-use lib.Dec.{eqb}
-use borrow.Author.Tests.{eqb-true, eqb-false, eq-eqb}
+use lib.Dec.{eqb, leb}
+use borrow.Author.Tests.{eqb-true, eqb-false, eq-eqb, leb-true}
 use Rattle.lists.specs.Tests.{member, repeats}
 use Rattle.lists.proofs.Bools.{or-no}
 
@@ -74,6 +74,16 @@ counted-strict f g (suc k) v h q a b = go (λ w. counted-strict f g k v h w a b)
         let b′ : g k ≡ true = rw (eqb-true v k e) at b in
         rw (a′, b′) (omega arith)
     go r false e = let x = r (let z : v ≢ k = eqb-false v k e in omega arith) in let y = one-mono (f k) (g k) (h k) in omega arith
+
+-- the numbers from a up to k
+pub counted-from : (a k : ℕ) → counted (leb a) k ≤ k - a
+unfolding counted
+counted-from a zero = omega arith
+counted-from a (suc k) = go (leb a k) refl (counted-from a k)
+  where
+    go : (t : Bool) → leb a k ≡ t → counted (leb a) k ≤ k - a → counted (leb a) k + cond t 1 0 ≤ suc k - a
+    go true q r = let h = leb-true a k q in omega arith
+    go false q r = omega arith
 
 -- a list of numbers below n that has no repeat is no longer than n
 pub length-counted : (n : ℕ) (l : List ℕ) → repeats l ≡ false → ((a : ℕ) → List·Memᴰ a l → a < n) → length l ≤ counted (λ (w : ℕ). member w l) n

@@ -3,4 +3,5 @@ pub mod Plans
 pub mod LabelRules
 pub mod Least
 pub mod Placements
+pub mod Bounds
 pub mod Table
