@@ -3,4 +3,5 @@ pub mod Tests
 pub mod Ranges
 pub mod Counts
 pub mod Joins
+pub mod Parts
 pub mod Words

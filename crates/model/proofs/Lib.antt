@@ -4,4 +4,7 @@ pub mod LabelRules
 pub mod Least
 pub mod Placements
 pub mod Bounds
+pub mod FileWrite
+pub mod FileRead
+pub mod RingPart
 pub mod Table

@@ -87,12 +87,13 @@ decode b = do
 unfoldable pub entry : ℕ → List ℕ → List ℕ
 entry kind body = bytes ((2 + length body) ∷ kind ∷ []) ++ body
 
--- w, h, then x and y per context
+-- x and y of each context in turn
 unfoldable pub points : List ℕ → List ℕ → List ℕ
 points [] ys = []
 points (a ∷ xs) [] = []
 points (a ∷ xs) (b ∷ ys) = a ∷ b ∷ points xs ys
 
+-- w, h, then x and y per context
 unfoldable pub chartOut : Chart → List ℕ
 chartOut c = c .w ∷ c .h ∷ points (c .xs) (c .ys)
 
