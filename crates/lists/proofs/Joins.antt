@@ -1,18 +1,9 @@
--- The entries of lists joined, and of lists made entry by entry.
+-- The entries of lists made from entries and joined.
 use Prim.Native.Nat.{ℕ}
 use mathlib.Core.Path.{_≡_, refl, subst}
 use mathlib.Core.List.{List, [], _∷_, _++_, map, List·Memᴰ, List·Memᴰ·head, List·Memᴰ·tail, Memᴰ·append-left, Memᴰ·append-right, List·Memᴰ·append-cases}
 use mathlib.Core.Logic.{_⊎_, inl, inr}
 use Rattle.lists.specs.Parts.{concat}
-
-module _ {A B : Type 0} (f : A → B) where
-  pub map-mem : (l : List A) (a : A) → List·Memᴰ a l → List·Memᴰ (f a) (map f l)
-  map-mem (b ∷ l) a (List·Memᴰ·head q) = List·Memᴰ·head (λ i. f (q i))
-  map-mem (b ∷ l) a (List·Memᴰ·tail m) = List·Memᴰ·tail (map-mem l a m)
-
-  pub mem-map : (l : List A) (b : B) → List·Memᴰ b (map f l) → (a : A) × List·Memᴰ a l × (b ≡ f a)
-  mem-map (a ∷ l) b (List·Memᴰ·head q) = (a, List·Memᴰ·head refl, q)
-  mem-map (a ∷ l) b (List·Memᴰ·tail m) = let (c, n, e) = mem-map l b m in (c, List·Memᴰ·tail n, e)
 
 module _ {A B : Type 0} (f : A → List B) where
   pub join-mem : (l : List A) (a : A) (b : B) → List·Memᴰ a l → List·Memᴰ b (f a) → List·Memᴰ b (concat (map f l))

@@ -3,5 +3,7 @@ pub mod Tests
 pub mod Ranges
 pub mod Counts
 pub mod Joins
+pub mod Members
+pub mod Falling
 pub mod Parts
 pub mod Words

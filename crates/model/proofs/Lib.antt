@@ -1,9 +1,12 @@
 pub mod Outcomes
 pub mod Plans
+pub mod PlanRules
 pub mod LabelRules
 pub mod Least
 pub mod Placements
 pub mod Bounds
+pub mod Choices
+pub mod SweepEnds
 pub mod FileWrite
 pub mod FileRead
 pub mod RingPart

@@ -1,7 +1,7 @@
 -- What an outcome says of the steps that led to it; and the one law of all refusals that have a place: it is the lowest that breaks the rule.
 use Prim.Native.Nat.{ℕ, zero, suc, _+_, _≤_, _<_}
 use mathlib.Core.Path.{_≡_, refl, sym, ap, subst}
-use mathlib.Core.Logic.{_↔_}
+use mathlib.Core.Logic.{_↔_, _⊎_, inl, inr}
 use mathlib.Core.Bool.{Bool, true, false, cond}
 use native.Mathlib.Omega.{arith}
 use lib.Dec.{leb}
@@ -10,7 +10,7 @@ use Rattle.lists.specs.Ranges.{firstFrom, lowest}
 use Rattle.lists.proofs.Ranges.{FirstOf, first-found, first-none, none-first, found-first}
 use Rattle.model.specs.Outcome.{Outcome, accepted, refused, passed, require, rule, _>>=_, _>>_}
 
--- an outcome is accepted or refused, not both
+-- an outcome is accepted or refused, never both
 abbrev IsRefused : {A : Type 0} → Outcome A → Type 0
 IsRefused (accepted a) = ⊥
 IsRefused (refused k at) = Unit {0}
@@ -35,21 +35,30 @@ module _ {A : Type 0} where
   unfolding value
   same-value {a} e = ap (value a) e
 
-  pub same-number : {j k at at′ : ℕ} → _≡_ {A = Outcome A} (refused j at) (refused k at′) → j ≡ k
-  unfolding number
-  same-number e = ap number e
+  pub same-refusal : {j k at at′ : ℕ} → _≡_ {A = Outcome A} (refused j at) (refused k at′) → (j ≡ k) × (at ≡ at′)
+  unfolding number place
+  same-refusal e = (ap number e, ap place e)
 
-  pub same-place : {j k at at′ : ℕ} → _≡_ {A = Outcome A} (refused j at) (refused k at′) → at ≡ at′
-  unfolding place
-  same-place e = ap place e
-
+-- an accepted block: each step of it is accepted
 pub bind-accepted : {A B : Type 0} (a : Outcome A) (f : A → Outcome B) (b : B) → (a >>= f) ≡ accepted b → (c : A) × (a ≡ accepted c) × (f c ≡ accepted b)
 bind-accepted (accepted c) f b e = (c, refl, e)
 bind-accepted (refused k at) f b e = not-both e
 
+-- a refused block: its first refusal is the outcome
+pub bind-refused : {A B : Type 0} (a : Outcome A) (f : A → Outcome B) (k at : ℕ) → (a >>= f) ≡ refused k at → (a ≡ refused k at) ⊎ ((c : A) × (a ≡ accepted c) × (f c ≡ refused k at))
+bind-refused (accepted c) f k at e = inr (c, refl, e)
+bind-refused (refused j place) f k at e = let (n, p) = same-refusal e in inl (λ i. refused (n i) (p i))
+
 pub then-accepted : {A : Type 0} (a : Outcome (Unit {0})) (b : Outcome A) (c : A) → (a >> b) ≡ accepted c → (a ≡ passed) × (b ≡ accepted c)
 then-accepted (accepted tt) b c e = (refl, e)
 then-accepted (refused k at) b c e = not-both e
+
+pub passed-then : (a b : Outcome (Unit {0})) → a ≡ passed → b ≡ passed → (a >> b) ≡ passed
+passed-then (accepted t) b p q = q
+passed-then (refused k at) b p q = not-both p
+
+pub passed-require : (t : Bool) (k at : ℕ) → t ≡ true → require t k at ≡ passed
+passed-require t k at e = rw e
 
 pub require-passed : (t : Bool) (k at : ℕ) → require t k at ≡ passed → t ≡ true
 require-passed true k at e = refl
@@ -57,7 +66,7 @@ require-passed false k at e = not-both e
 
 pub require-refused : (t : Bool) (j k at at′ : ℕ) → require t j at ≡ refused k at′ → (t ≡ false) × (j ≡ k) × (at ≡ at′)
 require-refused true j k at at′ e = not-both (sym e)
-require-refused false j k at at′ e = (refl, same-number e, same-place e)
+require-refused false j k at at′ e = let (n, p) = same-refusal e in (refl, n, p)
 
 -- The lowest of the numbers below n that is bad
 pub record Lowest (bad : ℕ → Bool) (n u : ℕ) : Type 0 where

@@ -1,7 +1,7 @@
 -- Placements read rule by rule; and the chart: it is the least placement, and it is refused exactly where no placement keeps the compass rules.
 use Prim.Native.Nat.{ℕ, zero, suc, _+_, _≤_, _<_}
 use mathlib.Core.Path.{_≡_, refl, sym, ap, _∙_, subst}
-use mathlib.Core.List.{List, [], _∷_, _++_, map, List·Memᴰ, List·Memᴰ·head, List·Memᴰ·tail, List·Memᴰ·not-nil, List·Memᴰ·eq-of-singleton, Memᴰ·append-left, Memᴰ·append-right, List·Memᴰ·append-cases}
+use mathlib.Core.List.{List, [], _∷_, _++_, map, List·Memᴰ, List·Memᴰ·head, List·Memᴰ·tail, List·Memᴰ·not-nil, List·Memᴰ·eq-of-singleton, Memᴰ·append-left, Memᴰ·append-right, List·Memᴰ·append-cases, Memᴰ·map, Memᴰ·of-map}
 use mathlib.Core.Logic.{_↔_, _⊎_, inl, inr}
 use mathlib.Core.Bool.{Bool, true, false, cond, _&&_, false≢true}
 use native.Mathlib.Omega.{arith}
@@ -13,7 +13,7 @@ use Rattle.lists.specs.Parts.{concat}
 use Rattle.lists.proofs.Bools.{and-yes, yes-and, both}
 use Rattle.lists.proofs.Tests.{all-of, of-all}
 use Rattle.lists.proofs.Ranges.{from-mem, mem-from}
-use Rattle.lists.proofs.Joins.{map-mem, mem-map, join-mem, mem-join}
+use Rattle.lists.proofs.Joins.{join-mem, mem-join}
 use Rattle.model.specs.Outcome.{Outcome, accepted, refused, passed, require, _>>_, _>>=_}
 use Rattle.model.specs.Plan.{Plan, Dart, count, contexts, ring, adjacent, dartsFrom, darts, north, east, south, west}
 use Rattle.model.specs.Labels.{up, right, labelOf}
@@ -27,14 +27,14 @@ pub mem-darts : (p : Plan) (d : Dart) → List·Memᴰ d (darts p) → adjacent 
 unfolding darts dartsFrom
 mem-darts p d m =
     let (u, _, n) = mem-join (dartsFrom p) (contexts p) d m in
-    let (v, k, e) = mem-map (λ (v : ℕ). (u, v)) (ring p u) d n in
-    subst (λ (c : Dart). adjacent p (c .0) (c .1) ≡ true) (sym e) (mem-adjacent p u v k)
+    let (v, k, e) = Memᴰ·of-map {B = Dart} (λ (v : ℕ). (u, v)) (ring p u) n in
+    subst (λ (c : Dart). adjacent p (c .0) (c .1) ≡ true) e (mem-adjacent p u v k)
 
 pub darts-mem : (p : Plan) (u v : ℕ) → adjacent p u v ≡ true → List·Memᴰ {A = Dart} (u, v) (darts p)
 unfolding darts dartsFrom
 darts-mem p u v e =
     let h = adjacent-from p u v e in
-    join-mem (dartsFrom p) (contexts p) u (u, v) (from-mem 0 (count p) u (omega arith) (omega arith)) (map-mem (λ (w : ℕ). (u, w)) (ring p u) v (adjacent-mem p u v e))
+    join-mem (dartsFrom p) (contexts p) u (u, v) (from-mem 0 (count p) u (omega arith) (omega arith)) (Memᴰ·map {B = Dart} (λ (w : ℕ). (u, w)) (adjacent-mem p u v e))
 
 -- ---- the compass rules, one dart at a time
 pub record Compass (s : ℕ) (p : Plan) (ls : List ℕ) (c : Chart) : Type 0 where
