@@ -12,12 +12,14 @@ use Rattle.lists.specs.Ranges.{from}
 use Rattle.lists.proofs.Bools.{and-yes, yes-and, or-yes}
 use Rattle.lists.proofs.Ranges.{length-map-from, getD-map-from}
 use Rattle.lists.proofs.Counts.{counted, counted-strict, counted-from}
-use Rattle.model.specs.Outcome.{accepted}
-use Rattle.model.specs.Plan.{Plan, count, adjacent, north, east, south, west}
-use Rattle.model.specs.Labels.{up, right, down, left, borderLabel, turned, labelOf}
-use Rattle.model.specs.Chart.{Chart, x, y, isPlacement, leastPlacement}
+use Rattle.model.specs.Outcome.{accepted, passed}
+use Rattle.model.specs.Plan.{Plan, count, adjacent, planRules, north, east, south, west}
+use Rattle.model.specs.Labels.{up, right, down, left, turned, labelOf, labelRules}
+use Rattle.model.specs.Chart.{Chart, x, y, leastPlacement, slope, chart}
 use Rattle.model.specs.Transversal.{Transversal}
 use Rattle.model.proofs.Plans.{adjacent-from}
+use Rattle.model.proofs.PlanRules.{Sound, sound}
+use Rattle.model.proofs.LabelRules.{labels-exactly}
 use Rattle.model.proofs.Placements.{Compass, Placed, placed, is-placed, chart-is}
 
 -- ---- a strict order of contexts, as a test
@@ -328,3 +330,8 @@ chart-small s p ls low five returned t c e =
       x-small = λ u h. let a = most .x-least u h in let b = levels-most (count p) (xOrder p ls five returned t c d) west u h in omega arith;
       y-small = λ u h. let a = most .y-least u h in let b = levels-most (count p) (yOrder p ls five returned t c d) east u h in omega arith;
     }
+
+-- The chart of an accepted plan with accepted labels: width, height and every point are at most n − 3
+pub chart-fits : (p : Plan) (ls : List ℕ) → 5 ≤ count p → planRules p ≡ passed → labelRules p ls ≡ passed → (c : Chart) → chart p ls ≡ accepted c → Small (count p) c
+unfolding chart slope
+chart-fits p ls five rules labels c e = chart-small 0 p ls (omega arith) five (sound p rules .returned) (labels-exactly p ls .0 labels) c e

@@ -14,7 +14,7 @@ use Rattle.lists.proofs.Tests.{same-eq, same-refl}
 use Rattle.lists.proofs.Counts.{sum, sum-mono, sum-equal, sum-bound, counted, counted-le, counted-mono, counted-strict}
 use Rattle.model.specs.Outcome.{Outcome, accepted, refused}
 use Rattle.model.specs.Chart.{Constraint, raise, pass, settle, leastNumbers}
-use Rattle.model.proofs.Outcomes.{not-both, same-value}
+use Rattle.model.proofs.Outcomes.{not-both, same-value, same-refusal}
 
 -- the number at u; past the end it is 0
 abbrev at : List ℕ → ℕ → ℕ
@@ -139,6 +139,16 @@ module _ (cs : List Constraint) where
       go r true q e = not-both (sym e)
       go r false q e = let x = grows q (ltb old new) refl in let y = r e in omega arith
 
+  -- the only refusal is 11 at 0
+  settle-11 : (fuel : ℕ) (ks : List ℕ) (k place : ℕ) → settle cs fuel ks ≡ refused k place → (k ≡ 11) × (place ≡ 0)
+  unfolding settle
+  settle-11 zero ks k place e = let (a, b) = same-refusal e in (sym a, sym b)
+  settle-11 (suc fuel) ks k place e = go (settle-11 fuel (pass cs ks) k place) (sameList (pass cs ks) ks) e
+    where
+      go : (settle cs fuel (pass cs ks) ≡ refused k place → (k ≡ 11) × (place ≡ 0)) → (t : Bool) → cond t (accepted ks) (settle cs fuel (pass cs ks)) ≡ refused k place → (k ≡ 11) × (place ≡ 0)
+      go r true e = not-both (sym e)
+      go r false e = r e
+
 -- ---- ranks: numbers that meet the constraints, none of them large
 module _ (d : ℕ → ℕ) (n : ℕ) where
   -- how many of the first n + 1 numbers are smaller
@@ -202,6 +212,10 @@ module _ (n : ℕ) (cs : List Constraint) where
           let y = least-under ks e ds s (c .low) in
           let z = List·getD-eq-default ds 0 {n = c .high} (let h = ltb-false (c .high) (length ks) q in omega arith) in
           omega arith
+
+  pub least-11 : (k place : ℕ) → leastNumbers n cs ≡ refused k place → (k ≡ 11) × (place ≡ 0)
+  unfolding leastNumbers
+  least-11 k place e = settle-11 cs (suc (n * n)) (replicate n 0) k place e
 
   -- where it refuses there is no solution
   pub least-none : ((c : Constraint) → List·Memᴰ c cs → c .gap ≤ 1) → (k place : ℕ) → leastNumbers n cs ≡ refused k place → (ds : List ℕ) → Solves n cs ds → ⊥

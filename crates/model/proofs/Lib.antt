@@ -1,3 +1,4 @@
+pub mod Table
 pub mod Outcomes
 pub mod Plans
 pub mod PlanRules
@@ -10,4 +11,3 @@ pub mod SweepEnds
 pub mod FileWrite
 pub mod FileRead
 pub mod RingPart
-pub mod Table

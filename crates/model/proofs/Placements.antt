@@ -6,6 +6,7 @@ use mathlib.Core.Logic.{_↔_, _⊎_, inl, inr}
 use mathlib.Core.Bool.{Bool, true, false, cond, _&&_, false≢true}
 use native.Mathlib.Omega.{arith}
 use lib.ListN.{length, getD}
+use lib.Seq.{ext-getD}
 use lib.Dec.{eqb, leb}
 use borrow.Author.Tests.{eqb-true, eqb-false, eq-eqb, leb-true, le-leb}
 use Rattle.lists.specs.Tests.{all}
@@ -18,9 +19,9 @@ use Rattle.model.specs.Outcome.{Outcome, accepted, refused, passed, requ
 use Rattle.model.specs.Plan.{Plan, Dart, count, contexts, ring, adjacent, dartsFrom, darts, north, east, south, west}
 use Rattle.model.specs.Labels.{up, right, labelOf}
 use Rattle.model.specs.Chart.{Chart, x, y, Constraint, constraint, meets, xConstraint, yConstraint, xConstraints, yConstraints, isAt, isPlacement, AtMost, IsChart, leastNumbers, tie, leastPlacement}
-use Rattle.model.proofs.Outcomes.{not-both, same-value, bind-accepted, then-accepted, require-passed}
+use Rattle.model.proofs.Outcomes.{not-both, same-value, same-refusal, bind-accepted, bind-refused, then-accepted, require-passed}
 use Rattle.model.proofs.Plans.{adjacent-from, adjacent-mem, mem-adjacent}
-use Rattle.model.proofs.Least.{Solves, least-under, least-solves, least-length, least-none}
+use Rattle.model.proofs.Least.{Solves, least-under, least-solves, least-11, least-none}
 
 -- ---- the darts of a plan are its ordered pairs of neighbours
 pub mem-darts : (p : Plan) (d : Dart) → List·Memᴰ d (darts p) → adjacent p (d .0) (d .1) ≡ true
@@ -286,6 +287,26 @@ module _ (s : ℕ) (p : Plan) (ls : List ℕ) where
         let h = k .north-y in
         record { w-least = omega arith; h-least = omega arith; x-least = λ u _. hx u; y-least = λ u _. hy u }
 
+  -- every refusal is 11 at 0
+  chart-11 : (k at : ℕ) → leastPlacement s p ls ≡ refused k at → (k ≡ 11) × (at ≡ 0)
+  unfolding leastPlacement
+  chart-11 k at e = in-x (bind-refused (leastNumbers (count p) xAll) _ k at e)
+    where
+      rest : List ℕ → List ℕ → Outcome Chart
+      rest xs ys = require (isPlacement s p ls (drawn xs ys)) 11 0 >> accepted (drawn xs ys)
+
+      tested : (t : Bool) (c : Chart) → (require t 11 0 >> accepted c) ≡ refused k at → (k ≡ 11) × (at ≡ 0)
+      tested true c e = not-both (sym e)
+      tested false c e = let (a, b) = same-refusal e in (sym a, sym b)
+
+      in-y : (xs : List ℕ) → (leastNumbers (count p) yAll ≡ refused k at) ⊎ ((ys : List ℕ) × (leastNumbers (count p) yAll ≡ accepted ys) × (rest xs ys ≡ refused k at)) → (k ≡ 11) × (at ≡ 0)
+      in-y xs (inl r) = least-11 (count p) yAll k at r
+      in-y xs (inr r) = tested (isPlacement s p ls (drawn xs (r .0))) (drawn xs (r .0)) (r .2)
+
+      in-x : (leastNumbers (count p) xAll ≡ refused k at) ⊎ ((xs : List ℕ) × (leastNumbers (count p) xAll ≡ accepted xs) × ((leastNumbers (count p) yAll >>= rest xs) ≡ refused k at)) → (k ≡ 11) × (at ≡ 0)
+      in-x (inl r) = least-11 (count p) xAll k at r
+      in-x (inr r) = in-y (r .0) (bind-refused (leastNumbers (count p) yAll) (rest (r .0)) k at (r .2))
+
   -- The chart is a placement, and every number of it is at most that of every placement
   pub chart-is : (c : Chart) → leastPlacement s p ls ≡ accepted c → IsChart s p ls c
   unfolding leastPlacement
@@ -309,3 +330,36 @@ module _ (s : ℕ) (p : Plan) (ls : List ℕ) where
       go (accepted xs) q (accepted ys) r =
           let f : isPlacement s p ls (drawn xs ys) ≡ true = is-placed s p ls (drawn xs ys) (drawn-placed xs ys q r d kept) in
           not-both (sym (rw (q, r, f) at e))
+
+  -- there is at most one chart
+  pub chart-unique : (c d : Chart) → IsChart s p ls c → IsChart s p ls d → c ≡ d
+  chart-unique c d f g =
+      let a = f .least d (g .keeps) in
+      let b = g .least c (f .keeps) in
+      let j = placed s p ls c (f .keeps) in
+      let k = placed s p ls d (g .keeps) in
+      let same-w : c .w ≡ d .w = let l = a .w-least in let m = b .w-least in omega arith in
+      let same-h : c .h ≡ d .h = let l = a .h-least in let m = b .h-least in omega arith in
+      let same-x : c .xs ≡ d .xs = ext-getD 0 (c .xs) (d .xs) (j .count-x ∙ sym (k .count-x)) (λ u h. let n = j .count-x in let l = a .x-least u (omega arith) in let m = b .x-least u (omega arith) in omega arith) in
+      let same-y : c .ys ≡ d .ys = ext-getD 0 (c .ys) (d .ys) (j .count-y ∙ sym (k .count-y)) (λ u h. let n = j .count-y in let l = a .y-least u (omega arith) in let m = b .y-least u (omega arith) in omega arith) in
+      λ i. record { w = same-w i; h = same-h i; xs = same-x i; ys = same-y i }
+
+  module _ (low : s ≤ 1) where
+    -- THE CHART: what is worked out is the least placement, and it is refused with 11 exactly where no placement keeps the compass rules
+    pub chart-exactly : (c : Chart) → (leastPlacement s p ls ≡ accepted c) ↔ IsChart s p ls c
+    chart-exactly c = (chart-is c, λ f. go f (leastPlacement s p ls) refl)
+      where
+        go : IsChart s p ls c → (o : Outcome Chart) → leastPlacement s p ls ≡ o → o ≡ accepted c
+        go f (accepted d) e = ap accepted (chart-unique d c (chart-is d e) f)
+        go f (refused k at) e = absurd (chart-none low k at e c (f .keeps))
+
+    pub chart-refused : (leastPlacement s p ls ≡ refused 11 0) ↔ ((d : Chart) → isPlacement s p ls d ≡ false)
+    chart-refused = (λ e d. no-placement e d (isPlacement s p ls d) refl, λ none. go none (leastPlacement s p ls) refl)
+      where
+        no-placement : leastPlacement s p ls ≡ refused 11 0 → (d : Chart) (t : Bool) → isPlacement s p ls d ≡ t → t ≡ false
+        no-placement e d true q = absurd (chart-none low 11 0 e d q)
+        no-placement e d false q = refl
+
+        go : ((d : Chart) → isPlacement s p ls d ≡ false) → (o : Outcome Chart) → leastPlacement s p ls ≡ o → o ≡ refused 11 0
+        go none (accepted c) e = both (isPlacement s p ls c) (chart-is c e .keeps) (none c)
+        go none (refused k at) e = let (a, b) = chart-11 k at e in λ i. refused (a i) (b i)
