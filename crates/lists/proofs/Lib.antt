@@ -6,4 +6,6 @@ pub mod Joins
 pub mod Members
 pub mod Falling
 pub mod Parts
+pub mod Spans
+pub mod Loops
 pub mod Words

@@ -1,4 +1,5 @@
 pub mod Tests
 pub mod Ranges
 pub mod Parts
+pub mod Spans
 pub mod Words

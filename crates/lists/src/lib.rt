@@ -1,1 +1,48 @@
-// Lists: the words and laws that every other crate uses, in specs/ and proofs/. There is no code here yet.
+// Lists: total accessors of lent arrays, where what lies outside reads as 0. The words and laws of lists that every other crate uses are in specs/ and proofs/.
+ghost use mathlib.Core.Path.{_≡_};
+ghost use Prim.Native.Nat.{_+_, _*_, _<_, _^_};
+ghost use lib.ListN.{getD};
+
+// A byte as a number.
+pub fn wide_byte(x: u8) -> usize
+    ensures { λ r. ⌜ r ≡ x ⌝ }
+    ensures { λ r. ⌜ r < 2 ^ 8 ⌝ }
+{
+    x as usize
+}
+
+// A number of two bytes as a number.
+pub fn wide_word(x: u16) -> usize
+    ensures { λ r. ⌜ r ≡ x ⌝ }
+    ensures { λ r. ⌜ r < 2 ^ 16 ⌝ }
+{
+    x as usize
+}
+
+// The byte at i.
+pub fn byte(a: &[u8], i: usize) -> usize
+    ensures { λ r. ⌜ r ≡ getD (now (a .entry)) i 0 ⌝ }
+    ensures { λ r. ⌜ r < 2 ^ 8 ⌝ }
+{
+    if i < a.len() { wide_byte(a[i]) } else { 0 }
+}
+
+// The number at i.
+pub fn num(a: &[u16], i: usize) -> usize
+    ensures { λ r. ⌜ r ≡ getD (now (a .entry)) i 0 ⌝ }
+    ensures { λ r. ⌜ r < 2 ^ 16 ⌝ }
+{
+    if i < a.len() { wide_word(a[i]) } else { 0 }
+}
+
+// The number of two bytes, little-endian, at i.
+pub fn word_at(a: &[u8], i: usize) -> usize
+    ensures { λ r. ⌜ r ≡ getD (now (a .entry)) i 0 + 256 * getD (now (a .entry)) (i + 1) 0 ⌝ }
+    ensures { λ r. ⌜ r < 2 ^ 16 ⌝ }
+{
+    if i < a.len() {
+        byte(a, i) + 256 * byte(a, i + 1)
+    } else {
+        0
+    }
+}
