@@ -8,6 +8,7 @@ pub mod Placements
 pub mod Bounds
 pub mod Choices
 pub mod SweepEnds
+pub mod Eligible
 pub mod FileWrite
 pub mod FileRead
 pub mod RingPart
