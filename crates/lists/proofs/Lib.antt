@@ -7,3 +7,7 @@ pub mod Members
 pub mod Falling
 pub mod Parts
 pub mod Words
+pub mod Once
+pub mod Sums
+pub mod Places
+pub mod Cycles

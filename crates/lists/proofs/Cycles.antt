@@ -1,0 +1,53 @@
+-- Neighbouring entries of a list that is closed to a ring: under a renaming, and after a rotation. And joins of joins.
+use Prim.Native.Nat.{ℕ, suc}
+use mathlib.Core.Path.{_≡_, refl, sym, ap, _∙_, subst}
+use mathlib.Core.List.{List, [], _∷_, _++_, map, append-assoc, append-nil, List·Memᴰ, List·Memᴰ·append-cases, Memᴰ·append-left, Memᴰ·append-right}
+use mathlib.Core.Logic.{_⊎_, inl, inr}
+use lib.ListN.{take}
+use Rattle.lists.specs.Parts.{concat, steps, cycle}
+
+module _ {A B : Type 0} (g : A → B) where
+  abbrev both : A × A → B × B
+  both d = (g (d .0), g (d .1))
+
+  pub map-append : (l m : List A) → map g (l ++ m) ≡ map g l ++ map g m
+  map-append [] m = refl
+  map-append (a ∷ l) m = ap (λ (k : List B). g a ∷ k) (map-append l m)
+
+  steps-map : (l : List A) → steps (map g l) ≡ map both (steps l)
+  steps-map [] = refl
+  steps-map (a ∷ []) = refl
+  steps-map (a ∷ b ∷ l) = ap (λ (k : List (B × B)). (g a, g b) ∷ k) (steps-map (b ∷ l))
+
+  pub cycle-map : (l : List A) → cycle (map g l) ≡ map both (cycle l)
+  cycle-map [] = refl
+  cycle-map (a ∷ l) = ap steps (sym (map-append (a ∷ l) (a ∷ []))) ∙ steps-map (a ∷ l ++ (a ∷ []))
+
+module _ {A : Type 0} where
+  -- two lists that meet in an entry
+  steps-meet : (l : List A) (b : A) (m : List A) → steps (l ++ (b ∷ m)) ≡ steps (l ++ (b ∷ [])) ++ steps (b ∷ m)
+  steps-meet [] b m = refl
+  steps-meet (a ∷ []) b m = refl
+  steps-meet (a ∷ c ∷ l) b m = ap (λ (k : List (A × A)). (a, c) ∷ k) (steps-meet (c ∷ l) b m)
+
+  -- the entries of a ring and those of the ring begun elsewhere
+  pub cycle-rotated : (l m : List A) (d : A × A) → List·Memᴰ d (cycle (l ++ m)) → List·Memᴰ d (cycle (m ++ l))
+  cycle-rotated [] m d i = subst (λ (k : List A). List·Memᴰ d (cycle k)) (sym (append-nil m)) i
+  cycle-rotated (a ∷ l) [] d i = subst (λ (k : List A). List·Memᴰ d (cycle k)) (append-nil (a ∷ l)) i
+  cycle-rotated (a ∷ l) (b ∷ m) d i =
+      let whole : cycle ((a ∷ l) ++ (b ∷ m)) ≡ steps ((a ∷ l) ++ (b ∷ [])) ++ steps ((b ∷ m) ++ (a ∷ [])) = ap steps (append-assoc (a ∷ l) (b ∷ m) (a ∷ [])) ∙ steps-meet (a ∷ l) b (m ++ (a ∷ [])) in
+      let turned : cycle ((b ∷ m) ++ (a ∷ l)) ≡ steps ((b ∷ m) ++ (a ∷ [])) ++ steps ((a ∷ l) ++ (b ∷ [])) = ap steps (append-assoc (b ∷ m) (a ∷ l) (b ∷ [])) ∙ steps-meet (b ∷ m) a (l ++ (b ∷ [])) in
+      subst (List·Memᴰ d) (sym turned) (go (List·Memᴰ·append-cases (steps ((a ∷ l) ++ (b ∷ []))) (subst (List·Memᴰ d) whole i)))
+    where
+      go : List·Memᴰ d (steps ((a ∷ l) ++ (b ∷ []))) ⊎ List·Memᴰ d (steps ((b ∷ m) ++ (a ∷ []))) → List·Memᴰ d (steps ((b ∷ m) ++ (a ∷ [])) ++ steps ((a ∷ l) ++ (b ∷ [])))
+      go (inl h) = Memᴰ·append-right (steps ((b ∷ m) ++ (a ∷ []))) h
+      go (inr h) = Memᴰ·append-left (steps ((a ∷ l) ++ (b ∷ []))) h
+
+pub concat-append : {A : Type 0} (l m : List (List A)) → concat (l ++ m) ≡ concat l ++ concat m
+concat-append [] m = refl
+concat-append (a ∷ l) m = ap (a ++_) (concat-append l m) ∙ sym (append-assoc a (concat l) (concat m))
+
+-- lists of lists, each joined and then all joined
+pub join-join : {A B C : Type 0} (f : B → List C) (g : A → List B) (l : List A) → concat (map f (concat (map g l))) ≡ concat (map (λ (a : A). concat (map f (g a))) l)
+join-join f g [] = refl
+join-join f g (a ∷ l) = ap concat (map-append f (g a) (concat (map g l))) ∙ concat-append (map f (g a)) (map f (concat (map g l))) ∙ ap (concat (map f (g a)) ++_) (join-join f g l)
