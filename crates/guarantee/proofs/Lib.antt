@@ -1,0 +1,5 @@
+pub mod Rings
+pub mod Darts
+pub mod Faces
+pub mod Runs
+pub mod Headings

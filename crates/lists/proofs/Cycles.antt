@@ -1,10 +1,11 @@
 -- Neighbouring entries of a list that is closed to a ring: under a renaming, and after a rotation. And joins of joins.
 use Prim.Native.Nat.{ℕ, suc}
 use mathlib.Core.Path.{_≡_, refl, sym, ap, _∙_, subst}
-use mathlib.Core.List.{List, [], _∷_, _++_, map, append-assoc, append-nil, List·Memᴰ, List·Memᴰ·append-cases, Memᴰ·append-left, Memᴰ·append-right}
+use mathlib.Core.List.{List, [], _∷_, _++_, map, append-assoc, append-nil, List·Memᴰ, List·Memᴰ·head, List·Memᴰ·tail, List·Memᴰ·append-cases, Memᴰ·append-left, Memᴰ·append-right}
 use mathlib.Core.Logic.{_⊎_, inl, inr}
 use lib.ListN.{take}
 use Rattle.lists.specs.Parts.{concat, steps, cycle}
+use Rattle.lists.proofs.Members.{mem-take}
 
 module _ {A B : Type 0} (g : A → B) where
   abbrev both : A × A → B × B
@@ -24,6 +25,18 @@ module _ {A B : Type 0} (g : A → B) where
   cycle-map (a ∷ l) = ap steps (sym (map-append (a ∷ l) (a ∷ []))) ∙ steps-map (a ∷ l ++ (a ∷ []))
 
 module _ {A : Type 0} where
+  -- both entries of a step are entries
+  mem-steps : (l : List A) (c : A × A) → List·Memᴰ c (steps l) → List·Memᴰ (c .0) l × List·Memᴰ (c .1) l
+  mem-steps (a ∷ b ∷ l) c (List·Memᴰ·head e) = (List·Memᴰ·head (ap (λ (d : A × A). d .0) e), List·Memᴰ·tail (List·Memᴰ·head (ap (λ (d : A × A). d .1) e)))
+  mem-steps (a ∷ b ∷ l) c (List·Memᴰ·tail m) = let (i, j) = mem-steps (b ∷ l) c m in (List·Memᴰ·tail i, List·Memᴰ·tail j)
+
+  pub mem-cycle : (l : List A) (c : A × A) → List·Memᴰ c (cycle l) → List·Memᴰ (c .0) l × List·Memᴰ (c .1) l
+  mem-cycle l c m = let (i, j) = mem-steps (l ++ take 1 l) c m in (go (c .0) (List·Memᴰ·append-cases l i), go (c .1) (List·Memᴰ·append-cases l j))
+    where
+      go : (a : A) → List·Memᴰ a l ⊎ List·Memᴰ a (take 1 l) → List·Memᴰ a l
+      go a (inl h) = h
+      go a (inr h) = mem-take 1 l a h
+
   -- two lists that meet in an entry
   steps-meet : (l : List A) (b : A) (m : List A) → steps (l ++ (b ∷ m)) ≡ steps (l ++ (b ∷ [])) ++ steps (b ∷ m)
   steps-meet [] b m = refl
