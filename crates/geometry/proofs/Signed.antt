@@ -8,7 +8,7 @@ use lib.Dec.{ltb}
 use borrow.Author.Tests.{ltb-true, ltb-false}
 use Rattle.geometry.specs.Points.{Position, areaPlus, areaMinus}
 
-abbrev Difference : ℤ → ℕ → ℕ → Type 0
+abbrev pub Difference : ℤ → ℕ → ℕ → Type 0
 Difference (pos k) a b = a ≡ b + k
 Difference (negsuc k) a b = b ≡ a + suc k
 

@@ -54,15 +54,15 @@ module _ (p : Plan) (ls : List ℕ) where
       go true q false r = refl
       go false q b r = refl
 
-  heading-inner : (u v : ℕ) → 4 ≤ max u v → heading p ls u v ≡ labelOf p ls u v
+  pub heading-inner : (u v : ℕ) → 4 ≤ max u v → heading p ls u v ≡ labelOf p ls u v
   unfolding heading
   heading-inner u v h = rw (not-border u v h)
 
-  heading-next : (u v : ℕ) → u < 4 → v ≡ (u + 1) % 4 → heading p ls u v ≡ (u + 2) % 4
+  pub heading-next : (u v : ℕ) → u < 4 → v ≡ (u + 1) % 4 → heading p ls u v ≡ (u + 2) % 4
   unfolding heading
   heading-next u v h e = rw (lt-ltb u 4 h, lt-ltb v 4 (omega arith), eq-eqb v ((u + 1) % 4) e)
 
-  heading-last : (u v : ℕ) → u < 4 → v ≡ (u + 3) % 4 → heading p ls u v ≡ (u + 3) % 4
+  pub heading-last : (u v : ℕ) → u < 4 → v ≡ (u + 3) % 4 → heading p ls u v ≡ (u + 3) % 4
   unfolding heading
   heading-last u v h e = rw (lt-ltb u 4 h, lt-ltb v 4 (omega arith), ne-eqb v ((u + 1) % 4) (λ q. omega arith))
 
