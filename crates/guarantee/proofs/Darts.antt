@@ -51,11 +51,11 @@ outer-on-border d o =
     let same : dart (d .0) ((d .0 + 1) % 4) ≡ d = ap (dart (d .0)) (sym e) in
     subst (λ (c : Dart). List·Memᴰ c (cycle border-walk)) same
     (below-four (λ u. List·Memᴰ (dart u ((u + 1) % 4)) (cycle border-walk))
-      (List·Memᴰ·head refl)
-      (List·Memᴰ·tail (List·Memᴰ·head refl))
-      (List·Memᴰ·tail (List·Memᴰ·tail (List·Memᴰ·head refl)))
-      (List·Memᴰ·tail (List·Memᴰ·tail (List·Memᴰ·tail (List·Memᴰ·head refl))))
-      (d .0) h)
+    (List·Memᴰ·head refl)
+    (List·Memᴰ·tail (List·Memᴰ·head refl))
+    (List·Memᴰ·tail (List·Memᴰ·tail (List·Memᴰ·head refl)))
+    (List·Memᴰ·tail (List·Memᴰ·tail (List·Memᴰ·tail (List·Memᴰ·head refl))))
+    (d .0) h)
 
 pub border-is-outer : (d : Dart) → List·Memᴰ d (cycle border-walk) → outer d ≡ true
 unfolding outer

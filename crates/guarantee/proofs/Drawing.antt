@@ -96,7 +96,7 @@ module _ (c : Chart) (t : Point) where
       let level : isZero (side c t e) ≡ true = ap isZero (says-pos 0 (side-says e) (omega (arith, o .flat))) in
       yes-and (isZero (side c t e) && spans (a .x) (b .x) (t .p)) (spans (a .y) (b .y) (t .q))
       (yes-and (isZero (side c t e)) (spans (a .x) (b .x) (t .p)) level
-        (yes-and (leb (min (a .x) (b .x)) (t .p)) (leb (t .p) (max (a .x) (b .x))) (le-leb (min (a .x) (b .x)) (t .p) (o .x-from)) (le-leb (t .p) (max (a .x) (b .x)) (o .x-to))))
+      (yes-and (leb (min (a .x) (b .x)) (t .p)) (leb (t .p) (max (a .x) (b .x))) (le-leb (min (a .x) (b .x)) (t .p) (o .x-from)) (le-leb (t .p) (max (a .x) (b .x)) (o .x-to))))
       (yes-and (leb (min (a .y) (b .y)) (t .q)) (leb (t .q) (max (a .y) (b .y))) (le-leb (min (a .y) (b .y)) (t .q) (o .y-from)) (le-leb (t .q) (max (a .y) (b .y)) (o .y-to)))
 
   clear-of : (p : Plan) → onSomeLine c p t ≡ false → (u v : ℕ) → adjacent p u v ≡ true → ¬ OnSegment (spread u) (spread v) here
@@ -115,7 +115,7 @@ module _ (p : Plan) (s : Sound p) (ls : List ℕ) (tr : Transversal p ls) (slope
   face-positive f i = three-entries (λ f. InnerFace p f → positive (area c f) ≡ true) triangle f (i .three) i
     where
       triangle : (u v w : ℕ) → InnerFace p (u ∷ v ∷ w ∷ []) → positive (area c (u ∷ v ∷ w ∷ [])) ≡ true
-      triangle u v w i = 
+      triangle u v w i =
           let l = face-left p s ls tr slope c k u v w i in
           let less : along (against (product c)) (u ∷ v ∷ w ∷ []) < along (product c) (u ∷ v ∷ w ∷ []) = omega arith in
           says-positive (area-says c (u ∷ v ∷ w ∷ [])) ∙ lt-ltb _ _ less

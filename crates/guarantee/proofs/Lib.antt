@@ -5,3 +5,6 @@ pub mod Runs
 pub mod Headings
 pub mod Placing
 pub mod Drawing
+pub mod Records
+pub mod Kept
+pub mod Guarantee
