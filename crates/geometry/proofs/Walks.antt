@@ -1,12 +1,11 @@
 -- Sums along closed walks, and how they cancel where every dart and its reverse lie on walks, each on one.
 -- No number is negative: what a function of two entries sums to along a walk is held to what it sums to against it.
 use Prim.Native.Nat.{ℕ, _+_}
-use mathlib.Core.Path.{_≡_, refl, sym, ap, ap₂, _∙_, subst}
-use mathlib.Core.List.{List, [], _∷_, _++_, map, List·Memᴰ, Memᴰ·map, Memᴰ·of-map}
+use mathlib.Core.Path.{_≡_, refl, sym, ap, _∙_, subst}
+use mathlib.Core.List.{List, _++_, map, List·Memᴰ, Memᴰ·map, Memᴰ·of-map}
 use Rattle.lists.specs.Parts.{concat, cycle}
 use Rattle.lists.proofs.Once.{once-map}
 use Rattle.lists.proofs.Sums.{total, total-append, total-map, total-join, SameEntries, total-same}
-use Rattle.lists.proofs.Cycles.{cycle-map}
 
 module _ {A : Type 0} where
   abbrev reverse : A × A → A × A
@@ -49,7 +48,3 @@ module _ {A : Type 0} where
         ∙ sym (total-same (on f) (map reverse darts) darts reversed)
         ∙ total-map (on f) reverse darts
         ∙ by-walks (against f)
-
--- a walk renamed
-pub along-map : {A B : Type 0} (g : A → B) (f : B → B → ℕ) (walk : List A) → along f (map g walk) ≡ along (λ a b. f (g a) (g b)) walk
-along-map g f walk = ap (total (on f)) (cycle-map g walk) ∙ total-map (on f) (λ d. (g (d .0), g (d .1))) (cycle walk)

@@ -1,13 +1,13 @@
 -- Every placement draws its plan: the areas of the inner faces are positive and fill the rectangle, and each point on no line is inside exactly one of them.
-use Prim.Native.Nat.{ℕ, zero, suc, _+_, _*_, _≤_, _<_, min, max}
-use mathlib.Core.Path.{_≡_, refl, sym, ap, ap₂, _∙_, subst}
+use Prim.Native.Nat.{ℕ, zero, suc, _+_, _*_, _<_, min, max}
+use mathlib.Core.Path.{_≡_, refl, sym, ap, ap₂, _∙_}
 use mathlib.Core.List.{List, [], _∷_, _++_, map, List·Memᴰ, List·Memᴰ·head, List·Memᴰ·tail}
-use mathlib.Core.Bool.{Bool, true, false, cond, _&&_, _||_}
+use mathlib.Core.Bool.{Bool, true, false, cond, _&&_}
 use native.Mathlib.Omega.{arith}
-use lib.IntN.{ℤ, pos, negsuc, subℕ, _+ℤ_, _-ℤ_, _*ℤ_}
+use lib.IntN.{ℤ, pos, negsuc}
 use lib.Dec.{ltb, leb}
 use borrow.Author.Tests.{lt-ltb, le-ltb, ltb-true, le-leb}
-use Rattle.lists.specs.Tests.{any, all, tally}
+use Rattle.lists.specs.Tests.{all, tally}
 use Rattle.lists.specs.Parts.{steps, cycle}
 use Rattle.lists.proofs.Bools.{and-yes, yes-and, both}
 use Rattle.lists.proofs.Tests.{none-of}
@@ -19,11 +19,11 @@ use Rattle.model.specs.Geometry.{Point, positive, isZero, corner, fan, area, ar
 use Rattle.model.specs.Transversal.{Transversal}
 use Rattle.model.proofs.PlanRules.{Sound}
 use Rattle.model.proofs.Placements.{Placed, darts-mem}
-use Rattle.geometry.specs.Points.{Position, areaPlus, areaMinus, Left, left, OnSegment, crossing, inside, InBox, scaled}
+use Rattle.geometry.specs.Points.{Position, areaPlus, areaMinus, left, OnSegment, crossing, inside, InBox, scaled}
 use Rattle.geometry.proofs.Signed.{Difference, Says, says-as, says-zero, says-sum, says-pos, says-area}
-use Rattle.geometry.proofs.Walks.{along, against, cancels, along-map}
+use Rattle.geometry.proofs.Walks.{along, against, cancels}
 use Rattle.geometry.proofs.Crossings.{triangle-crossings, box-crossings, left-scaled}
-use Rattle.guarantee.specs.InnerFaces.{InnerFace, InnerFaces}
+use Rattle.guarantee.specs.InnerFaces.{InnerFace}
 use Rattle.guarantee.proofs.Darts.{border-walk}
 use Rattle.guarantee.proofs.Faces.{closed-map, inner-faces}
 use Rattle.guarantee.proofs.Placing.{place, face-left, three-entries}

@@ -5,20 +5,17 @@ use mathlib.Core.List.{List, [], _∷_, _++_, map, append-nil, List·Memᴰ, Lis
 use mathlib.Core.Logic.{_⊎_, inl, inr, _≢_}
 use mathlib.Core.Bool.{Bool, true, false, cond, not, _&&_}
 use native.Mathlib.Omega.{arith}
-use lib.ListN.{length, getD}
 use lib.Dec.{ltb}
 use borrow.Author.Tests.{not-true, ltb-true, lt-ltb}
-use Rattle.lists.specs.Tests.{any}
 use Rattle.lists.specs.Ranges.{from}
 use Rattle.lists.specs.Parts.{concat, cycle}
-use Rattle.lists.proofs.Bools.{and-yes, yes-and, yes-not, both}
+use Rattle.lists.proofs.Bools.{and-yes, both}
 use Rattle.lists.proofs.Tests.{some-of, of-some}
 use Rattle.lists.proofs.Joins.{join-mem, mem-join}
 use Rattle.lists.proofs.Cycles.{join-join}
 use Rattle.lists.proofs.Once.{Once, once-append, once-join, once-map, once-from}
-use Rattle.lists.proofs.Sums.{SameEntries, tally-join}
+use Rattle.lists.proofs.Sums.{tally-join}
 use Rattle.model.specs.Plan.{Plan, Dart, Face, contexts, ring, adjacent, dartsFrom, darts, sameDart, step, outer, closes, walk, onInnerFace, facesFrom, faces}
-use Rattle.model.proofs.Plans.{adjacent-mem}
 use Rattle.model.proofs.PlanRules.{Sound, border-next}
 use Rattle.model.proofs.Placements.{mem-darts, darts-mem}
 use Rattle.geometry.proofs.Products.{lt-or-le}

@@ -1,12 +1,12 @@
 -- Demand 3 holds of every list of calls.
 use Prim.Native.Nat.{ℕ}
-use mathlib.Core.Path.{_≡_, refl, sym, ap, _∙_, subst}
+use mathlib.Core.Path.{_≡_, refl, sym, subst}
 use mathlib.Core.List.{List}
 use mathlib.Core.Option.{none, some, Option·some-injective, Option·none-ne-some}
 use Rattle.model.specs.Outcome.{accepted, passed}
-use Rattle.model.specs.Plan.{Plan, planRules, faces}
+use Rattle.model.specs.Plan.{Plan, planRules}
 use Rattle.model.specs.Labels.{labelRules}
-use Rattle.model.specs.Chart.{Chart, IsChart, slope, chart}
+use Rattle.model.specs.Chart.{Chart, slope, chart}
 use Rattle.model.specs.File.{Sheet, fresh, opened, labelled, charted}
 use Rattle.model.specs.CallLists.{Call, run, standing, planAndLabels, Ledger, neither, both, ledger}
 use Rattle.model.proofs.PlanRules.{sound}

@@ -1,20 +1,20 @@
 -- Headings: labels, and between border contexts the labels that fit the border. With them every corner of an inner face has an angle of at most a quarter.
-use Prim.Native.Nat.{ℕ, zero, suc, _+_, _-_, _%_, _≤_, _<_, max, min}
+use Prim.Native.Nat.{ℕ, _+_, _%_, _≤_, _<_, max}
 use mathlib.Core.Path.{_≡_, refl, sym, ap, _∙_, subst}
-use mathlib.Core.List.{List, [], _∷_, _++_, map, List·Memᴰ, Memᴰ·map}
+use mathlib.Core.List.{List, map, List·Memᴰ, Memᴰ·map}
 use mathlib.Core.Logic.{_⊎_, inl, inr, _≢_}
 use mathlib.Core.Bool.{Bool, true, false, cond, _&&_}
 use native.Mathlib.Omega.{arith}
 use native.Mathlib.Decide.{ℕ-discrete}
-use lib.ListN.{length, getD, take, drop, length-map, length-take, List·getD-map, List·getD-eq-default}
+use lib.ListN.{length, getD, drop, length-map, length-take, List·getD-map, List·getD-eq-default}
 use lib.Seq.{ext-getD}
 use lib.Dec.{eqb, ltb}
 use borrow.Author.Tests.{eq-eqb, ne-eqb, lt-ltb, ltb-true}
-use Rattle.lists.specs.Parts.{cycle, indexOf}
+use Rattle.lists.specs.Parts.{cycle}
 use Rattle.lists.proofs.Bools.{both}
 use Rattle.lists.proofs.Places.{mem-at, getD-any, index-at}
 use Rattle.lists.proofs.Cycles.{cycle-map}
-use Rattle.model.specs.Plan.{Plan, Dart, count, border, neighbour, entries, ring, adjacent, next, outer}
+use Rattle.model.specs.Plan.{Plan, Dart, border, neighbour, entries, ring, adjacent, next, outer}
 use Rattle.model.specs.Labels.{unlabelled, turned, start, labelsAround, labelOf}
 use Rattle.model.specs.Transversal.{Transversal}
 use Rattle.model.proofs.Plans.{adjacent-mem, mem-adjacent, adjacent-from}

@@ -2,8 +2,8 @@
 use Prim.Native.Nat.{ℕ, _%_}
 use mathlib.Core.Path.{_≡_, refl, sym, ap, ap₂, _∙_, subst}
 use mathlib.Core.List.{List, [], _∷_}
-use mathlib.Core.Bool.{Bool, true, false, _&&_}
-use mathlib.Core.Option.{Option, none, some}
+use mathlib.Core.Bool.{true, false, _&&_}
+use mathlib.Core.Option.{Option, some}
 use lib.ListN.{length}
 use lib.Dec.{eqb, ltb}
 use borrow.Author.Tests.{eqb-true}
@@ -18,8 +18,8 @@ use Rattle.model.specs.Chart.{Chart, chart, sameChart}
 use Rattle.model.specs.Sweep.{sweep, sweepFrom, firstState}
 use Rattle.model.specs.Turn.{turn, turnEdges, quarters, badPair}
 use Rattle.model.specs.File.{Sheet, fresh, opened, labelled, charted}
-use Rattle.model.specs.Calls.{planOf, labelsOf, judge, openCall, offered, offerCall, sweepCall, turnCall, chartCall}
-use Rattle.model.specs.CallLists.{Call, open-file, offer-labels, sweep-labels, turn-edges, draw-chart, call, run, Ledger, neither, plan-only, both, ledgerPlan, ledgerLabels, planAndLabels, enter, ledger, standing}
+use Rattle.model.specs.Calls.{planOf, labelsOf, judge, offered, offerCall, sweepCall, turnCall, chartCall}
+use Rattle.model.specs.CallLists.{Call, open-file, offer-labels, sweep-labels, turn-edges, draw-chart, call, run, Ledger, both, ledgerPlan, ledgerLabels, planAndLabels, enter, ledger, standing}
 use Rattle.model.proofs.Outcomes.{same-value, not-both, bind-accepted, then-accepted, require-passed}
 use Rattle.model.proofs.RingPart.{open-accepted}
 use Rattle.guarantee.specs.Verdicts.{verdict, answers, judgements, newer, lastAccepted, draws, present}
@@ -169,34 +169,34 @@ judged-kept (charted p ls c) j =
     (a, b, e ∙ ap accepted (sym (same-chart c d (require-passed (sameChart c d) 12 0 t))))
 
 -- ---- what an accepted call leaves: it keeps the rules, and it has a chart exactly if the call draws one
-record Left (c : Call) (t : Sheet) : Type 0 where
+record After (c : Call) (t : Sheet) : Type 0 where
   kept : Kept t
   drawn : present (standing t) ≡ draws (some c)
 
-left-labelled : {A : Type 0} (c : Call) (o : Outcome A) (plan : A → Plan) (f : A → Outcome (List ℕ)) (t : Sheet) → draws (some c) ≡ false
+after-labels : {A : Type 0} (c : Call) (o : Outcome A) (plan : A → Plan) (f : A → Outcome (List ℕ)) (t : Sheet) → draws (some c) ≡ false
     → ((a : A) → o ≡ accepted a → planRules (plan a) ≡ passed) → ((a : A) (ms : List ℕ) → f a ≡ accepted ms → labelRules (plan a) ms ≡ passed)
-    → (o >>= λ a. f a >>= λ ms. accepted (labelled (plan a) ms)) ≡ accepted t → Left c t
+    → (o >>= λ a. f a >>= λ ms. accepted (labelled (plan a) ms)) ≡ accepted t → After c t
 unfolding standing present
-left-labelled c o plan f t undrawn plans labels e =
+after-labels c o plan f t undrawn plans labels e =
     let (a, e₁, r) = bind-accepted o _ t e in
     let (ms, e₂, q) = bind-accepted (f a) _ t r in
-    subst (Left c) (same-value q) (record { kept = (plans a e₁, labels a ms e₂); drawn = sym undrawn })
+    subst (After c) (same-value q) (record { kept = (plans a e₁, labels a ms e₂); drawn = sym undrawn })
 
-left-charted : (s t : Sheet) → Kept s → chartCall s ≡ accepted t → Left draw-chart t
+after-chart : (s t : Sheet) → Kept s → chartCall s ≡ accepted t → After draw-chart t
 unfolding chartCall standing present draws
-left-charted s t h e =
+after-chart s t h e =
     let (a, e₁, r) = bind-accepted (labelsOf s) _ t e in
     let (c, e₂, q) = bind-accepted (chart (a .0) (a .1)) _ t r in
     let (k, l) = labels-kept s h a e₁ in
-    subst (Left draw-chart) (same-value q) (record { kept = (k, l, e₂); drawn = refl })
+    subst (After draw-chart) (same-value q) (record { kept = (k, l, e₂); drawn = refl })
 
-leaves : (s t : Sheet) (c : Call) → Kept s → call s c ≡ accepted t → Left c t
+leaves : (s t : Sheet) (c : Call) → Kept s → call s c ≡ accepted t → After c t
 unfolding call offerCall sweepCall turnCall draws
 leaves s t (open-file b) h e = record { kept = judged-kept t (open-accepted b t e .1); drawn = opened-holds b t e }
-leaves s t (offer-labels ls) h e = left-labelled (offer-labels ls) (planOf s) (λ p. p) (λ p. offered p ls) t refl (plan-kept s h) (λ p. offered-kept p ls) e
-leaves s t sweep-labels h e = left-labelled sweep-labels (planOf s) (λ p. p) sweep t refl (plan-kept s h) swept-kept e
-leaves s t (turn-edges items d) h e = left-labelled (turn-edges items d) (labelsOf s) (λ a. a .0) (λ a. turn (a .0) (a .1) items d) t refl (λ a q. labels-kept s h a q .0) (λ a. turned-kept (a .0) (a .1) items d) e
-leaves s t draw-chart h e = left-charted s t h e
+leaves s t (offer-labels ls) h e = after-labels (offer-labels ls) (planOf s) (λ p. p) (λ p. offered p ls) t refl (plan-kept s h) (λ p. offered-kept p ls) e
+leaves s t sweep-labels h e = after-labels sweep-labels (planOf s) (λ p. p) sweep t refl (plan-kept s h) swept-kept e
+leaves s t (turn-edges items d) h e = after-labels (turn-edges items d) (labelsOf s) (λ a. a .0) (λ a. turn (a .0) (a .1) items d) t refl (λ a q. labels-kept s h a q .0) (λ a. turned-kept (a .0) (a .1) items d) e
+leaves s t draw-chart h e = after-chart s t h e
 
 -- a list of calls
 pub run-kept : (cs : List Call) (s : Sheet) → Kept s → Kept (run s cs)

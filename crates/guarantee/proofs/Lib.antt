@@ -8,3 +8,4 @@ pub mod Drawing
 pub mod Records
 pub mod Kept
 pub mod Guarantee
+pub mod Example

@@ -1,26 +1,26 @@
 -- Every placement heads each dart as its label says, and so walks each inner face with angles of at most a quarter: inner faces have positive area.
-use Prim.Native.Nat.{ℕ, zero, suc, _+_, _%_, _≤_, _<_, max}
+use Prim.Native.Nat.{ℕ, _+_, _%_, _≤_, _<_, max}
 use mathlib.Core.Path.{_≡_, refl, sym, ap, _∙_, subst}
-use mathlib.Core.List.{List, [], _∷_, List·Memᴰ}
+use mathlib.Core.List.{List, [], _∷_}
 use mathlib.Core.Logic.{_≢_}
-use mathlib.Core.Bool.{true, false}
+use mathlib.Core.Bool.{true}
 use native.Mathlib.Omega.{arith}
 use lib.ListN.{length}
 use Rattle.lists.specs.Parts.{cycle}
 use Rattle.lists.proofs.Bools.{both}
 use Rattle.lists.proofs.Cycles.{mem-cycle}
-use Rattle.model.specs.Plan.{Plan, Dart, Face, ring, adjacent, next, step, outer}
+use Rattle.model.specs.Plan.{Plan, Dart, Face, adjacent, step, outer}
 use Rattle.model.specs.Labels.{up, right, turned, labelOf}
 use Rattle.model.specs.Chart.{Chart, x, y}
 use Rattle.model.specs.Transversal.{Transversal}
 use Rattle.model.proofs.Plans.{adjacent-from}
 use Rattle.model.proofs.PlanRules.{Sound, border-next}
-use Rattle.model.proofs.Placements.{Compass, Placed}
+use Rattle.model.proofs.Placements.{Placed}
 use Rattle.geometry.specs.Points.{Position, Left}
 use Rattle.geometry.specs.Compass.{Heads, angle, Turning}
 use Rattle.geometry.proofs.Corners.{triangle-positive}
 use Rattle.guarantee.specs.InnerFaces.{InnerFace}
-use Rattle.guarantee.proofs.Darts.{dart, below-four, Inner, step-inner, three-steps, third-dart}
+use Rattle.guarantee.proofs.Darts.{below-four, Inner, step-inner, third-dart}
 use Rattle.guarantee.proofs.Headings.{heading, Kind, inner-edge, to-next, to-last, kind-of, heading-inner, heading-next, heading-last, heading-small, border-label, corner-angle}
 
 -- where a chart puts a context

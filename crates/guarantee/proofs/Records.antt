@@ -1,14 +1,14 @@
 -- A file that is opened has a record of kind 4 exactly when its sheet has a chart.
-use Prim.Native.Nat.{ℕ, zero, suc, _+_, _-_, _*_, _≤_, _<_}
+use Prim.Native.Nat.{ℕ, zero, suc, _+_, _-_, _≤_, _<_}
 use mathlib.Core.Path.{_≡_, refl, sym, ap, _∙_, subst}
 use mathlib.Core.List.{List, [], _∷_}
 use mathlib.Core.Bool.{Bool, true, false, cond, _&&_, _||_, false≢true}
 use native.Mathlib.Omega.{arith}
-use lib.ListN.{length, take, drop, length-drop}
+use lib.ListN.{length, drop, length-drop}
 use lib.Dec.{eqb, leb}
 use borrow.Author.Tests.{eqb-true, leb-true}
 use Rattle.lists.specs.Tests.{empty, member}
-use Rattle.lists.specs.Words.{word, words}
+use Rattle.lists.specs.Words.{word}
 use Rattle.lists.proofs.Bools.{and-yes}
 use Rattle.model.specs.Outcome.{Outcome, accepted, refused, _>>=_, _>>_, require}
 use Rattle.model.specs.Plan.{Plan}
