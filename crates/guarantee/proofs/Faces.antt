@@ -12,7 +12,7 @@ use Rattle.lists.specs.Parts.{concat, cycle}
 use Rattle.lists.proofs.Bools.{and-yes, both}
 use Rattle.lists.proofs.Tests.{some-of, of-some}
 use Rattle.lists.proofs.Joins.{join-mem, mem-join}
-use Rattle.lists.proofs.Cycles.{join-join}
+use Rattle.lists.proofs.Concats.{join-join}
 use Rattle.lists.proofs.Once.{Once, once-append, once-join, once-map, once-from}
 use Rattle.lists.proofs.Sums.{tally-join}
 use Rattle.model.specs.Plan.{Plan, Dart, Face, contexts, ring, adjacent, dartsFrom, darts, sameDart, step, outer, closes, walk, onInnerFace, facesFrom, faces}

@@ -1,20 +1,20 @@
 -- Headings: labels, and between border contexts the labels that fit the border. With them every corner of an inner face has an angle of at most a quarter.
 use Prim.Native.Nat.{ℕ, _+_, _%_, _≤_, _<_, max}
-use mathlib.Core.Path.{_≡_, refl, sym, ap, _∙_, subst}
+use mathlib.Core.Path.{_≡_, sym, ap, _∙_, subst}
 use mathlib.Core.List.{List, map, List·Memᴰ, Memᴰ·map}
 use mathlib.Core.Logic.{_⊎_, inl, inr, _≢_}
-use mathlib.Core.Bool.{Bool, true, false, cond, _&&_}
+use mathlib.Core.Bool.{true, false, cond}
 use native.Mathlib.Omega.{arith}
 use native.Mathlib.Decide.{ℕ-discrete}
 use lib.ListN.{length, getD, drop, length-map, length-take, List·getD-map, List·getD-eq-default}
 use lib.Seq.{ext-getD}
 use lib.Dec.{eqb, ltb}
-use borrow.Author.Tests.{eq-eqb, ne-eqb, lt-ltb, ltb-true}
+use borrow.Author.Tests.{eq-eqb, ne-eqb, lt-ltb, le-ltb}
 use Rattle.lists.specs.Parts.{cycle}
 use Rattle.lists.proofs.Bools.{both}
 use Rattle.lists.proofs.Places.{mem-at, getD-any, index-at}
 use Rattle.lists.proofs.Cycles.{cycle-map}
-use Rattle.model.specs.Plan.{Plan, Dart, border, neighbour, entries, ring, adjacent, next, outer}
+use Rattle.model.specs.Plan.{Plan, Dart, neighbour, entries, ring, adjacent, next, outer}
 use Rattle.model.specs.Labels.{unlabelled, turned, start, labelsAround, labelOf}
 use Rattle.model.specs.Transversal.{Transversal}
 use Rattle.model.proofs.Plans.{adjacent-mem, mem-adjacent, adjacent-from}
@@ -27,7 +27,7 @@ use Rattle.guarantee.proofs.Darts.{dart, below-four, says-outer, once-r
 
 -- East to North and South to West up, South to East and West to North right; their reverses two quarters on
 unfoldable pub heading : Plan → List ℕ → ℕ → ℕ → ℕ
-heading p ls u v = cond (border u && border v) (cond (eqb v ((u + 1) % 4)) (turned u 2) (turned u 3)) (labelOf p ls u v)
+heading p ls u v = cond (ltb (max u v) 4) (cond (eqb v ((u + 1) % 4)) (turned u 2) (turned u 3)) (labelOf p ls u v)
 
 -- a dart is inner, or leads to the border context after or before
 pub data Kind (u v : ℕ) : Type 0 where
@@ -46,25 +46,17 @@ module _ (p : Plan) (s : Sound p) where
       go (inl h) (no n) (no m) = let o = s .other u v a in to-last (omega arith) (omega arith)
 
 module _ (p : Plan) (ls : List ℕ) where
-  not-border : (u v : ℕ) → 4 ≤ max u v → (border u && border v) ≡ false
-  not-border u v h = go (ltb u 4) refl (ltb v 4) refl
-    where
-      go : (a : Bool) → ltb u 4 ≡ a → (b : Bool) → ltb v 4 ≡ b → (a && b) ≡ false
-      go true q true r = let x = ltb-true u 4 q in let y = ltb-true v 4 r in absurd (omega arith)
-      go true q false r = refl
-      go false q b r = refl
-
   pub heading-inner : (u v : ℕ) → 4 ≤ max u v → heading p ls u v ≡ labelOf p ls u v
   unfolding heading
-  heading-inner u v h = rw (not-border u v h)
+  heading-inner u v h = rw (le-ltb (max u v) 4 h)
 
   pub heading-next : (u v : ℕ) → u < 4 → v ≡ (u + 1) % 4 → heading p ls u v ≡ (u + 2) % 4
   unfolding heading
-  heading-next u v h e = rw (lt-ltb u 4 h, lt-ltb v 4 (omega arith), eq-eqb v ((u + 1) % 4) e)
+  heading-next u v h e = rw (lt-ltb (max u v) 4 (omega arith), eq-eqb v ((u + 1) % 4) e)
 
   pub heading-last : (u v : ℕ) → u < 4 → v ≡ (u + 3) % 4 → heading p ls u v ≡ (u + 3) % 4
   unfolding heading
-  heading-last u v h e = rw (lt-ltb u 4 h, lt-ltb v 4 (omega arith), ne-eqb v ((u + 1) % 4) (λ q. omega arith))
+  heading-last u v h e = rw (lt-ltb (max u v) 4 (omega arith), ne-eqb v ((u + 1) % 4) (λ q. omega arith))
 
 module _ (p : Plan) (s : Sound p) (ls : List ℕ) (t : Transversal p ls) where
   -- ---- one dart

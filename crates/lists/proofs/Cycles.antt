@@ -1,18 +1,17 @@
--- Neighbouring entries of a list that is closed to a ring: under a renaming, and after a rotation. And joins of joins.
+-- Neighbouring entries of a list that is closed to a ring: how many there are, under a renaming, and after a rotation.
+use Prim.Native.Nat.{suc}
 use mathlib.Core.Path.{_≡_, refl, sym, ap, _∙_, subst}
 use mathlib.Core.List.{List, [], _∷_, _++_, map, append-assoc, append-nil, List·Memᴰ, List·Memᴰ·head, List·Memᴰ·tail, List·Memᴰ·append-cases, Memᴰ·append-left, Memᴰ·append-right}
 use mathlib.Core.Logic.{_⊎_, inl, inr}
-use lib.ListN.{take}
-use Rattle.lists.specs.Parts.{concat, steps, cycle}
+use native.Mathlib.Omega.{arith}
+use lib.ListN.{length, take, length-append}
+use Rattle.lists.specs.Parts.{steps, cycle}
 use Rattle.lists.proofs.Members.{mem-take}
+use Rattle.lists.proofs.Concats.{map-append}
 
 module _ {A B : Type 0} (g : A → B) where
   abbrev both : A × A → B × B
   both d = (g (d .0), g (d .1))
-
-  pub map-append : (l m : List A) → map g (l ++ m) ≡ map g l ++ map g m
-  map-append [] m = refl
-  map-append (a ∷ l) m = ap (λ (k : List B). g a ∷ k) (map-append l m)
 
   steps-map : (l : List A) → steps (map g l) ≡ map both (steps l)
   steps-map [] = refl
@@ -21,9 +20,18 @@ module _ {A B : Type 0} (g : A → B) where
 
   pub cycle-map : (l : List A) → cycle (map g l) ≡ map both (cycle l)
   cycle-map [] = refl
-  cycle-map (a ∷ l) = ap steps (sym (map-append (a ∷ l) (a ∷ []))) ∙ steps-map (a ∷ l ++ (a ∷ []))
+  cycle-map (a ∷ l) = ap steps (sym (map-append g (a ∷ l) (a ∷ []))) ∙ steps-map (a ∷ l ++ (a ∷ []))
 
 module _ {A : Type 0} where
+  length-steps : (a : A) (l : List A) → length (steps (a ∷ l)) ≡ length l
+  length-steps a [] = refl
+  length-steps a (b ∷ l) = ap suc (length-steps b l)
+
+  -- a ring has as many steps as entries
+  pub length-cycle : (l : List A) → length (cycle l) ≡ length l
+  length-cycle [] = refl
+  length-cycle (a ∷ l) = length-steps a (l ++ (a ∷ [])) ∙ omega (arith, length-append l (a ∷ []))
+
   -- both entries of a step are entries
   mem-steps : (l : List A) (c : A × A) → List·Memᴰ c (steps l) → List·Memᴰ (c .0) l × List·Memᴰ (c .1) l
   mem-steps (a ∷ b ∷ l) c (List·Memᴰ·head e) = (List·Memᴰ·head (ap (λ (d : A × A). d .0) e), List·Memᴰ·tail (List·Memᴰ·head (ap (λ (d : A × A). d .1) e)))
@@ -54,12 +62,3 @@ module _ {A : Type 0} where
       go : List·Memᴰ d (steps ((a ∷ l) ++ (b ∷ []))) ⊎ List·Memᴰ d (steps ((b ∷ m) ++ (a ∷ []))) → List·Memᴰ d (steps ((b ∷ m) ++ (a ∷ [])) ++ steps ((a ∷ l) ++ (b ∷ [])))
       go (inl h) = Memᴰ·append-right (steps ((b ∷ m) ++ (a ∷ []))) h
       go (inr h) = Memᴰ·append-left (steps ((a ∷ l) ++ (b ∷ []))) h
-
-pub concat-append : {A : Type 0} (l m : List (List A)) → concat (l ++ m) ≡ concat l ++ concat m
-concat-append [] m = refl
-concat-append (a ∷ l) m = ap (a ++_) (concat-append l m) ∙ sym (append-assoc a (concat l) (concat m))
-
--- lists of lists, each joined and then all joined
-pub join-join : {A B C : Type 0} (f : B → List C) (g : A → List B) (l : List A) → concat (map f (concat (map g l))) ≡ concat (map (λ (a : A). concat (map f (g a))) l)
-join-join f g [] = refl
-join-join f g (a ∷ l) = ap concat (map-append f (g a) (concat (map g l))) ∙ concat-append (map f (g a)) (map f (concat (map g l))) ∙ ap (concat (map f (g a)) ++_) (join-join f g l)

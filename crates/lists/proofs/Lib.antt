@@ -10,4 +10,5 @@ pub mod Words
 pub mod Once
 pub mod Sums
 pub mod Places
+pub mod Concats
 pub mod Cycles

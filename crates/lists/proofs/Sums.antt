@@ -1,10 +1,11 @@
 -- Sums over the entries of a list.
-use Prim.Native.Nat.{ℕ, _+_}
+use Prim.Native.Nat.{ℕ, _+_, _≤_}
 use mathlib.Core.Path.{_≡_, refl, sym, ap, ap₂, _∙_}
 use mathlib.Core.List.{List, [], _∷_, _++_, map, List·Memᴰ, List·Memᴰ·head, List·Memᴰ·tail, List·Memᴰ·not-nil, List·Memᴰ·append-cases, Memᴰ·cast}
 use mathlib.Core.Logic.{_⊎_, inl, inr}
 use mathlib.Core.Bool.{Bool, true, false, cond}
 use native.Mathlib.Omega.{arith}
+use lib.ListN.{length}
 use Rattle.lists.specs.Tests.{tally}
 use Rattle.lists.specs.Parts.{concat}
 use Rattle.lists.proofs.Bools.{both}
@@ -32,6 +33,12 @@ module _ {A : Type 0} where
   unfolding total
   total-add f g [] = refl
   total-add f g (a ∷ l) = omega (arith, total-add f g l)
+
+  -- each term at most 1
+  pub total-most : (f : A → ℕ) (l : List A) → ((a : A) → List·Memᴰ a l → f a ≤ 1) → total f l ≤ length l
+  unfolding total
+  total-most f [] h = omega arith
+  total-most f (a ∷ l) h = let x = h a (List·Memᴰ·head refl) in let y = total-most f l (λ b i. h b (List·Memᴰ·tail i)) in omega arith
 
   -- a tally is a sum of ones
   pub tally-total : (t : A → Bool) (l : List A) → tally t l ≡ total (λ a. cond (t a) 1 0) l
