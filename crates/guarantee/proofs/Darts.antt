@@ -14,6 +14,7 @@ use Rattle.model.proofs.Plans.{adjacent-mem, mem-adjacent}
 use Rattle.model.proofs.PlanRules.{Sound, innerRing, border-ring}
 use Rattle.guarantee.proofs.Rings.{next-mem, next-last}
 
+-- a dart, and when two are the same
 abbrev pub dart : ℕ → ℕ → Dart
 dart u v = (u, v)
 
@@ -64,6 +65,7 @@ border-is-outer d (List·Memᴰ·tail (List·Memᴰ·tail (List·Memᴰ·head e)
 border-is-outer d (List·Memᴰ·tail (List·Memᴰ·tail (List·Memᴰ·tail (List·Memᴰ·head e)))) = ap outer e
 
 module _ (p : Plan) (s : Sound p) where
+  -- the face step
   abbrev S : Dart → Dart
   S d = step p d
 
@@ -83,6 +85,7 @@ module _ (p : Plan) (s : Sound p) where
       leaves : (u : ℕ) (d : Dart) → List·Memᴰ d (map (dart u) (ring p u)) → d .0 ≡ u
       leaves u d k = let (v, i, e) = Memᴰ·of-map (dart u) (ring p u) k in ap (λ (c : Dart). c .0) (sym e)
 
+  -- the face step leads from a dart to a dart
   pub step-is-dart : (d : Dart) → IsDart d → IsDart (S d)
   unfolding step
   step-is-dart d a = mem-adjacent p (d .1) (next (d .0) (ring p (d .1))) (next-mem (d .0) (ring p (d .1)) (adjacent-mem p (d .1) (d .0) (s .returned (d .0) (d .1) a)))
@@ -109,6 +112,7 @@ module _ (p : Plan) (s : Sound p) where
   unfolding closes
   three-steps d i = same-dart (S (S (S d))) d (s .closed (d .0) (d .1) (i .is-dart) (i .not-outer))
 
+  -- and from an inner dart to an inner one
   pub step-inner : (d : Dart) → Inner d → Inner (S d)
   step-inner d i = record { is-dart = step-is-dart d (i .is-dart); not-outer = go (outer (S d)) refl }
     where

@@ -43,6 +43,7 @@ module _ (c : Chart) where
   product : ℕ → ℕ → ℕ
   product u v = x c u * y c v
 
+  -- a triangle
   corner-says : (u v w : ℕ) → Says (corner c u v w) (product u v + product v w + product w u) (product v u + product w v + product u w)
   unfolding corner product place
   corner-says u v w = says-as (says-area (place c u) (place c v) (place c w)) (omega arith)
@@ -59,6 +60,7 @@ module _ (c : Chart) where
   area-says (u ∷ []) = says-as (says-zero 0) (omega arith)
   area-says (u ∷ v ∷ f) = fan-says u v f
 
+  -- of all faces together
   areas-say : (fs : List Face) → Says (areas c fs) (total (along product) fs) (total (along (against product)) fs)
   unfolding areas total
   areas-say [] = says-zero 0
@@ -72,6 +74,7 @@ module _ (c : Chart) (t : Point) where
   spread : ℕ → Position
   spread u = scaled (t .d) (place c u)
 
+  -- the definitions' tests are those of geometry
   side-says : (e : Dart) → Says (side c t e) (areaPlus (spread (e .0)) (spread (e .1)) here) (areaMinus (spread (e .0)) (spread (e .1)) here)
   unfolding side spread here place
   side-says e = says-area (spread (e .0)) (spread (e .1)) here
@@ -99,6 +102,7 @@ module _ (c : Chart) (t : Point) where
       (yes-and (leb (min (a .x) (b .x)) (t .p)) (leb (t .p) (max (a .x) (b .x))) (le-leb (min (a .x) (b .x)) (t .p) (o .x-from)) (le-leb (t .p) (max (a .x) (b .x)) (o .x-to))))
       (yes-and (leb (min (a .y) (b .y)) (t .q)) (leb (t .q) (max (a .y) (b .y))) (le-leb (min (a .y) (b .y)) (t .q) (o .y-from)) (le-leb (t .q) (max (a .y) (b .y)) (o .y-to)))
 
+  -- a point on no line is on no segment between neighbours
   clear-of : (p : Plan) → onSomeLine c p t ≡ false → (u v : ℕ) → adjacent p u v ≡ true → ¬ OnSegment (spread u) (spread v) here
   unfolding onSomeLine
   clear-of p off u v a o = both (onLine c t (u, v)) (line-tested (u, v) o) (none-of (onLine c t) (darts p) off (u, v) (darts-mem p u v a))
@@ -125,6 +129,7 @@ module _ (p : Plan) (s : Sound p) (ls : List ℕ) (tr : Transversal p ls) (slope
   unfolding total product
   border-area = rw (k .north-x, k .north-y, k .east-x, k .east-y, k .south-x, k .south-y, k .west-x, k .west-y) (omega arith)
 
+  -- over all inner faces everything but the border cancels
   all-areas : total (along (product c)) (faces p) ≡ total (along (against (product c))) (faces p) + 2 * c .w * c .h
   all-areas = omega (arith, cancels (darts p) (faces p) border-walk (closed-map p s) (product c), border-area)
 
@@ -133,6 +138,7 @@ module _ (p : Plan) (s : Sound p) (ls : List ℕ) (tr : Transversal p ls) (slope
     crosses : ℕ → ℕ → ℕ
     crosses u v = crossing (here c t) (spread c t u) (spread c t v)
 
+    -- 1 if the point is strictly inside the face
     holds : Face → ℕ
     holds f = cond (inFace c t f) 1 0
 
@@ -164,6 +170,7 @@ module _ (p : Plan) (s : Sound p) (ls : List ℕ) (tr : Transversal p ls) (slope
     unfolding total crosses
     border-crossings = box-crossings (here c t) (spread c t 2) (spread c t 1) (spread c t 0) (spread c t 3) in-box
 
+    -- the rectangle is crossed once more upwards than downwards, each face only if it holds the point: so one does
     one-holds : total holds (faces p) ≡ 1
     one-holds = omega (
       arith,
@@ -172,9 +179,10 @@ module _ (p : Plan) (s : Sound p) (ls : List ℕ) (tr : Transversal p ls) (slope
       border-crossings,
     )
 
-  pub draws : Draws p c
+  -- EVERY PLACEMENT DRAWS ITS PLAN, for every slope
+  pub placement-draws : Draws p c
   unfolding holds
-  draws = record {
+  placement-draws = record {
     each-positive = λ f m. face-positive f (inner-faces p s .each-inner f m);
     areas-sum = says-pos (2 * c .w * c .h) (areas-say c (faces p)) all-areas;
     one-face = λ t some within off. tally-total (inFace c t) (faces p) ∙ one-holds t some within off;

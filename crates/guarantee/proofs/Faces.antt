@@ -52,6 +52,7 @@ walked-by-dart : (p : Plan) → walked p ≡ concat (map (dartsAt p) (darts p))
 unfolding dartsAt
 walked-by-dart p = ap (λ (fs : List Face). concat (map cycle fs)) (faces-by-dart p) ∙ join-join cycle (faceAt p) (darts p)
 
+-- what is listed, and from where
 face-at-mem : (p : Plan) (e : Dart) (f : Face) → List·Memᴰ f (faceAt p e) → (starts p e ≡ true) × (f ≡ walk p e)
 unfolding faceAt
 face-at-mem p e f m = go (starts p e) refl m
@@ -77,9 +78,11 @@ once-darts-at p e o = go (starts p e) refl
     go false q = tt
 
 module _ (p : Plan) (s : Sound p) where
+  -- the face step
   abbrev S : Dart → Dart
   S d = step p d
 
+  -- a walk is listed from its dart that leaves the lowest of its contexts
   record Starts (e : Dart) : Type 0 where
     inner : Inner p s e
     lower₁ : e .0 < e .1
@@ -103,6 +106,7 @@ module _ (p : Plan) (s : Sound p) where
   unfolding walk step
   walk-darts e i = λ j. e ∷ S e ∷ sym (third-dart p s e i) j ∷ []
 
+  -- d is one of the three darts that the face step leads to from e
   abbrev Orbit : Dart → Dart → Type 0
   Orbit e d = (d ≡ e) ⊎ ((d ≡ S e) ⊎ (d ≡ S (S e)))
 
@@ -144,6 +148,7 @@ module _ (p : Plan) (s : Sound p) where
         third-first = s .other (S d .1) (d .0) (subst (λ (c : Dart). adjacent p (c .0) (c .1) ≡ true) (third-dart p s d i) (k .is-dart));
       }
 
+  -- so do its darts
   once-walk : (e : Dart) → Inner p s e → Once (cycle (walk p e))
   unfolding walk step
   once-walk e i = let n = differ e i in (first n, (second n, ((λ m. List·Memᴰ·not-nil m), tt)))
@@ -166,6 +171,7 @@ module _ (p : Plan) (s : Sound p) where
       let y = k .lower₁ in
       omega arith
 
+  -- two walks that are listed and share a dart are one
   same-start : (e g d : Dart) → Starts e → Starts g → Orbit e d → Orbit g d → e ≡ g
   same-start e g d h k = go
     where
@@ -187,6 +193,7 @@ module _ (p : Plan) (s : Sound p) where
       go (inr (inr a)) (inr (inr b)) = sym three-e ∙ ap S (sym a ∙ b) ∙ three-g
 
   -- ---- all walks
+  -- no dart is walked twice
   once-walked : Once (walked p)
   once-walked = subst Once (sym (walked-by-dart p)) (once-join (dartsAt p) (darts p) (once-darts p s)
       (λ e m. once-darts-at p e (λ t. once-walk e (starts-says e m t .inner)))
@@ -198,6 +205,7 @@ module _ (p : Plan) (s : Sound p) where
           let k = starts-says g n u in
           same-start e g d h k (walk-orbit e d (h .inner) i) (walk-orbit g d (k .inner) j)
 
+  -- the darts that are walked are inner
   walked-inner : (d : Dart) → List·Memᴰ d (walked p) → Inner p s d
   walked-inner d m =
       let (e, i, j) = mem-join (dartsAt p) (darts p) d (subst (List·Memᴰ d) (walked-by-dart p) m) in
@@ -205,6 +213,7 @@ module _ (p : Plan) (s : Sound p) where
       let h = starts-says e i t in
       orbit-inner e d (h .inner) (walk-orbit e d (h .inner) k)
 
+  -- and all inner darts are walked
   listed : (e d : Dart) → Inner p s e → e .0 < e .1 → e .0 < S e .1 → Orbit e d → List·Memᴰ d (walked p)
   listed e d i a b o = subst (List·Memᴰ d) (sym (walked-by-dart p)) (join-mem (dartsAt p) (darts p) e d (darts-mem p (e .0) (e .1) (i .is-dart)) (mem-darts-at p e d (says-starts e i a b) (orbit-walk e d i o)))
 
@@ -283,6 +292,7 @@ module _ (p : Plan) (s : Sound p) where
       lowest u (List·Memᴰ·tail (List·Memᴰ·head q)) = let a = h .lower₁ in omega arith
       lowest u (List·Memᴰ·tail (List·Memᴰ·tail (List·Memᴰ·head q))) = let a = h .lower₂ in omega arith
 
+  -- THE INNER FACES: the definitions' list has each of them exactly once
   pub inner-faces : InnerFaces p (faces p)
   unfolding passes
   inner-faces = record {

@@ -15,7 +15,7 @@ use Rattle.model.proofs.Placements.{placed, chart-is}
 use Rattle.guarantee.specs.Verdicts.{draws, present}
 use Rattle.guarantee.specs.Guarantee.{Owed, Guarantee}
 use Rattle.guarantee.proofs.Faces.{inner-faces}
-use Rattle.guarantee.proofs.Drawing.{draws as drawing}
+use Rattle.guarantee.proofs.Drawing.{placement-draws}
 use Rattle.guarantee.proofs.Kept.{Kept, ledger-follows, same-answers, run-kept, stands-after}
 
 -- what is owed of a chart that was drawn for a plan and labels that keep the rules
@@ -24,7 +24,7 @@ unfolding chart
 owed p ls c rules labels e =
     let s = sound p rules in
     let least = chart-is slope p ls c e in
-    let d = drawing p s ls (labels-exactly p ls .0 labels) slope c (placed slope p ls c (least .keeps)) in
+    let d = placement-draws p s ls (labels-exactly p ls .0 labels) slope c (placed slope p ls c (least .keeps)) in
     record { least = least; each-positive = d .each-positive; areas-sum = d .areas-sum; one-face = d .one-face; inner-faces = inner-faces p s }
 
 -- the chart of a sheet that keeps the rules

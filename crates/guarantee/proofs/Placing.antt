@@ -124,7 +124,7 @@ module _ (p : Plan) (s : Sound p) (ls : List ℕ) (t : Transversal p ls) (slope 
         subst (λ (e : Dart). angle (heading p ls (d .0) (d .1)) (heading p ls (e .0) (e .1)) ≤ 1) (i .walked q m) (corner-angle p s ls t (d .0) (d .1) (i .darts-of d on) (i .not-outer d on));
   }
 
-  -- of three darts
+  -- an inner face of three darts has positive area
   pub face-left : (u v w : ℕ) → InnerFace p (u ∷ v ∷ w ∷ []) → Left (place c u) (place c v) (place c w)
   face-left u v w i = triangle-positive (λ (d : Dart). heading p ls (d .0) (d .1)) (place c) u v w (face-turning (u ∷ v ∷ w ∷ []) i)
 
