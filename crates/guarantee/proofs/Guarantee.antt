@@ -16,7 +16,8 @@ use Rattle.guarantee.specs.Verdicts.{draws, present}
 use Rattle.guarantee.specs.Guarantee.{Owed, Guarantee}
 use Rattle.guarantee.proofs.Faces.{inner-faces}
 use Rattle.guarantee.proofs.Drawing.{placement-draws}
-use Rattle.guarantee.proofs.Kept.{Kept, ledger-follows, same-answers, run-kept, stands-after}
+use Rattle.guarantee.proofs.Agreement.{ledger-follows, same-answers}
+use Rattle.guarantee.proofs.Kept.{Kept, run-kept, stands-after}
 
 -- what is owed of a chart that was drawn for a plan and labels that keep the rules
 owed : (p : Plan) (ls : List ℕ) (c : Chart) → planRules p ≡ passed → labelRules p ls ≡ passed → chart p ls ≡ accepted c → Owed p ls c

@@ -1,6 +1,6 @@
--- After every list of calls the sheet's plan and labels are the ledger's, they keep their rules, and a chart that stands is their chart.
+-- After every list of calls plan and labels keep their rules, and a chart that stands is their chart; it stands exactly if the last accepted call draws one.
 use Prim.Native.Nat.{ℕ, _%_}
-use mathlib.Core.Path.{_≡_, refl, sym, ap, ap₂, _∙_, subst}
+use mathlib.Core.Path.{_≡_, refl, sym, ap, _∙_, subst}
 use mathlib.Core.List.{List, [], _∷_}
 use mathlib.Core.Bool.{true, false, _&&_}
 use mathlib.Core.Option.{Option, some}
@@ -19,92 +19,14 @@ use Rattle.model.specs.Sweep.{sweep, sweepFrom, firstState}
 use Rattle.model.specs.Turn.{turn, turnEdges, quarters, badPair}
 use Rattle.model.specs.File.{Sheet, fresh, opened, labelled, charted}
 use Rattle.model.specs.Calls.{planOf, labelsOf, judge, offered, offerCall, sweepCall, turnCall, chartCall}
-use Rattle.model.specs.CallLists.{Call, open-file, offer-labels, sweep-labels, turn-edges, draw-chart, call, run, Ledger, both, ledgerPlan, ledgerLabels, planAndLabels, enter, ledger, standing}
+use Rattle.model.specs.CallLists.{Call, open-file, offer-labels, sweep-labels, turn-edges, draw-chart, call, run, Ledger, planAndLabels, enter, standing}
 use Rattle.model.proofs.Outcomes.{same-value, not-both, bind-accepted, then-accepted, require-passed}
 use Rattle.model.proofs.RingPart.{open-accepted}
-use Rattle.guarantee.specs.Verdicts.{verdict, answers, judgements, newer, lastAccepted, draws, present}
+use Rattle.guarantee.specs.Verdicts.{newer, lastAccepted, draws, present}
 use Rattle.guarantee.proofs.Records.{opened-holds}
+use Rattle.guarantee.proofs.Agreement.{entered, agrees}
 
--- ---- the ledger follows the sheet
-abbrev entered : Outcome Sheet → Outcome Ledger
-entered o = o >>= λ t. accepted (planAndLabels t)
-
-plan-same : (s : Sheet) → ledgerPlan (planAndLabels s) ≡ planOf s
-unfolding ledgerPlan planAndLabels planOf
-plan-same fresh = refl
-plan-same (opened p) = refl
-plan-same (labelled p ls) = refl
-plan-same (charted p ls c) = refl
-
-labels-same : (s : Sheet) → ledgerLabels (planAndLabels s) ≡ labelsOf s
-unfolding ledgerLabels planAndLabels labelsOf
-labels-same fresh = refl
-labels-same (opened p) = refl
-labels-same (labelled p ls) = refl
-labels-same (charted p ls c) = refl
-
--- a call that leaves new labels
-relabelled : {A : Type 0} (o : Outcome A) (plan : A → Plan) (f : A → Outcome (List ℕ))
-    → (o >>= λ a. f a >>= λ ms. accepted (both (plan a) ms)) ≡ entered (o >>= λ a. f a >>= λ ms. accepted (labelled (plan a) ms))
-unfolding planAndLabels
-relabelled (accepted a) plan f = go (f a)
-  where
-    go : (r : Outcome (List ℕ)) → (r >>= λ ms. accepted (both (plan a) ms)) ≡ entered (r >>= λ ms. accepted (labelled (plan a) ms))
-    go (accepted ms) = refl
-    go (refused k at) = refl
-relabelled (refused k at) plan f = refl
-
-charts : (p : Plan) (ls : List ℕ) (o : Outcome Chart) → (o >> accepted (both p ls)) ≡ entered (o >>= λ c. accepted (charted p ls c))
-unfolding planAndLabels
-charts p ls (accepted c) = refl
-charts p ls (refused k at) = refl
-
-recharted : (s : Sheet) → enter (planAndLabels s) draw-chart ≡ entered (call s draw-chart)
-unfolding enter call chartCall ledgerLabels labelsOf planAndLabels
-recharted fresh = refl
-recharted (opened p) = refl
-recharted (labelled p ls) = charts p ls (chart p ls)
-recharted (charted p ls c) = charts p ls (chart p ls)
-
--- A call is accepted on the sheet exactly when it is by the ledger, with the same refusal, and leaves what the ledger enters
-agrees : (s : Sheet) (c : Call) → enter (planAndLabels s) c ≡ entered (call s c)
-unfolding enter call offerCall sweepCall turnCall
-agrees s (open-file b) = refl
-agrees s (offer-labels ls) = ap (λ (o : Outcome Plan). o >>= λ p. offered p ls >>= λ ms. accepted (both p ms)) (plan-same s) ∙ relabelled (planOf s) (λ p. p) (λ p. offered p ls)
-agrees s sweep-labels = ap (λ (o : Outcome Plan). o >>= λ p. sweep p >>= λ ms. accepted (both p ms)) (plan-same s) ∙ relabelled (planOf s) (λ p. p) sweep
-agrees s (turn-edges items d) =
-    ap (λ (o : Outcome (Plan × List ℕ)). o >>= λ a. turn (a .0) (a .1) items d >>= λ ms. accepted (both (a .0) ms)) (labels-same s)
-    ∙ relabelled (labelsOf s) (λ a. a .0) (λ a. turn (a .0) (a .1) items d)
-agrees s draw-chart = recharted s
-
-taken-same : (s : Sheet) (o : Outcome Sheet) → planAndLabels (taken s o) ≡ taken (planAndLabels s) (entered o)
-unfolding taken
-taken-same s (accepted t) = refl
-taken-same s (refused k at) = refl
-
--- one call
-pub follows : (s : Sheet) (c : Call) → planAndLabels (taken s (call s c)) ≡ taken (planAndLabels s) (enter (planAndLabels s) c)
-follows s c = taken-same s (call s c) ∙ ap (taken (planAndLabels s)) (sym (agrees s c))
-
--- a list of calls
-pub ledger-follows : (cs : List Call) (s : Sheet) → planAndLabels (run s cs) ≡ ledger (planAndLabels s) cs
-unfolding run ledger
-ledger-follows [] s = refl
-ledger-follows (c ∷ cs) s = ledger-follows cs (taken s (call s c)) ∙ ap (λ (g : Ledger). ledger g cs) (follows s c)
-
-same-verdict : (o : Outcome Sheet) → verdict o ≡ verdict (entered o)
-same-verdict (accepted t) = refl
-same-verdict (refused k at) = refl
-
-pub same-answers : (cs : List Call) (s : Sheet) → answers s cs ≡ judgements (planAndLabels s) cs
-unfolding answers judgements
-same-answers [] s = refl
-same-answers (c ∷ cs) s =
-    ap₂ (λ (a : Outcome (Unit {0})) (l : List (Outcome (Unit {0}))). a ∷ l)
-    (same-verdict (call s c) ∙ ap (λ (o : Outcome Ledger). verdict o) (sym (agrees s c)))
-    (same-answers cs (taken s (call s c)) ∙ ap (λ (g : Ledger). judgements g cs) (follows s c))
-
--- ---- what a sheet holds keeps its rules
+-- What a sheet holds keeps its rules
 abbrev pub Kept : Sheet → Type 0
 Kept fresh = Unit {0}
 Kept (opened p) = planRules p ≡ passed
@@ -198,7 +120,7 @@ leaves s t sweep-labels h e = after-labels sweep-labels (planOf s) (λ p. p) swe
 leaves s t (turn-edges items d) h e = after-labels (turn-edges items d) (labelsOf s) (λ a. a .0) (λ a. turn (a .0) (a .1) items d) t refl (λ a q. labels-kept s h a q .0) (λ a. turned-kept (a .0) (a .1) items d) e
 leaves s t draw-chart h e = after-chart s t h e
 
--- a list of calls
+-- After a list of calls the rules are kept
 pub run-kept : (cs : List Call) (s : Sheet) → Kept s → Kept (run s cs)
 unfolding run taken
 run-kept [] s h = h
@@ -208,6 +130,7 @@ run-kept (c ∷ cs) s h = run-kept cs (taken s (call s c)) (go (call s c) refl)
     go (accepted t) e = leaves s t c h e .kept
     go (refused k at) e = h
 
+-- and a chart stands exactly if the last accepted call draws one
 pub stands-after : (cs : List Call) (s : Sheet) (last : Option Call) → Kept s → present (standing s) ≡ draws last → present (standing (run s cs)) ≡ draws (lastAccepted last (planAndLabels s) cs)
 unfolding run lastAccepted taken newer
 stands-after [] s last h q = q

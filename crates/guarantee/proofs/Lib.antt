@@ -6,6 +6,7 @@ pub mod Headings
 pub mod Placing
 pub mod Drawing
 pub mod Records
+pub mod Agreement
 pub mod Kept
 pub mod Guarantee
 pub mod Example
