@@ -1,4 +1,4 @@
--- DEMAND 3: what holds after every list of open, offer, sweep, turn and chart calls on a fresh sheet, refused calls included.
+-- Demand 3: what holds after every list of open, offer, sweep, turn and chart calls on a fresh sheet, refused calls included.
 use Prim.Native.Nat.{ℕ, _*_, _<_}
 use mathlib.Core.Path.{_≡_}
 use mathlib.Core.List.{List, List·Memᴰ}
@@ -27,12 +27,13 @@ pub record Owed (p : Plan) (ls : List ℕ) (c : Chart) : Type 0 where
   -- These three-dart walks are the inner faces, walked counterclockwise: `faces p` has each of them exactly once.
   pub inner-faces : InnerFaces p (faces p)
 
+-- Demand 3 for a list of calls
 pub record Guarantee (calls : List Call) : Type 0 where
-  -- The engine accepts exactly these calls: those to which no numbered refusal applies, judged by their arguments and the ledger alone; the others it refuses by that number and place.
+  -- A call is accepted when no numbered refusal applies to it, judged by its arguments and the ledger alone. The engine accepts exactly these calls, and refuses the others by the same number and place.
   pub same-verdicts : answers fresh calls ≡ judgements neither calls
   -- The sheet's plan and labels, if any, are the ledger's.
   pub same-ledger : planAndLabels (run fresh calls) ≡ ledger neither calls
   -- A chart stands exactly when the last accepted call was chart, or an open of a file that holds a chart.
   pub stands-exactly : present (standing (run fresh calls)) ≡ draws (lastAccepted none neither calls)
-  -- Such a chart is owed all of the above, for the ledger's plan and labels.
+  -- A chart that stands is owed all of the above, for the ledger's plan and labels.
   pub such-chart : (c : Chart) → standing (run fresh calls) ≡ some c → (p : Plan) × (ls : List ℕ) × (ledger neither calls ≡ both p ls) × Owed p ls c
