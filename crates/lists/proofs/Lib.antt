@@ -9,3 +9,8 @@ pub mod Parts
 pub mod Spans
 pub mod Loops
 pub mod Words
+pub mod Once
+pub mod Sums
+pub mod Places
+pub mod Concats
+pub mod Cycles

@@ -1,0 +1,5 @@
+pub mod Products
+pub mod Signed
+pub mod Walks
+pub mod Corners
+pub mod Crossings

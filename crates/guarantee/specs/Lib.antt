@@ -1,0 +1,3 @@
+pub mod Verdicts
+pub mod InnerFaces
+pub mod Guarantee
