@@ -9,3 +9,4 @@ pub mod Parts
 pub mod Spans
 pub mod Loops
 pub mod Words
+pub mod Stretches
