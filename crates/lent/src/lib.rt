@@ -94,8 +94,8 @@ fn rule4_at<'a>(file: &'a [u8], starts: &'a [u16], sizes: &'a [u8], n: usize, u:
     false
 }
 
-// 5: does u's ring repeat an entry?
-fn rule5_at<'a>(file: &'a [u8], starts: &'a [u16], sizes: &'a [u8], n: usize, u: usize) -> bool
+// Does u's ring repeat an entry? Each entry is looked for among those after it.
+fn repeats_at<'a>(file: &'a [u8], starts: &'a [u16], sizes: &'a [u8], n: usize, u: usize) -> bool
     ensures { λ r. ⌜ r ≡ badRepeat (lent (now (starts .entry)) (now (sizes .entry)) (now (file .entry)) n) u ⌝ }
 {
     let e = rings::size_of(sizes, n, u);
@@ -105,6 +105,27 @@ fn rule5_at<'a>(file: &'a [u8], starts: &'a [u16], sizes: &'a [u8], n: usize, u:
         if is_from(file, starts, sizes, n, u, v, i + 1) {
             return true;
         }
+        i += 1;
+    }
+    false
+}
+
+// 5: does u's ring repeat an entry? Each neighbour below 256 is marked; a ring that names another is searched.
+fn rule5_at<'a>(file: &'a [u8], starts: &'a [u16], sizes: &'a [u8], n: usize, u: usize) -> bool
+    ensures { λ r. ⌜ r ≡ badRepeat (lent (now (starts .entry)) (now (sizes .entry)) (now (file .entry)) n) u ⌝ }
+{
+    let e = rings::size_of(sizes, n, u);
+    let mut marks = [0u8; 256];
+    let mut i = 0;
+    while i < e {
+        let v = neighbour_in(file, starts, sizes, n, u, i);
+        if 256 <= v {
+            return repeats_at(file, starts, sizes, n, u);
+        }
+        if marks[v] == 1 {
+            return true;
+        }
+        marks[v] = 1;
         i += 1;
     }
     false

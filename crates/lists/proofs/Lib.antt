@@ -10,3 +10,4 @@ pub mod Spans
 pub mod Loops
 pub mod Words
 pub mod Stretches
+pub mod Marks
