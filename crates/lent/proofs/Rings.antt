@@ -1,7 +1,7 @@
 -- The ring of a context as it stands in a lent file, look-ups in it, and how many entries all rings have.
 use Prim.Native.Nat.{ℕ, zero, suc, _+_, _*_, _/_, _≤_, _<_}
 use mathlib.Core.Path.{_≡_, refl, sym, ap, _∙_}
-use mathlib.Core.List.{List, [], _∷_, map}
+use mathlib.Core.List.{List, map}
 use mathlib.Core.Bool.{Bool, true, false, not, _||_, or-true}
 use native.Mathlib.Omega.{arith}
 use lib.ListN.{length, getD}
@@ -12,7 +12,7 @@ use Rattle.lists.specs.Spans.{span}
 use Rattle.lists.proofs.Bools.{no-or}
 use Rattle.lists.proofs.Spans.{past-word}
 use Rattle.lists.proofs.Stretches.{span-whole}
-use Rattle.model.specs.Plan.{Plan, count, neighbour, entries, ring, adjacent, badEntry, badRepeat, unreturned}
+use Rattle.model.specs.Plan.{count, neighbour, entries, ring, adjacent, badEntry, badRepeat, unreturned}
 use Rattle.rings.specs.Tables.{sizeOf}
 use Rattle.rings.specs.Lent.{wordsAt, bodyAt, lent}
 use Rattle.rings.proofs.Made.{Reads, entries-made, ring-made, count-made, size-made, past-made, at-made}
@@ -32,7 +32,7 @@ getD-words-at file at zero i h = absurd (omega arith)
 getD-words-at file at (suc k) zero h = ap (wordOf file) (omega arith)
 getD-words-at file at (suc k) (suc i) h = getD-words-at file (at + 2) k i (omega arith) ∙ ap (wordOf file) (omega arith)
 
--- a ring whose head alone lies past the file's end reads as 0
+-- where the heads of the rings before u's alone reach past the file's end, 0 is read
 pub word-past : (file starts : List ℕ) (u i : ℕ) → length file / 4 < u → 0 ≡ wordOf file (bodyAt starts u + 2 * i)
 unfolding bodyAt
 word-past file starts u i h = past-word file (bodyAt starts u + 2 * i) (omega arith)

@@ -38,7 +38,7 @@ pub fn neighbour_in<'a>(
     }
 }
 
-// Is v in u's ring, at i or later?
+// Is v in u's ring, at a or later?
 fn is_from<'a>(
     file: &'a [u8],
     starts: &'a [u16],

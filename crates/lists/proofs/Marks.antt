@@ -1,6 +1,6 @@
 -- A mark for each number that was passed: whether a list repeats an entry, found in one pass.
 use Prim.Native.Nat.{ℕ, zero, suc, _+_, _≤_, _<_}
-use mathlib.Core.Path.{_≡_, refl, sym, ap, _∙_, subst}
+use mathlib.Core.Path.{_≡_, refl, sym, ap, _∙_}
 use mathlib.Core.List.{List, [], _∷_}
 use mathlib.Core.Bool.{Bool, true, false, _||_, or-true, or-false, or-assoc}
 use native.Mathlib.Omega.{arith}
@@ -13,7 +13,7 @@ use Rattle.lists.specs.Spans.{span}
 use Rattle.lists.proofs.Tests.{of-none}
 use Rattle.lists.proofs.Spans.{span-more, span-end}
 
--- a test that says what another says, or one of two others
+-- tests that say the same
 any-same : (f g : ℕ → Bool) → ((a : ℕ) → f a ≡ g a) → (l : List ℕ) → any f l ≡ any g l
 any-same f g h [] = refl
 any-same f g h (a ∷ l) = λ i. h a i || any-same f g h l i
@@ -37,7 +37,7 @@ eqb-turned a b = go (eqb b a) refl
     go true q = eq-eqb a b (sym (eqb-true b a q))
     go false q = ne-eqb a b (λ e. eqb-false b a q (sym e))
 
--- v has a mark
+-- v is marked
 abbrev marked : List ℕ → ℕ → Bool
 marked b v = eqb (getD b v 0) 1
 
@@ -46,7 +46,7 @@ unmarked zero v = refl
 unmarked (suc k) zero = refl
 unmarked (suc k) (suc v) = unmarked k v
 
--- after v is marked, those have a mark that had one before, and v
+-- after v is marked, those are marked that were before, and v
 marked-set : (b : List ℕ) (v : ℕ) → v < length b → (w : ℕ) → marked (set b v 1) w ≡ (marked b w || eqb w v)
 marked-set b v h w = go (eqb w v) refl
   where

@@ -1,10 +1,9 @@
--- Stretches of lists joined: the whole, the part behind a front, one list of several joined; and the repeats of a stretch.
+-- Stretches of lists joined: the front, what stands behind it, each of several lists; and two maps over a range that agree on its numbers.
 use Prim.Native.Nat.{ℕ, zero, suc, _+_, _-_, _≤_, _<_}
 use mathlib.Core.Path.{_≡_, refl, sym, ap, _∙_}
 use mathlib.Core.List.{List, [], _∷_, _++_, map, append-assoc, append-nil}
 use native.Mathlib.Omega.{arith}
 use lib.ListN.{length, getD, take, length-append}
-use lib.Seq.{getD-append-add}
 use Rattle.lists.specs.Ranges.{from}
 use Rattle.lists.specs.Parts.{concat}
 use Rattle.lists.specs.Spans.{stretch, span}
@@ -29,7 +28,7 @@ stretch-front (a ∷ l) m = ap (λ (r : List ℕ). a ∷ r) (stretch-tail a (l +
 pub span-whole : (l : List ℕ) (e : ℕ) → e ≡ length l → span l 0 e ≡ l
 span-whole l e q = let k : e - 0 ≡ length l = omega arith in ap (stretch l 0) k ∙ ap (λ (m : List ℕ). stretch m 0 (length l)) (sym (append-nil l)) ∙ stretch-front l []
 
--- how many entries the lists before one have
+-- how many entries the lists before one have, and that one
 pub length-joined-more : {A : Type 0} (ls : List (List A)) (u : ℕ) → length (concat (take (suc u) ls)) ≡ length (concat (take u ls)) + length (getD ls u [])
 length-joined-more [] zero = refl
 length-joined-more [] (suc u) = refl

@@ -3,7 +3,7 @@ use Prim.Native.Nat.{_+_}
 use lib.ListN.{getD}
 use Rattle.lists.specs.Tests.{member}
 use Rattle.lists.proofs.Spans.{span-more, span-end}
-use mathlib.Core.Path.{_≡_, refl, sym, ap, _∙_}
+use mathlib.Core.Path.{_≡_, refl, sym, _∙_}
 use Prim.Native.Nat.{_-_}
 use Rattle.lists.specs.Tests.{repeats}
 use Rattle.lists.specs.Spans.{span}

@@ -37,7 +37,7 @@ returns : tie.Need-returns Inv-loop μ-loop
 returns c = c .repeats-at .ensures
 
 array-read-if2 : tie.Need-array-read-if2 Inv-loop μ-loop
-array-read-if2 c = search needs
+array-read-if2 c = omega arith
 
 returns-2 : tie.Need-returns-2 Inv-loop μ-loop
 returns-2 c =
@@ -45,13 +45,13 @@ returns-2 c =
     marks-hit (c .before .before .before .before .loop .inv) (omega arith) (c .before .before .neighbour-in .ensures) (c .if2 .taken) ∙ whole-repeat (a .starts .now) (a .sizes .now) (a .file .now) (a .n) (a .u) _ (c .before .before .before .before .before .size-of .ensures .0)
 
 array-write-marks : tie.Need-array-write-marks Inv-loop μ-loop
-array-write-marks c = search needs
+array-write-marks c = omega arith
 
 add-i : tie.Need-add-i Inv-loop μ-loop
-add-i c = search needs
+add-i c = omega arith
 
 loop-less : tie.Need-loop-less Inv-loop μ-loop
-loop-less c = search needs
+loop-less c = omega arith
 
 loop-again : tie.Need-loop-again Inv-loop μ-loop
 loop-again c = marks-on (c .before .before .before .before .loop .inv) refl (omega arith) (c .before .before .neighbour-in .ensures) (omega arith) (c .if2 .left) refl
