@@ -12,7 +12,7 @@ use Rattle.lists.specs.Spans.{span}
 use Rattle.lists.proofs.Bools.{no-or}
 use Rattle.lists.proofs.Spans.{past-word}
 use Rattle.lists.proofs.Stretches.{span-whole}
-use Rattle.model.specs.Plan.{count, neighbour, entries, ring, adjacent, badEntry, badRepeat, unreturned}
+use Rattle.model.specs.Plan.{Plan, count, neighbour, entries, ring, adjacent, badEntry, badRepeat, unreturned}
 use Rattle.rings.specs.Tables.{sizeOf}
 use Rattle.rings.specs.Lent.{wordsAt, bodyAt, lent}
 use Rattle.rings.proofs.Made.{Reads, entries-made, ring-made, count-made, size-made, past-made, at-made}
@@ -49,6 +49,10 @@ bad-self n u {v} {w} q h = rw (eq-eqb w u (sym q ∙ h)) (or-true (leb n w))
 
 pub bad-none : (n u : ℕ) {v w : ℕ} → v ≡ w → v < n → (v ≡ u → ⊥) → badIn n u w ≡ false
 bad-none n u {v} {w} q h k = no-or (leb n w) (eqb w u) (lt-leb n w (omega arith)) (ne-eqb w u (λ e. k (q ∙ e)))
+
+-- 6: t says whether v lists u, of the entry w that is v
+pub return-same : (p : Plan) (u : ℕ) {v w : ℕ} {t : Bool} → v ≡ w → t ≡ adjacent p v u → not (adjacent p w u) ≡ not t
+return-same p u q e = sym (ap not (e ∙ ap (λ (a : ℕ). adjacent p a u) q))
 
 -- the words from each body on
 pub lent-reads : (starts file : List ℕ) → Reads (λ (u k : ℕ). wordsAt file (bodyAt starts u) k) (λ (u i : ℕ). wordOf file (bodyAt starts u + 2 * i))

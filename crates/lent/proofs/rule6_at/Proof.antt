@@ -1,11 +1,11 @@
 -- rule6_at meets its contract.
-use mathlib.Core.Path.{refl, ap, sym, _∙_}
+use mathlib.Core.Path.{refl, _∙_}
 use mathlib.Core.Bool.{not}
 use Prim.Native.Nat.{ℕ, _-_}
 use Rattle.lists.proofs.Loops.{Sees, sees-start, sees-hit, sees-on, sees-end}
 use Rattle.model.specs.Plan.{ring, adjacent}
 use Rattle.rings.specs.Lent.{lent}
-use Rattle.lent.proofs.Rings.{whole-return}
+use Rattle.lent.proofs.Rings.{return-same, whole-return}
 use native.Mathlib.Omega.{arith}
 use borrow.Author.Needs.{needs}
 use Rattle.lent.proofs.rule6_at.Statement.{statement}
@@ -37,8 +37,7 @@ is-listed-requires c κs = search needs
 returns : tie.Need-returns Inv-loop μ-loop
 returns c =
     let a = c .before .before .before .before .before .before .before .before .before .args in
-    let same = ap (λ (v : ℕ). not (adjacent (lent (a .starts .now) (a .sizes .now) (a .file .now) (a .n)) v (a .u))) (sym (c .before .before .neighbour-in .ensures)) ∙ ap not (sym (c .before .is-listed .ensures)) in
-    sees-hit (c .before .before .before .before .loop .inv) (omega arith) (same ∙ c .if1 .taken) ∙ whole-return (a .starts .now) (a .sizes .now) (a .file .now) (a .n) (a .u) _ (c .before .before .before .before .before .size-of .ensures .0)
+    sees-hit (c .before .before .before .before .loop .inv) (omega arith) (return-same (lent (a .starts .now) (a .sizes .now) (a .file .now) (a .n)) (a .u) (c .before .before .neighbour-in .ensures) (c .before .is-listed .ensures) ∙ c .if1 .taken) ∙ whole-return (a .starts .now) (a .sizes .now) (a .file .now) (a .n) (a .u) _ (c .before .before .before .before .before .size-of .ensures .0)
 
 add-i : tie.Need-add-i Inv-loop μ-loop
 add-i c = search needs
@@ -49,8 +48,7 @@ loop-less c = search needs
 loop-again : tie.Need-loop-again Inv-loop μ-loop
 loop-again c =
     let a = c .before .before .before .before .before .before .before .before .before .args in
-    let same = ap (λ (v : ℕ). not (adjacent (lent (a .starts .now) (a .sizes .now) (a .file .now) (a .n)) v (a .u))) (sym (c .before .before .neighbour-in .ensures)) ∙ ap not (sym (c .before .is-listed .ensures)) in
-    sees-on (c .before .before .before .before .loop .inv) refl (omega arith) (same ∙ c .if1 .left)
+    sees-on (c .before .before .before .before .loop .inv) refl (omega arith) (return-same (lent (a .starts .now) (a .sizes .now) (a .file .now) (a .n)) (a .u) (c .before .before .neighbour-in .ensures) (c .before .is-listed .ensures) ∙ c .if1 .left)
 
 returns-2 : tie.Need-returns-2 Inv-loop μ-loop
 returns-2 c = let a = c .before .before .before .before .before .before .args in sees-end (c .before .loop .inv) (omega arith) ∙ whole-return (a .starts .now) (a .sizes .now) (a .file .now) (a .n) (a .u) _ (c .before .before .size-of .ensures .0)
