@@ -14,3 +14,5 @@ pub mod Sums
 pub mod Places
 pub mod Concats
 pub mod Cycles
+pub mod Stretches
+pub mod Marks

@@ -4,18 +4,17 @@ use mathlib.Core.Path.{_≡_, refl, sym, ap, _∙_, subst}
 use mathlib.Core.List.{List, [], _∷_, _++_, map}
 use mathlib.Core.Bool.{Bool, true, false, cond, _||_}
 use native.Mathlib.Omega.{arith}
-use lib.ListN.{length, getD, take, drop, length-map, List·getD-eq-default, List·getD-map, drop-of-length-le}
+use lib.ListN.{length, getD, take, drop, drop-of-length-le}
 use lib.Seq.{getD-take, drop-cons}
 use lib.Dec.{eqb, ltb}
 use borrow.Author.Tests.{ltb-true, ltb-false, lt-ltb, le-ltb}
 use Rattle.lists.specs.Tests.{any, member}
-use Rattle.lists.specs.Ranges.{from}
 use Rattle.lists.specs.Parts.{indexOf}
 use Rattle.lists.specs.Spans.{stretch, span}
-use Rattle.lists.proofs.Ranges.{length-map-from, getD-map-from}
 use Rattle.lists.proofs.Spans.{length-stretch, getD-stretch}
 use Rattle.model.specs.Plan.{Plan, count, neighbour, entries, ring, adjacent, onward, next}
 use Rattle.rings.specs.Tables.{sumOf, startOf, sizeOf, rows}
+use Rattle.rings.proofs.Made.{Reads, entries-made, ring-made, count-made, size-made, past-made, at-made}
 
 -- ---- starts: each ring begins where the one before ends
 pub start-first : (sizes : List ℕ) → 0 ≡ startOf sizes 0
@@ -41,40 +40,40 @@ pub size-outside : (sizes : List ℕ) (n u : ℕ) → n ≤ u → sizeOf sizes n
 unfolding sizeOf
 size-outside sizes n u h = rw (le-ltb u n h)
 
+-- the entries from each start on
+pub row-reads : (starts es : List ℕ) → Reads (λ (u k : ℕ). stretch es (getD starts u 0) k) (λ (u i : ℕ). getD es (getD starts u 0 + i) 0)
+unfolding stretch
+row-reads starts es = record { none = λ u. refl; long = λ u k. length-stretch es (getD starts u 0) k; at = λ u k i h. getD-stretch es (getD starts u 0) k i h }
+
 module _ (starts sizes es : List ℕ) (n : ℕ) where
   abbrev Row : ℕ → List ℕ
   Row u = stretch es (getD starts u 0) (sizeOf sizes n u)
 
   -- u's ring as it is given, for every u
   pub entries-rows : (u : ℕ) → entries (rows starts sizes es n) u ≡ Row u
-  unfolding entries rows sizeOf stretch
-  entries-rows u = go (ltb u n) refl
-    where
-      f : ℕ → List ℕ
-      f w = stretch es (getD starts w 0) (getD sizes w 0)
-
-      go : (t : Bool) → ltb u n ≡ t → getD (map f (from 0 n)) u [] ≡ stretch es (getD starts u 0) (cond t (getD sizes u 0) 0)
-      go true q = getD-map-from f 0 n u [] (ltb-true u n q) ∙ ap f (omega arith)
-      go false q = List·getD-eq-default (map f (from 0 n)) [] (let l = length-map-from f 0 n in let h = ltb-false u n q in omega arith)
+  unfolding rows
+  entries-rows u = entries-made (row-reads starts es) sizes n u
 
   pub ring-rows : (u : ℕ) → ring (rows starts sizes es n) u ≡ map neighbour (Row u)
-  unfolding ring
-  ring-rows u = ap (map neighbour) (entries-rows u)
+  unfolding rows
+  ring-rows u = ring-made (row-reads starts es) sizes n u
 
   pub count-rows : count (rows starts sizes es n) ≡ n
   unfolding rows
-  count-rows = length-map-from (λ (u : ℕ). stretch es (getD starts u 0) (getD sizes u 0)) 0 n
+  count-rows = count-made (row-reads starts es) sizes n
 
   pub ring-size : (u : ℕ) → length (ring (rows starts sizes es n) u) ≡ sizeOf sizes n u
-  ring-size u = ap length (ring-rows u) ∙ length-map (Row u) neighbour ∙ length-stretch es (getD starts u 0) (sizeOf sizes n u)
+  unfolding rows
+  ring-size u = size-made (row-reads starts es) sizes n u
 
   -- the entry at i; past the end there is 0
   pub ring-past : (u i : ℕ) → sizeOf sizes n u ≤ i → getD (ring (rows starts sizes es n) u) i 0 ≡ 0
-  ring-past u i h = List·getD-eq-default (ring (rows starts sizes es n) u) 0 (let l = ring-size u in omega arith)
+  unfolding rows
+  ring-past u i h = past-made (row-reads starts es) sizes n u i h
 
   pub ring-at : (u i : ℕ) → i < sizeOf sizes n u → getD (ring (rows starts sizes es n) u) i 0 ≡ neighbour (getD es (getD starts u 0 + i) 0)
-  unfolding neighbour
-  ring-at u i h = ap (λ (r : List ℕ). getD r i 0) (ring-rows u) ∙ List·getD-map neighbour (Row u) i 0 ∙ ap neighbour (getD-stretch es (getD starts u 0) (sizeOf sizes n u) i h)
+  unfolding rows
+  ring-at u i h = at-made (row-reads starts es) sizes n u i h
 
   -- where an entry stands
   pub ring-index : (u v : ℕ) → indexOf v (map neighbour (span es (getD starts u 0) (getD starts u 0 + sizeOf sizes n u))) ≡ indexOf v (ring (rows starts sizes es n) u)
