@@ -12,7 +12,13 @@ use Rattle.lists.specs.Tests.{any, member}
 use Rattle.lists.specs.Spans.{stretch, span}
 use Rattle.lists.proofs.Tests.{any-map}
 use Rattle.lists.proofs.Spans.{length-stretch, getD-stretch}
+use Rattle.rings.specs.Tables.{sizeOf, rows}
+use Rattle.rings.proofs.Rows.{ring-size}
 use Rattle.model.specs.Plan.{Plan, Dart, ring, next, adjacent, dartsFrom, step, outer, closes, badBorder, badFace}
+
+-- the size that the code reads is the ring's length
+pub ring-long : (starts sizes es : List ℕ) (n u : ℕ) {k : ℕ} → k ≡ sizeOf sizes n u → k ≡ length (ring (rows starts sizes es n) u)
+ring-long starts sizes es n u e = e ∙ sym (ring-size starts sizes es n u)
 
 -- ---- outer darts leave border contexts
 pub outer-border : (u v : ℕ) → u < 4 → eqb v ((u + 1) % 4) ≡ outer (u, v)

@@ -105,13 +105,6 @@ module _ {f : ℕ → Bool} {s n u : ℕ} (inv : Seeks f s n u) where
   unfolding firstFrom
   seeks-end h = let z : n - u ≡ 0 = omega arith in sym (inv .same ∙ ap (firstFrom f u) z)
 
--- a number that the code compares with n, by what it is equal to
-pub below-yes : {r x n : ℕ} → r ≡ x → r < n → ltb x n ≡ true
-below-yes {r} {x} {n} e h = lt-ltb x n (omega arith)
-
-pub below-no : {r x n : ℕ} → r ≡ x → n ≤ r → ltb x n ≡ false
-below-no {r} {x} {n} e h = le-ltb x n (omega arith)
-
 -- no c encloses with a and b that are no neighbours
 pub third-apart : (p : Plan) (n a b : ℕ) → b < n → adjacent p a b ≡ false → n ≡ thirdFor p n a b
 unfolding thirdFor

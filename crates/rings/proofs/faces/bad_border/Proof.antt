@@ -1,8 +1,7 @@
 -- bad_border meets its contract.
 use Rattle.rings.specs.Tables.{rows}
-use mathlib.Core.Path.{sym, _∙_}
-use Rattle.rings.proofs.Rows.{ring-size}
-use Rattle.rings.proofs.FaceTests.{border-empty, border-first, border-last, border-across}
+use mathlib.Core.Path.{_∙_}
+use Rattle.rings.proofs.FaceTests.{ring-long, border-empty, border-first, border-last, border-across}
 use native.Mathlib.Omega.{arith}
 use borrow.Author.Needs.{needs}
 use Rattle.rings.proofs.faces.bad_border.Statement.{statement}
@@ -20,7 +19,7 @@ returns : tie.Need-returns
 returns c =
     let a = c .before .before .before .before .before .args in
     let p = rows (a .starts .now) (a .sizes .now) (a .entries .now) (a .n) in
-    let long = c .before .size-of .ensures .0 ∙ sym (ring-size (a .starts .now) (a .sizes .now) (a .entries .now) (a .n) (a .u)) in
+    let long = ring-long (a .starts .now) (a .sizes .now) (a .entries .now) (a .n) (a .u) (c .before .size-of .ensures .0) in
     border-empty p (a .u) _ (c .before .before .before .before .before .pre) long (c .if1 .taken)
 
 neighbour-at-requires : tie.Need-neighbour-at-requires
@@ -33,7 +32,7 @@ returns-2 : tie.Need-returns-2
 returns-2 c =
     let a = c .before .before .before .before .before .before .before .args in
     let p = rows (a .starts .now) (a .sizes .now) (a .entries .now) (a .n) in
-    let long = c .before .before .before .size-of .ensures .0 ∙ sym (ring-size (a .starts .now) (a .sizes .now) (a .entries .now) (a .n) (a .u)) in
+    let long = ring-long (a .starts .now) (a .sizes .now) (a .entries .now) (a .n) (a .u) (c .before .before .before .size-of .ensures .0) in
     border-first p (a .u) _ (c .before .before .before .before .before .before .before .pre) long (omega arith) _ (c .before .neighbour-at .ensures) (c .if2 .taken)
 
 sub-neighbour-at : tie.Need-sub-neighbour-at
@@ -49,7 +48,7 @@ returns-3 : tie.Need-returns-3
 returns-3 c =
     let a = c .before .before .before .before .before .before .before .before .before .args in
     let p = rows (a .starts .now) (a .sizes .now) (a .entries .now) (a .n) in
-    let long = c .before .before .before .before .before .size-of .ensures .0 ∙ sym (ring-size (a .starts .now) (a .sizes .now) (a .entries .now) (a .n) (a .u)) in
+    let long = ring-long (a .starts .now) (a .sizes .now) (a .entries .now) (a .n) (a .u) (c .before .before .before .before .before .size-of .ensures .0) in
     border-last p (a .u) _ (c .before .before .before .before .before .before .before .before .before .pre) long (omega arith) _ (c .before .before .before .neighbour-at .ensures) (c .before .before .if2 .left) _ (c .before .neighbour-at2 .ensures) (c .if3 .taken)
 
 add-is-adjacent : tie.Need-add-is-adjacent
@@ -62,7 +61,7 @@ returns-4 : tie.Need-returns-4
 returns-4 c =
     let a = c .before .before .before .before .before .before .before .before .before .before .args in
     let p = rows (a .starts .now) (a .sizes .now) (a .entries .now) (a .n) in
-    let long = c .before .before .before .before .before .before .size-of .ensures .0 ∙ sym (ring-size (a .starts .now) (a .sizes .now) (a .entries .now) (a .n) (a .u)) in
+    let long = ring-long (a .starts .now) (a .sizes .now) (a .entries .now) (a .n) (a .u) (c .before .before .before .before .before .before .size-of .ensures .0) in
     c .is-adjacent .ensures
     ∙ border-across p (a .u) _ (c .before .before .before .before .before .before .before .before .before .before .pre) long (omega arith) _ (c .before .before .before .before .neighbour-at .ensures) (c .before .before .before .if2 .left) _ (c .before .before .neighbour-at2 .ensures) (c .before .if3 .left)
 

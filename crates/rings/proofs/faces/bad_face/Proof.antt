@@ -1,10 +1,10 @@
 -- bad_face meets its contract.
+use Rattle.rings.proofs.Flags.{flag-yes, flag-no}
 use Rattle.rings.specs.Tables.{rows}
 use Prim.Native.Nat.{_-_}
-use mathlib.Core.Path.{_≡_, refl, sym, ap, _∙_}
+use mathlib.Core.Path.{refl, ap, _∙_}
 use Rattle.model.specs.Plan.{ring}
-use Rattle.rings.proofs.Rows.{ring-size}
-use Rattle.rings.proofs.FaceTests.{badDart, face-darts}
+use Rattle.rings.proofs.FaceTests.{ring-long, badDart, face-darts}
 use Rattle.lists.proofs.Loops.{Sees, sees-start, sees-hit, sees-on, sees-end}
 use native.Mathlib.Omega.{arith}
 use borrow.Author.Needs.{needs}
@@ -38,8 +38,8 @@ returns : tie.Need-returns Inv-loop μ-loop
 returns c =
     let a = c .before .before .before .before .before .before .before .before .before .args in
     let p = rows (a .starts .now) (a .sizes .now) (a .entries .now) (a .n) in
-    let long = c .before .before .before .before .before .size-of .ensures .0 ∙ sym (ring-size (a .starts .now) (a .sizes .now) (a .entries .now) (a .n) (a .u)) in
-    sees-hit (c .before .before .before .before .loop .inv) (omega arith) (sym (ap (badDart p (a .u)) (c .before .before .neighbour-at .ensures)) ∙ sym (c .before .bad-dart .ensures) ∙ c .if1 .taken) ∙ face-darts p (a .u) _ long
+    let long = ring-long (a .starts .now) (a .sizes .now) (a .entries .now) (a .n) (a .u) (c .before .before .before .before .before .size-of .ensures .0) in
+    sees-hit (c .before .before .before .before .loop .inv) (omega arith) (flag-yes (c .before .bad-dart .ensures ∙ ap (badDart p (a .u)) (c .before .before .neighbour-at .ensures)) (c .if1 .taken)) ∙ face-darts p (a .u) _ long
 
 add-i : tie.Need-add-i Inv-loop μ-loop
 add-i c = search needs
@@ -51,13 +51,13 @@ loop-again : tie.Need-loop-again Inv-loop μ-loop
 loop-again c =
     let a = c .before .before .before .before .before .before .before .before .before .args in
     let p = rows (a .starts .now) (a .sizes .now) (a .entries .now) (a .n) in
-    sees-on (c .before .before .before .before .loop .inv) refl (omega arith) (sym (ap (badDart p (a .u)) (c .before .before .neighbour-at .ensures)) ∙ sym (c .before .bad-dart .ensures) ∙ c .if1 .left)
+    sees-on (c .before .before .before .before .loop .inv) refl (omega arith) (flag-no (c .before .bad-dart .ensures ∙ ap (badDart p (a .u)) (c .before .before .neighbour-at .ensures)) (c .if1 .left))
 
 returns-2 : tie.Need-returns-2 Inv-loop μ-loop
 returns-2 c =
     let a = c .before .before .before .before .before .before .args in
     let p = rows (a .starts .now) (a .sizes .now) (a .entries .now) (a .n) in
-    let long = c .before .before .size-of .ensures .0 ∙ sym (ring-size (a .starts .now) (a .sizes .now) (a .entries .now) (a .n) (a .u)) in
+    let long = ring-long (a .starts .now) (a .sizes .now) (a .entries .now) (a .n) (a .u) (c .before .before .size-of .ensures .0) in
     sees-end (c .before .loop .inv) (omega arith) ∙ face-darts p (a .u) _ long
 
 pub bad-face-spec : {M : Type 1} → statement M

@@ -1,7 +1,7 @@
 -- rule9_place meets its contract.
+use Rattle.rings.proofs.Flags.{flag-yes, flag-no}
 use Rattle.rings.specs.Tables.{rows}
 use Prim.Native.Nat.{_-_}
-use mathlib.Core.Path.{sym, _∙_}
 use Rattle.model.specs.Plan.{badFace}
 use Rattle.lists.proofs.Loops.{Looks, looks-start, looks-hit, looks-on, looks-end}
 use native.Mathlib.Omega.{arith}
@@ -25,7 +25,7 @@ bad-face-requires : tie.Need-bad-face-requires Inv-loop μ-loop
 bad-face-requires c κs = search needs
 
 returns : tie.Need-returns Inv-loop μ-loop
-returns c = looks-hit (c .before .before .before .loop .inv) (omega arith) (sym (c .before .bad-face .ensures) ∙ c .if1 .taken)
+returns c = looks-hit (c .before .before .before .loop .inv) (omega arith) (flag-yes (c .before .bad-face .ensures) (c .if1 .taken))
 
 add-u : tie.Need-add-u Inv-loop μ-loop
 add-u c = search needs
@@ -34,7 +34,7 @@ loop-less : tie.Need-loop-less Inv-loop μ-loop
 loop-less c = search needs
 
 loop-again : tie.Need-loop-again Inv-loop μ-loop
-loop-again c = looks-on (c .before .before .before .loop .inv) (omega arith) (omega arith) (sym (c .before .bad-face .ensures) ∙ c .if1 .left)
+loop-again c = looks-on (c .before .before .before .loop .inv) (omega arith) (omega arith) (flag-no (c .before .bad-face .ensures) (c .if1 .left))
 
 returns-2 : tie.Need-returns-2 Inv-loop μ-loop
 returns-2 c = looks-end (c .before .loop .inv) (omega arith)

@@ -1,9 +1,9 @@
 -- first_for meets its contract.
+use Rattle.rings.proofs.Flags.{below-yes, below-no}
 use Rattle.rings.specs.Tables.{rows}
 use Prim.Native.Nat.{ℕ, _-_}
 use lib.Dec.{ltb}
 use Rattle.rings.specs.Scanned.{secondFor, firstFor}
-use Rattle.rings.proofs.Scans.{below-yes, below-no}
 use Rattle.lists.proofs.Loops.{Looks, looks-start, looks-hit, looks-on, looks-end}
 use native.Mathlib.Omega.{arith}
 use borrow.Author.Needs.{needs}

@@ -1,9 +1,10 @@
 -- second_for meets its contract.
+use Rattle.rings.proofs.Flags.{below-yes, below-no}
 use Rattle.rings.specs.Tables.{rows}
 use Prim.Native.Nat.{ℕ, suc, _-_}
 use lib.Dec.{ltb}
 use Rattle.rings.specs.Scanned.{thirdFor, secondFor}
-use Rattle.rings.proofs.Scans.{Seeks, seeks-start, seeks-hit, seeks-on, seeks-end, below-yes, below-no}
+use Rattle.rings.proofs.Scans.{Seeks, seeks-start, seeks-hit, seeks-on, seeks-end}
 use native.Mathlib.Omega.{arith}
 use borrow.Author.Needs.{needs}
 use Rattle.rings.proofs.scan.second_for.Statement.{statement}

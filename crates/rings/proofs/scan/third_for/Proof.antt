@@ -1,10 +1,9 @@
 -- third_for meets its contract.
+use Rattle.rings.proofs.Flags.{not-flag-yes, flag-yes, flag-no}
 use Rattle.rings.specs.Tables.{rows}
 use Prim.Native.Nat.{ℕ, suc, _-_}
 use Rattle.rings.specs.Scanned.{thirdFor}
 use Rattle.model.specs.Scan.{enclosing}
-use mathlib.Core.Path.{sym, _∙_}
-use borrow.Author.Tests.{not-true, not-false}
 use Rattle.rings.proofs.Scans.{Seeks, seeks-start, seeks-hit, seeks-on, seeks-end, third-apart}
 use native.Mathlib.Omega.{arith}
 use borrow.Author.Needs.{needs}
@@ -28,7 +27,7 @@ returns : tie.Need-returns Inv-loop μ-loop
 returns c =
     let a = c .before .before .before .before .before .args in
     let p = rows (a .starts .now) (a .sizes .now) (a .entries .now) (a .n) in
-    third-apart p (a .n) (a .a) (a .b) (c .before .before .before .before .before .pre) (sym (c .before .is-adjacent .ensures) ∙ not-true (c .before .is-adjacent .result) (c .if1 .taken))
+    third-apart p (a .n) (a .a) (a .b) (c .before .before .before .before .before .pre) (not-flag-yes (c .before .is-adjacent .ensures) (c .if1 .taken))
 
 add-c : tie.Need-add-c Inv-loop μ-loop
 add-c c = search needs
@@ -41,7 +40,7 @@ encloses-requires c κs = search needs
 
 returns-2 : tie.Need-returns-2 Inv-loop μ-loop
 unfolding thirdFor
-returns-2 c = seeks-hit (c .before .before .before .loop .inv) (omega arith) (sym (c .before .encloses .ensures) ∙ c .if2 .taken)
+returns-2 c = seeks-hit (c .before .before .before .loop .inv) (omega arith) (flag-yes (c .before .encloses .ensures) (c .if2 .taken))
 
 add-c-2 : tie.Need-add-c-2 Inv-loop μ-loop
 add-c-2 c = search needs
@@ -50,7 +49,7 @@ loop-less : tie.Need-loop-less Inv-loop μ-loop
 loop-less c = search needs
 
 loop-again : tie.Need-loop-again Inv-loop μ-loop
-loop-again c = seeks-on (c .before .before .before .loop .inv) (omega arith) (omega arith) (sym (c .before .encloses .ensures) ∙ c .if2 .left)
+loop-again c = seeks-on (c .before .before .before .loop .inv) (omega arith) (omega arith) (flag-no (c .before .encloses .ensures) (c .if2 .left))
 
 returns-3 : tie.Need-returns-3 Inv-loop μ-loop
 unfolding thirdFor
