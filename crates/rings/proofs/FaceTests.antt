@@ -13,6 +13,7 @@ use Rattle.lists.specs.Spans.{stretch, span}
 use Rattle.lists.proofs.Tests.{any-map}
 use Rattle.lists.proofs.Spans.{length-stretch, getD-stretch}
 use Rattle.rings.specs.Tables.{sizeOf, rows}
+use Rattle.rings.proofs.Flags.{flag-yes, flag-no}
 use Rattle.rings.proofs.Rows.{ring-size}
 use Rattle.model.specs.Plan.{Plan, Dart, ring, next, adjacent, dartsFrom, step, outer, closes, badBorder, badFace}
 
@@ -103,19 +104,31 @@ module _ (p : Plan) (u k : ℕ) (side : u < 4) (long : k ≡ length (ring p u)) 
       unfolding badBorder
       border-last h = bad-last firstOk lastOk meetsAcross (first-ok begins) (ne-eqb (getD r (length r - 1) u) ((u + 3) % 4) (λ q. h (last-is ∙ q)))
 
-      pub border-across : z ≡ (u + 3) % 4 → adjacent p u ((u + 2) % 4) ≡ badBorder p u
+      pub border-across : {t : Bool} → t ≡ adjacent p u ((u + 2) % 4) → z ≡ (u + 3) % 4 → t ≡ badBorder p u
       unfolding badBorder adjacent
-      border-across h = bad-across firstOk lastOk meetsAcross (first-ok begins) (eq-eqb (getD r (length r - 1) u) ((u + 3) % 4) (sym last-is ∙ h))
+      border-across e h = e ∙ bad-across firstOk lastOk meetsAcross (first-ok begins) (eq-eqb (getD r (length r - 1) u) ((u + 3) % 4) (sym last-is ∙ h))
 
 -- ---- rule 9: the darts that leave u, by the entries of its ring
 abbrev pub badDart : Plan → ℕ → ℕ → Bool
 badDart p u v = not (outer (u, v) || closes p (u, v))
 
-pub dart-outer : (p : Plan) (u v : ℕ) → outer (u, v) ≡ true → false ≡ badDart p u v
-dart-outer p u v e = rw e
+module _ (p : Plan) (u v : ℕ) {o : Bool} (outside : o ≡ outer (u, v)) where
+  pub dart-outer : o ≡ true → false ≡ badDart p u v
+  dart-outer h = rw (flag-yes outside h)
 
-pub dart-inner : (p : Plan) (u v : ℕ) (t : Bool) → outer (u, v) ≡ false → t ≡ closes p (u, v) → not t ≡ badDart p u v
-dart-inner p u v t e h = rw e (ap not h)
+  pub dart-inner : {t : Bool} → o ≡ false → t ≡ closes p (u, v) → not t ≡ badDart p u v
+  dart-inner h back = rw (flag-no outside h) (ap not back)
+
+-- the dart to the entry w of u's ring, by what the code finds of it
+module _ (p : Plan) (u : ℕ) {v w : ℕ} {t : Bool} (there : v ≡ w) (bad : t ≡ badDart p u v) where
+  bad-there : t ≡ badDart p u w
+  bad-there = bad ∙ ap (badDart p u) there
+
+  pub dart-bad : t ≡ true → badDart p u w ≡ true
+  dart-bad h = flag-yes bad-there h
+
+  pub dart-good : t ≡ false → badDart p u w ≡ false
+  dart-good h = flag-no bad-there h
 
 -- a span of all of a list is the list
 span-whole : (l : List ℕ) (k : ℕ) → k ≡ length l → span l 0 k ≡ l

@@ -12,6 +12,7 @@ use Rattle.lists.specs.Parts.{concat}
 use Rattle.lists.proofs.Ranges.{FirstOf, first-found, none-first}
 use Rattle.model.specs.Plan.{Plan, count, adjacent, step, outer, closes, walk, onInnerFace}
 use Rattle.model.specs.Scan.{Triple, after, triples, innerFace, enclosing, firstEnclosing, scan}
+use Rattle.rings.proofs.Flags.{flag-yes, flag-no, not-flag-yes, not-flag-no}
 use Rattle.rings.specs.Scanned.{thirdFor, secondFor, firstFor}
 
 abbrev triple : ℕ → ℕ → ℕ → Triple
@@ -36,17 +37,17 @@ module _ (p : Plan) (a b c : ℕ) where
   face-outside true o t s e = rw e
   face-outside false o t s e = refl
 
-  pub inner-third : (w : ℕ) → w ≡ third → (w ≡ c → ⊥) → false ≡ innerFace p a b c
-  inner-third w e h = face-elsewhere (adjacent p a b) (outer (a, b)) (closes p (a, b)) (eqb third c) (ne-eqb third c (λ q. h (e ∙ q))) ∙ sym face-is
+  pub inner-third : {w : ℕ} → w ≡ third → (w ≡ c → ⊥) → false ≡ innerFace p a b c
+  inner-third e h = face-elsewhere (adjacent p a b) (outer (a, b)) (closes p (a, b)) (eqb third c) (ne-eqb third c (λ q. h (e ∙ q))) ∙ sym face-is
 
-  pub inner-outer : outer (a, b) ≡ true → false ≡ innerFace p a b c
-  inner-outer e = face-outside (adjacent p a b) (outer (a, b)) (closes p (a, b)) (eqb third c) e ∙ sym face-is
+  pub inner-outer : {o : Bool} → o ≡ outer (a, b) → o ≡ true → false ≡ innerFace p a b c
+  inner-outer e t = face-outside (adjacent p a b) (outer (a, b)) (closes p (a, b)) (eqb third c) (flag-yes e t) ∙ sym face-is
 
-  pub inner-apart : adjacent p a b ≡ false → false ≡ innerFace p a b c
-  inner-apart e = sym (face-is ∙ rw e)
+  pub inner-apart : {j : Bool} → j ≡ adjacent p a b → not j ≡ true → false ≡ innerFace p a b c
+  inner-apart e t = sym (face-is ∙ rw (not-flag-yes e t))
 
-  pub inner-closes : (w : ℕ) → w ≡ third → w ≡ c → outer (a, b) ≡ false → adjacent p a b ≡ true → closes p (a, b) ≡ innerFace p a b c
-  inner-closes w e h o j = sym (face-is ∙ rw (j, o, eq-eqb third c (sym e ∙ h)) (and-true (closes p (a, b))))
+  pub inner-closes : {w : ℕ} {o j t : Bool} → w ≡ third → w ≡ c → o ≡ outer (a, b) → o ≡ false → j ≡ adjacent p a b → not j ≡ false → t ≡ closes p (a, b) → t ≡ innerFace p a b c
+  inner-closes third-is same outer-is inside near apart back = back ∙ sym (face-is ∙ rw (not-flag-no near apart, flag-no outer-is inside, eq-eqb third c (sym third-is ∙ same)) (and-true (closes p (a, b))))
 
 -- ---- a, b, c enclose: the tests in the order in which the code makes them
 abbrev Encloses : Bool → Bool → Bool → Bool → Bool → Bool
@@ -62,26 +63,27 @@ no-bc true false bc f g e = refl
 no-bc false ac bc f g e = refl
 
 module _ (p : Plan) (a b c : ℕ) where
-  pub apart-ac : adjacent p a c ≡ false → false ≡ enclosing p (a, b, c)
+  pub apart-ac : {t : Bool} → t ≡ adjacent p a c → not t ≡ true → false ≡ enclosing p (a, b, c)
   unfolding enclosing
-  apart-ac e = no-ac (adjacent p a b) (adjacent p a c) (adjacent p b c) (innerFace p a b c) (innerFace p a c b) e
+  apart-ac e h = no-ac (adjacent p a b) (adjacent p a c) (adjacent p b c) (innerFace p a b c) (innerFace p a c b) (not-flag-yes e h)
 
-  pub apart-bc : adjacent p b c ≡ false → false ≡ enclosing p (a, b, c)
+  pub apart-bc : {t : Bool} → t ≡ adjacent p b c → not t ≡ true → false ≡ enclosing p (a, b, c)
   unfolding enclosing
-  apart-bc e = no-bc (adjacent p a b) (adjacent p a c) (adjacent p b c) (innerFace p a b c) (innerFace p a c b) e
+  apart-bc e h = no-bc (adjacent p a b) (adjacent p a c) (adjacent p b c) (innerFace p a b c) (innerFace p a c b) (not-flag-yes e h)
 
-  pub apart-ab : adjacent p a b ≡ false → false ≡ enclosing p (a, b, c)
+  pub apart-ab : {t : Bool} → t ≡ adjacent p a b → not t ≡ true → false ≡ enclosing p (a, b, c)
   unfolding enclosing
-  apart-ab e = rw e
+  apart-ab e h = rw (not-flag-yes e h)
 
-  module _ (ac : adjacent p a c ≡ true) (bc : adjacent p b c ≡ true) (ab : adjacent p a b ≡ true) where
-    pub face-abc : innerFace p a b c ≡ true → false ≡ enclosing p (a, b, c)
+  -- three mutual neighbours: x, y, z are the results of the three tests
+  module _ {x y z : Bool} (ac : x ≡ adjacent p a c) (ac-yes : not x ≡ false) (bc : y ≡ adjacent p b c) (bc-yes : not y ≡ false) (ab : z ≡ adjacent p a b) (ab-yes : not z ≡ false) where
+    pub face-abc : {t : Bool} → t ≡ innerFace p a b c → t ≡ true → false ≡ enclosing p (a, b, c)
     unfolding enclosing
-    face-abc e = rw (ab, ac, bc, e)
+    face-abc e h = rw (not-flag-no ab ab-yes, not-flag-no ac ac-yes, not-flag-no bc bc-yes, flag-yes e h)
 
-    pub face-acb : (t : Bool) → innerFace p a b c ≡ false → t ≡ innerFace p a c b → not t ≡ enclosing p (a, b, c)
+    pub face-acb : {s t : Bool} → s ≡ innerFace p a b c → s ≡ false → t ≡ innerFace p a c b → not t ≡ enclosing p (a, b, c)
     unfolding enclosing
-    face-acb t e h = rw (ab, ac, bc, e) (ap not h)
+    face-acb e h f = rw (not-flag-no ab ab-yes, not-flag-no ac ac-yes, not-flag-no bc bc-yes, flag-no e h) (ap not f)
 
 -- ---- let mut u = s; while u < n { if test(u) { return u; } u += 1; } u
 pub record Seeks (f : ℕ → Bool) (s n u : ℕ) : Type 0 where
@@ -106,11 +108,11 @@ module _ {f : ℕ → Bool} {s n u : ℕ} (inv : Seeks f s n u) where
   seeks-end h = let z : n - u ≡ 0 = omega arith in sym (inv .same ∙ ap (firstFrom f u) z)
 
 -- no c encloses with a and b that are no neighbours
-pub third-apart : (p : Plan) (n a b : ℕ) → b < n → adjacent p a b ≡ false → n ≡ thirdFor p n a b
+pub third-apart : (p : Plan) (n a b : ℕ) {t : Bool} → b < n → t ≡ adjacent p a b → not t ≡ true → n ≡ thirdFor p n a b
 unfolding thirdFor
-third-apart p n a b h e =
-    let all : suc b + (n - suc b) ≡ n = omega arith in
-    sym (none-first (λ (c : ℕ). enclosing p (a, b, c)) (suc b) (n - suc b) (λ c l m. sym (apart-ab p a b c e)) ∙ all)
+third-apart p n a b h near apart =
+    let whole : suc b + (n - suc b) ≡ n = omega arith in
+    sym (none-first (λ (c : ℕ). enclosing p (a, b, c)) (suc b) (n - suc b) (λ c l m. sym (apart-ab p a b c near apart)) ∙ whole)
 
 -- ---- the first triple of rows of triples is the first triple of the first row that has one
 module _ (p : Plan) where
@@ -140,9 +142,6 @@ module _ (p : Plan) where
         first-append (row s) (concat (map row (from (suc s) k)))
         ∙ (λ i. orElse (e s (omega arith) (omega arith) i) (first-row (suc s) k (λ b l m. e b (omega arith) (omega arith)) i)) ∙ go (t s)
       where
-        next : ℕ
-        next = firstFrom t (suc s) k
-
         go : (v : Bool) → orElse (found v (h s)) (found (ltb (firstFrom t (suc s) k) (suc s + k)) (h (firstFrom t (suc s) k)))
             ≡ found (ltb (cond v s (firstFrom t (suc s) k)) (s + suc k)) (h (cond v s (firstFrom t (suc s) k)))
         go true = sym (rw (lt-ltb s (s + suc k) (omega arith)))

@@ -1,6 +1,5 @@
 -- bad_border meets its contract.
 use Rattle.rings.specs.Tables.{rows}
-use mathlib.Core.Path.{_∙_}
 use Rattle.rings.proofs.FaceTests.{ring-long, border-empty, border-first, border-last, border-across}
 use native.Mathlib.Omega.{arith}
 use borrow.Author.Needs.{needs}
@@ -62,8 +61,7 @@ returns-4 c =
     let a = c .before .before .before .before .before .before .before .before .before .before .args in
     let p = rows (a .starts .now) (a .sizes .now) (a .entries .now) (a .n) in
     let long = ring-long (a .starts .now) (a .sizes .now) (a .entries .now) (a .n) (a .u) (c .before .before .before .before .before .before .size-of .ensures .0) in
-    c .is-adjacent .ensures
-    ∙ border-across p (a .u) _ (c .before .before .before .before .before .before .before .before .before .before .pre) long (omega arith) _ (c .before .before .before .before .neighbour-at .ensures) (c .before .before .before .if2 .left) _ (c .before .before .neighbour-at2 .ensures) (c .before .if3 .left)
+    border-across p (a .u) _ (c .before .before .before .before .before .before .before .before .before .before .pre) long (omega arith) _ (c .before .before .before .before .neighbour-at .ensures) (c .before .before .before .if2 .left) _ (c .before .before .neighbour-at2 .ensures) (c .is-adjacent .ensures) (c .before .if3 .left)
 
 pub bad-border-spec : {M : Type 1} → statement M
 bad-border-spec =

@@ -1,5 +1,4 @@
 -- bad_dart meets its contract.
-use Rattle.rings.proofs.Flags.{flag-yes, flag-no}
 use Rattle.rings.specs.Tables.{rows}
 use Rattle.rings.proofs.FaceTests.{dart-outer, dart-inner}
 use native.Mathlib.Omega.{arith}
@@ -18,7 +17,7 @@ returns : tie.Need-returns
 returns c =
     let a = c .before .before .before .before .before .args in
     let p = rows (a .starts .now) (a .sizes .now) (a .entries .now) (a .n) in
-    dart-outer p (a .u) (a .v) (flag-yes (c .before .is-outer .ensures) (c .if1 .taken))
+    dart-outer p (a .u) (a .v) (c .before .is-outer .ensures) (c .if1 .taken)
 
 closes-requires : tie.Need-closes-requires
 closes-requires c κs = search needs
@@ -27,7 +26,7 @@ returns-2 : tie.Need-returns-2
 returns-2 c =
     let a = c .before .before .before .before .before .before .args in
     let p = rows (a .starts .now) (a .sizes .now) (a .entries .now) (a .n) in
-    dart-inner p (a .u) (a .v) _ (flag-no (c .before .before .is-outer .ensures) (c .before .if1 .left)) (c .closes .ensures)
+    dart-inner p (a .u) (a .v) (c .before .before .is-outer .ensures) (c .before .if1 .left) (c .closes .ensures)
 
 pub bad-dart-spec : {M : Type 1} → statement M
 bad-dart-spec = tie.close (tie.spec is-outer-requires returns closes-requires returns-2)

@@ -1,10 +1,9 @@
 -- bad_face meets its contract.
-use Rattle.rings.proofs.Flags.{flag-yes, flag-no}
 use Rattle.rings.specs.Tables.{rows}
 use Prim.Native.Nat.{_-_}
-use mathlib.Core.Path.{refl, ap, _∙_}
+use mathlib.Core.Path.{refl, _∙_}
 use Rattle.model.specs.Plan.{ring}
-use Rattle.rings.proofs.FaceTests.{ring-long, badDart, face-darts}
+use Rattle.rings.proofs.FaceTests.{ring-long, badDart, dart-bad, dart-good, face-darts}
 use Rattle.lists.proofs.Loops.{Sees, sees-start, sees-hit, sees-on, sees-end}
 use native.Mathlib.Omega.{arith}
 use borrow.Author.Needs.{needs}
@@ -39,7 +38,7 @@ returns c =
     let a = c .before .before .before .before .before .before .before .before .before .args in
     let p = rows (a .starts .now) (a .sizes .now) (a .entries .now) (a .n) in
     let long = ring-long (a .starts .now) (a .sizes .now) (a .entries .now) (a .n) (a .u) (c .before .before .before .before .before .size-of .ensures .0) in
-    sees-hit (c .before .before .before .before .loop .inv) (omega arith) (flag-yes (c .before .bad-dart .ensures ∙ ap (badDart p (a .u)) (c .before .before .neighbour-at .ensures)) (c .if1 .taken)) ∙ face-darts p (a .u) _ long
+    sees-hit (c .before .before .before .before .loop .inv) (omega arith) (dart-bad p (a .u) (c .before .before .neighbour-at .ensures) (c .before .bad-dart .ensures) (c .if1 .taken)) ∙ face-darts p (a .u) _ long
 
 add-i : tie.Need-add-i Inv-loop μ-loop
 add-i c = search needs
@@ -51,7 +50,7 @@ loop-again : tie.Need-loop-again Inv-loop μ-loop
 loop-again c =
     let a = c .before .before .before .before .before .before .before .before .before .args in
     let p = rows (a .starts .now) (a .sizes .now) (a .entries .now) (a .n) in
-    sees-on (c .before .before .before .before .loop .inv) refl (omega arith) (flag-no (c .before .bad-dart .ensures ∙ ap (badDart p (a .u)) (c .before .before .neighbour-at .ensures)) (c .if1 .left))
+    sees-on (c .before .before .before .before .loop .inv) refl (omega arith) (dart-good p (a .u) (c .before .before .neighbour-at .ensures) (c .before .bad-dart .ensures) (c .if1 .left))
 
 returns-2 : tie.Need-returns-2 Inv-loop μ-loop
 returns-2 c =

@@ -1,5 +1,4 @@
 -- encloses meets its contract.
-use Rattle.rings.proofs.Flags.{not-flag-yes, not-flag-no, flag-yes, flag-no}
 use Rattle.rings.specs.Tables.{rows}
 use Rattle.rings.proofs.Scans.{apart-ac, apart-bc, apart-ab, face-abc, face-acb}
 use native.Mathlib.Omega.{arith}
@@ -18,7 +17,7 @@ returns : tie.Need-returns
 returns c =
     let a = c .before .before .before .before .before .args in
     let p = rows (a .starts .now) (a .sizes .now) (a .entries .now) (a .n) in
-    apart-ac p (a .a) (a .b) (a .c) (not-flag-yes (c .before .is-adjacent .ensures) (c .if1 .taken))
+    apart-ac p (a .a) (a .b) (a .c) (c .before .is-adjacent .ensures) (c .if1 .taken)
 
 is-adjacent-requires-2 : tie.Need-is-adjacent-requires-2
 is-adjacent-requires-2 c κs = search needs
@@ -27,7 +26,7 @@ returns-2 : tie.Need-returns-2
 returns-2 c =
     let a = c .before .before .before .before .before .before .before .args in
     let p = rows (a .starts .now) (a .sizes .now) (a .entries .now) (a .n) in
-    apart-bc p (a .a) (a .b) (a .c) (not-flag-yes (c .before .is-adjacent2 .ensures) (c .if2 .taken))
+    apart-bc p (a .a) (a .b) (a .c) (c .before .is-adjacent2 .ensures) (c .if2 .taken)
 
 is-adjacent-requires-3 : tie.Need-is-adjacent-requires-3
 is-adjacent-requires-3 c κs = search needs
@@ -36,7 +35,7 @@ returns-3 : tie.Need-returns-3
 returns-3 c =
     let a = c .before .before .before .before .before .before .before .before .before .args in
     let p = rows (a .starts .now) (a .sizes .now) (a .entries .now) (a .n) in
-    apart-ab p (a .a) (a .b) (a .c) (not-flag-yes (c .before .is-adjacent3 .ensures) (c .if3 .taken))
+    apart-ab p (a .a) (a .b) (a .c) (c .before .is-adjacent3 .ensures) (c .if3 .taken)
 
 is-inner-face-requires : tie.Need-is-inner-face-requires
 is-inner-face-requires c κs = search needs
@@ -45,10 +44,7 @@ returns-4 : tie.Need-returns-4
 returns-4 c =
     let a = c .before .before .before .before .before .before .before .before .before .before .before .args in
     let p = rows (a .starts .now) (a .sizes .now) (a .entries .now) (a .n) in
-    let ac = not-flag-no (c .before .before .before .before .before .before .before .is-adjacent .ensures) (c .before .before .before .before .before .before .if1 .left) in
-    let bc = not-flag-no (c .before .before .before .before .before .is-adjacent2 .ensures) (c .before .before .before .before .if2 .left) in
-    let ab = not-flag-no (c .before .before .before .is-adjacent3 .ensures) (c .before .before .if3 .left) in
-    face-abc p (a .a) (a .b) (a .c) ac bc ab (flag-yes (c .before .is-inner-face .ensures) (c .if4 .taken))
+    face-abc p (a .a) (a .b) (a .c) (c .before .before .before .before .before .before .before .is-adjacent .ensures) (c .before .before .before .before .before .before .if1 .left) (c .before .before .before .before .before .is-adjacent2 .ensures) (c .before .before .before .before .if2 .left) (c .before .before .before .is-adjacent3 .ensures) (c .before .before .if3 .left) (c .before .is-inner-face .ensures) (c .if4 .taken)
 
 is-inner-face-requires-2 : tie.Need-is-inner-face-requires-2
 is-inner-face-requires-2 c κs = search needs
@@ -57,10 +53,7 @@ returns-5 : tie.Need-returns-5
 returns-5 c =
     let a = c .before .before .before .before .before .before .before .before .before .before .before .before .args in
     let p = rows (a .starts .now) (a .sizes .now) (a .entries .now) (a .n) in
-    let ac = not-flag-no (c .before .before .before .before .before .before .before .before .is-adjacent .ensures) (c .before .before .before .before .before .before .before .if1 .left) in
-    let bc = not-flag-no (c .before .before .before .before .before .before .is-adjacent2 .ensures) (c .before .before .before .before .before .if2 .left) in
-    let ab = not-flag-no (c .before .before .before .before .is-adjacent3 .ensures) (c .before .before .before .if3 .left) in
-    face-acb p (a .a) (a .b) (a .c) ac bc ab _ (flag-no (c .before .before .is-inner-face .ensures) (c .before .if4 .left)) (c .is-inner-face2 .ensures)
+    face-acb p (a .a) (a .b) (a .c) (c .before .before .before .before .before .before .before .before .is-adjacent .ensures) (c .before .before .before .before .before .before .before .if1 .left) (c .before .before .before .before .before .before .is-adjacent2 .ensures) (c .before .before .before .before .before .if2 .left) (c .before .before .before .before .is-adjacent3 .ensures) (c .before .before .before .if3 .left) (c .before .before .is-inner-face .ensures) (c .before .if4 .left) (c .is-inner-face2 .ensures)
 
 pub encloses-spec : {M : Type 1} → statement M
 encloses-spec =

@@ -1,7 +1,5 @@
 -- is_inner_face meets its contract.
-use Rattle.rings.proofs.Flags.{not-flag-yes, not-flag-no, flag-yes, flag-no}
 use Rattle.rings.specs.Tables.{rows}
-use mathlib.Core.Path.{sym, _∙_}
 use Rattle.rings.proofs.Scans.{inner-third, inner-outer, inner-apart, inner-closes}
 use native.Mathlib.Omega.{arith}
 use borrow.Author.Needs.{needs}
@@ -21,7 +19,7 @@ returns : tie.Need-returns
 returns c =
     let a = c .before .before .before .before .before .args in
     let p = rows (a .starts .now) (a .sizes .now) (a .entries .now) (a .n) in
-    inner-third p (a .a) (a .b) (a .c) _ (c .before .third-of .ensures) (c .if1 .taken)
+    inner-third p (a .a) (a .b) (a .c) (c .before .third-of .ensures) (c .if1 .taken)
 
 is-outer-requires : tie.Need-is-outer-requires
 is-outer-requires c κs = search needs
@@ -30,7 +28,7 @@ returns-2 : tie.Need-returns-2
 returns-2 c =
     let a = c .before .before .before .before .before .before .before .args in
     let p = rows (a .starts .now) (a .sizes .now) (a .entries .now) (a .n) in
-    inner-outer p (a .a) (a .b) (a .c) (flag-yes (c .before .is-outer .ensures) (c .if2 .taken))
+    inner-outer p (a .a) (a .b) (a .c) (c .before .is-outer .ensures) (c .if2 .taken)
 
 is-adjacent-requires : tie.Need-is-adjacent-requires
 is-adjacent-requires c κs = search needs
@@ -39,7 +37,7 @@ returns-3 : tie.Need-returns-3
 returns-3 c =
     let a = c .before .before .before .before .before .before .before .before .before .args in
     let p = rows (a .starts .now) (a .sizes .now) (a .entries .now) (a .n) in
-    inner-apart p (a .a) (a .b) (a .c) (not-flag-yes (c .before .is-adjacent .ensures) (c .if3 .taken))
+    inner-apart p (a .a) (a .b) (a .c) (c .before .is-adjacent .ensures) (c .if3 .taken)
 
 closes-requires : tie.Need-closes-requires
 closes-requires c κs = search needs
@@ -48,8 +46,7 @@ returns-4 : tie.Need-returns-4
 returns-4 c =
     let a = c .before .before .before .before .before .before .before .before .before .before .args in
     let p = rows (a .starts .now) (a .sizes .now) (a .entries .now) (a .n) in
-    c .closes .ensures
-    ∙ inner-closes p (a .a) (a .b) (a .c) _ (c .before .before .before .before .before .before .third-of .ensures) (c .before .before .before .before .before .if1 .left) (flag-no (c .before .before .before .before .is-outer .ensures) (c .before .before .before .if2 .left)) (not-flag-no (c .before .before .is-adjacent .ensures) (c .before .if3 .left))
+    inner-closes p (a .a) (a .b) (a .c) (c .before .before .before .before .before .before .third-of .ensures) (c .before .before .before .before .before .if1 .left) (c .before .before .before .before .is-outer .ensures) (c .before .before .before .if2 .left) (c .before .before .is-adjacent .ensures) (c .before .if3 .left) (c .closes .ensures)
 
 pub is-inner-face-spec : {M : Type 1} → statement M
 is-inner-face-spec =

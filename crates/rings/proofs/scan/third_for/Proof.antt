@@ -1,5 +1,5 @@
 -- third_for meets its contract.
-use Rattle.rings.proofs.Flags.{not-flag-yes, flag-yes, flag-no}
+use Rattle.rings.proofs.Flags.{flag-yes, flag-no}
 use Rattle.rings.specs.Tables.{rows}
 use Prim.Native.Nat.{ℕ, suc, _-_}
 use Rattle.rings.specs.Scanned.{thirdFor}
@@ -27,7 +27,7 @@ returns : tie.Need-returns Inv-loop μ-loop
 returns c =
     let a = c .before .before .before .before .before .args in
     let p = rows (a .starts .now) (a .sizes .now) (a .entries .now) (a .n) in
-    third-apart p (a .n) (a .a) (a .b) (c .before .before .before .before .before .pre) (not-flag-yes (c .before .is-adjacent .ensures) (c .if1 .taken))
+    third-apart p (a .n) (a .a) (a .b) (c .before .before .before .before .before .pre) (c .before .is-adjacent .ensures) (c .if1 .taken)
 
 add-c : tie.Need-add-c Inv-loop μ-loop
 add-c c = search needs
