@@ -77,14 +77,14 @@ fn bad_border<'a>(
 pub fn rule8_place<'a>(starts: &'a [u16], sizes: &'a [u8], entries: &'a [u16], n: usize) -> usize
     ensures { λ r. ⌜ r ≡ lowest (badBorder (rows (now (starts .entry)) (now (sizes .entry)) (now (entries .entry)) n)) 4 ⌝ }
 {
-    let mut u = 0;
-    while u < 4 {
-        if bad_border(starts, sizes, entries, n, u) {
-            return u;
+    let mut side = 0;
+    while side < 4 {
+        if bad_border(starts, sizes, entries, n, side) {
+            return side;
         }
-        u += 1;
+        side += 1;
     }
-    u
+    side
 }
 
 // Does the dart from u to v break rule 9: it is not outer and does not come back to itself?

@@ -13,10 +13,10 @@ use Rattle.rings.proofs.faces.rule8_place.Lts as lts
 use Rattle.rings.proofs.faces.bad_border.Reads as bad-border-reads
 
 abbrev Inv-loop : tie.InvT-loop
-Inv-loop starts sizes entries n u₀ u = Looks (badBorder (rows starts sizes entries n)) 4 u
+Inv-loop starts sizes entries n side₀ side = Looks (badBorder (rows starts sizes entries n)) 4 side
 
 abbrev μ-loop : tie.MeasureT-loop
-μ-loop starts sizes entries n u₀ u = 4 - u
+μ-loop starts sizes entries n side₀ side = 4 - side
 
 loop-holds : tie.Need-loop-holds Inv-loop μ-loop
 loop-holds c = looks-start
@@ -27,8 +27,8 @@ bad-border-requires c κs = search needs
 returns : tie.Need-returns Inv-loop μ-loop
 returns c = looks-hit (c .before .before .before .loop .inv) (omega arith) (flag-yes (c .before .bad-border .ensures) (c .if1 .taken))
 
-add-u : tie.Need-add-u Inv-loop μ-loop
-add-u c = search needs
+add-side : tie.Need-add-side Inv-loop μ-loop
+add-side c = search needs
 
 loop-less : tie.Need-loop-less Inv-loop μ-loop
 loop-less c = search needs
@@ -48,7 +48,7 @@ rule8-place-spec =
     loop-holds
     bad-border-requires
     returns
-    add-u
+    add-side
     loop-less
     loop-again
     returns-2)
