@@ -1,5 +1,5 @@
 -- The length of each part of a file.
-use Prim.Native.Nat.{ℕ, zero, suc, _+_, _-_, _*_, _≤_, _<_, min}
+use Prim.Native.Nat.{ℕ, zero, suc, _+_, _*_}
 use mathlib.Core.Path.{_≡_, refl, sym, ap, _∙_}
 use mathlib.Core.List.{List, [], _∷_, _++_, map}
 use native.Mathlib.Omega.{arith}
@@ -9,11 +9,10 @@ use Rattle.lists.specs.Spans.{stretch}
 use Rattle.lists.specs.Words.{bytes}
 use Rattle.lists.proofs.Spans.{length-stretch}
 use Rattle.lists.proofs.Words.{length-bytes}
-use Rattle.model.specs.Plan.{Plan, count}
-use Rattle.model.specs.Chart.{Chart}
+use Rattle.model.specs.Plan.{count}
 use Rattle.model.specs.File.{entry, points, chartOut, ringsOut, planOut, encode}
 use Rattle.rings.specs.Tables.{startOf, startsOf, rows, table}
-use Rattle.rings.proofs.Rows.{start-first, start-more, count-rows}
+use Rattle.rings.proofs.Rows.{start-first, start-more}
 use Rattle.writing.specs.Files.{kept, dartsHeld, planHeld, labelsHeld, chartHeld, sheetHeld}
 use Rattle.writing.specs.declared.Parts.{Parts}
 use Rattle.writing.specs.declared.Parts.the-variants.{PlanOnly, WithLabels, WithChart}

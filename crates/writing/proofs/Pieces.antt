@@ -1,12 +1,10 @@
 -- The file from its pieces, each stored behind the one before.
-use Prim.Native.Nat.{ℕ, zero, suc, _+_, _-_, _*_, _≤_, _<_}
+use Prim.Native.Nat.{ℕ, _+_, _*_, _≤_, _<_}
 use mathlib.Core.Path.{_≡_, refl, sym, ap, _∙_}
 use mathlib.Core.List.{List, [], _∷_, _++_, map, append-assoc}
-use mathlib.Core.Bool.{true, false}
 use native.Mathlib.Omega.{arith}
 use lib.ListN.{length, getD, drop, length-append}
 use lib.Seq.{sets}
-use lib.Dec.{leb}
 use borrow.Author.Tests.{le-leb, lt-leb}
 use Rattle.lists.specs.Ranges.{from}
 use Rattle.lists.specs.Spans.{stretch}
@@ -14,8 +12,8 @@ use Rattle.lists.specs.Words.{bytes}
 use Rattle.lists.proofs.Ranges.{getD-map-from}
 use Rattle.lists.proofs.Spans.{length-stretch}
 use Rattle.lists.proofs.Words.{length-bytes}
-use Rattle.model.specs.Outcome.{Outcome, accepted, refused, require}
-use Rattle.model.specs.Plan.{Plan, count}
+use Rattle.model.specs.Outcome.{Outcome, accepted, refused}
+use Rattle.model.specs.Plan.{count}
 use Rattle.model.specs.File.{Sheet, entry, points, chartOut, ringsOut, planOut, encode}
 use Rattle.model.specs.Calls.{planOf, writeCall}
 use Rattle.rings.specs.Tables.{startOf, startsOf, rows, table}

@@ -33,7 +33,7 @@ fn kept_of(n: usize) -> usize
 }
 
 // How many darts the rings have.
-pub fn darts_of(sizes: &[u8], n: usize) -> usize
+fn darts_of(sizes: &[u8], n: usize) -> usize
     ensures { λ r. ⌜ r ≡ dartsHeld (now (sizes .entry)) n ⌝ }
     ensures { λ r. ⌜ r ≤ 51000 ⌝ }
 {

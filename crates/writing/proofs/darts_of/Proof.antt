@@ -1,6 +1,6 @@
 -- darts_of meets its contract.
-use mathlib.Core.Path.{_≡_, refl, sym, ap, _∙_}
-use Prim.Native.Nat.{ℕ, suc, _+_, _-_, _*_, _≤_, _<_}
+use mathlib.Core.Path.{_≡_, ap, _∙_}
+use Prim.Native.Nat.{_+_, _-_, _*_, _≤_}
 use Rattle.rings.specs.Tables.{startOf}
 use Rattle.rings.proofs.Rows.{start-first, start-next}
 use Rattle.writing.specs.Files.{kept, dartsHeld}
@@ -50,7 +50,7 @@ loop-again c = let l = c .before .before .loop in (omega arith, omega arith, sta
 -- src/lib.rt:36:1
 returns : tie.Need-returns Inv-loop μ-loop
 unfolding dartsHeld
-returns c = 
+returns c =
     let l = c .before .loop in
     let all = c .before .before .kept-of .ensures .0 in
     let done : l .u ≡ kept (c .before .before .before .before .args .n) = omega arith in

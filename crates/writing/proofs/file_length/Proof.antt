@@ -1,6 +1,5 @@
 -- file_length meets its contract.
 use Rattle.writing.proofs.Lengths.{length-opened, length-labelled, length-charted}
-use native.Mathlib.Omega.{arith}
 use borrow.Author.Needs.{needs}
 use Rattle.writing.proofs.file_length.Statement.{statement}
 use Rattle.writing.proofs.file_length.Tie as tie

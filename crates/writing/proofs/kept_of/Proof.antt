@@ -1,7 +1,6 @@
 -- kept_of meets its contract.
 use Rattle.writing.specs.Files.{kept}
 use native.Mathlib.Omega.{arith}
-use borrow.Author.Needs.{needs}
 use Rattle.writing.proofs.kept_of.Statement.{statement}
 use Rattle.writing.proofs.kept_of.Tie as tie
 use Rattle.writing.proofs.kept_of.Reads as reads

@@ -1,7 +1,7 @@
 -- put_bytes meets its contract.
-use mathlib.Core.Path.{_≡_, refl, sym, ap, _∙_}
-use Prim.Native.Nat.{ℕ, suc, _+_, _-_, _*_, _≤_, _<_}
-use mathlib.Core.List.{List, [], _∷_, _++_}
+use mathlib.Core.Path.{refl}
+use Prim.Native.Nat.{_+_, _-_, _≤_}
+use mathlib.Core.List.{[], _∷_}
 use Rattle.lists.specs.Spans.{stretch}
 use Rattle.writing.proofs.Emits.{Emits, emits-start, emits-on, emits-end, emits-size, stretch-all, stretch-done, singles-more}
 use native.Mathlib.Omega.{arith}

@@ -1,4 +1,5 @@
-use native.Mathlib.Omega.{arith}
+-- put_file meets its contract.
+use Rattle.writing.proofs.Pieces.{opened-join, labelled-join, charted-join}
 use borrow.Author.Needs.{needs}
 use Rattle.writing.proofs.put_file.Statement.{statement}
 use Rattle.writing.proofs.put_file.Tie as tie
@@ -67,7 +68,9 @@ same-length c = search needs
 
 -- src/lib.rt:217:1
 returns : tie.Need-returns
-returns c = search needs
+returns c =
+    let a = c .before .before .before .before .before .before .before .before .before .before .before .before .before .args in
+    opened-join (a .n) (a .sizes .now) (a .entries .now) (a .labels .now) (a .w) (a .h) (a .xs .now) (a .ys .now) (a .out .now) (c .enum-told .given .1) (c .before .before .before .before .before .write-plan .ensures)
 
 -- src/lib.rt:217:1
 same-length-2 : tie.Need-same-length-2
@@ -75,7 +78,9 @@ same-length-2 c = search needs
 
 -- src/lib.rt:217:1
 returns-2 : tie.Need-returns-2
-returns-2 c = search needs
+returns-2 c =
+    let a = c .before .before .before .before .before .before .before .before .before .before .before .before .before .before .before .before .before .args in
+    labelled-join (a .n) (a .sizes .now) (a .entries .now) (a .labels .now) (a .w) (a .h) (a .xs .now) (a .ys .now) (a .out .now) (c .before .before .before .before .enum-told2 .given .1) (c .before .before .before .before .before .before .before .before .before .write-plan .ensures) (c .before .before .before .before .before .before .plan-length .ensures .0 (a .entries .now)) (c .before .before .write-labels .ensures)
 
 -- src/lib.rt:217:1
 same-length-3 : tie.Need-same-length-3
@@ -83,7 +88,9 @@ same-length-3 c = search needs
 
 -- src/lib.rt:217:1
 returns-3 : tie.Need-returns-3
-returns-3 c = search needs
+returns-3 c =
+    let a = c .before .before .before .before .before .before .before .before .before .before .before .before .before .before .before .before .before .before .before .before .before .before .args in
+    charted-join (a .n) (a .sizes .now) (a .entries .now) (a .labels .now) (a .w) (a .h) (a .xs .now) (a .ys .now) (a .out .now) (c .before .before .before .before .before .before .before .before .before .enum-told3 .given .1) (c .before .before .before .before .before .before .before .before .before .before .before .before .before .before .write-plan .ensures) (c .before .before .before .before .before .before .before .before .before .before .before .plan-length .ensures .0 (a .entries .now)) (c .before .before .before .before .before .before .before .write-labels2 .ensures) (c .before .before .before .before .labels-length .ensures .0 (a .labels .now)) (c .before .before .write-chart .ensures)
 
 pub put-file-spec : {M : Type 1} → statement M
 put-file-spec =

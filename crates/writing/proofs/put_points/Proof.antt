@@ -1,11 +1,11 @@
 -- put_points meets its contract.
-use mathlib.Core.Path.{_≡_, refl, sym, ap, _∙_}
-use Prim.Native.Nat.{ℕ, suc, _+_, _-_, _*_, _≤_, _<_}
-use mathlib.Core.List.{List, [], _∷_, _++_}
+use mathlib.Core.Path.{refl}
+use Prim.Native.Nat.{_+_, _-_, _*_, _≤_}
+use mathlib.Core.List.{[], _∷_, _++_}
 use Rattle.lists.specs.Spans.{stretch}
 use Rattle.lists.specs.Words.{bytes}
 use Rattle.model.specs.File.{points}
-use lib.ListN.{length, length-append}
+use lib.ListN.{length-append}
 use Rattle.writing.proofs.Emits.{Emits, emits-start, emits-on, emits-end, emits-size, bytes-two, pointsFrom, points-all, points-done, points-more}
 use Rattle.writing.proofs.Pieces.{sets-join}
 use native.Mathlib.Omega.{arith}
@@ -73,7 +73,7 @@ loop-less c = search needs
 
 -- src/lib.rt:135:5
 loop-again : tie.Need-loop-again Inv-loop μ-loop
-loop-again c = 
+loop-again c =
     let a = c .before .before .before .before .before .before .before .before .before .before .before .before .before .before .before .args in
     let l = c .before .before .before .before .before .before .before .before .before .before .before .loop in
     let x = c .before .before .before .before .before .before .before .before .num .result in

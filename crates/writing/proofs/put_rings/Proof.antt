@@ -1,9 +1,8 @@
 -- put_rings meets its contract.
-use mathlib.Core.Path.{_≡_, refl, sym, ap, _∙_}
-use Prim.Native.Nat.{ℕ, suc, _+_, _-_, _*_, _≤_, _<_}
+use mathlib.Core.Path.{_≡_, refl, ap, _∙_}
+use Prim.Native.Nat.{ℕ, _+_, _-_, _*_, _≤_}
 use lib.Seq.{sets}
-use mathlib.Core.List.{List, [], _∷_, _++_, map}
-use lib.ListN.{length}
+use mathlib.Core.List.{map}
 use Rattle.lists.specs.Ranges.{from}
 use Rattle.lists.proofs.Spans.{length-stretch}
 use Rattle.lists.proofs.Words.{length-bytes}
@@ -32,7 +31,7 @@ abbrev μ-loop : tie.MeasureT-loop
 
 -- src/lib.rt:167:5
 loop-holds : tie.Need-loop-holds Inv-loop μ-loop
-loop-holds c = 
+loop-holds c =
     let a = c .before .before .before .args in
     let all : a .n - 0 ≡ a .n = omega arith in
     (omega arith, omega arith, start-first (a .sizes .now), emits-start (omega arith) (ap (λ (k : ℕ). ringsOut (map (tableRow (a .sizes .now) (a .entries .now)) (from 0 k))) all))
@@ -75,7 +74,7 @@ loop-less c = search needs
 
 -- src/lib.rt:167:5
 loop-again : tie.Need-loop-again Inv-loop μ-loop
-loop-again c = 
+loop-again c =
     let a = c .before .before .before .before .before .before .before .before .before .before .args in
     let l = c .before .before .before .before .before .before .loop in
     let k = c .before .before .before .before .byte .result in
@@ -93,7 +92,7 @@ same-length c = emits-size (c .before .loop .inv .3)
 
 -- src/lib.rt:161:1
 returns : tie.Need-returns Inv-loop μ-loop
-returns c = 
+returns c =
     let a = c .before .before .before .before .before .args in
     emits-end (c .before .loop .inv .3) (rings-done (tableRow (a .sizes .now) (a .entries .now)) (a .n) (c .before .loop .u) (omega arith)) ∙ ap (sets (a .out .now) (a .at)) (table-rings (a .sizes .now) (a .entries .now) (a .n))
 

@@ -1,7 +1,6 @@
 -- put_word meets its contract.
-use mathlib.Core.Path.{_≡_, refl, sym, ap, _∙_}
-use Prim.Native.Nat.{ℕ, suc, _+_, _/_}
-use mathlib.Core.List.{List, [], _∷_, _++_}
+use mathlib.Core.Path.{_≡_, _∙_}
+use Prim.Native.Nat.{suc, _+_, _/_}
 use lib.ListN.{set}
 use Rattle.lists.specs.Words.{bytes}
 use native.Mathlib.Omega.{arith}
@@ -31,7 +30,7 @@ same-length c = search needs
 -- src/lib.rt:97:1
 returns : tie.Need-returns
 unfolding bytes
-returns c = 
+returns c =
     let a = c .before .before .before .before .before .before .before .before .before .args in
     let one : a .at + 1 ≡ suc (a .at) = omega arith in
     c .before .before .put-byte2 .ensures ∙ (λ i. set (c .before .before .before .before .before .before .put-byte .ensures i) (one i) (a .x / 256))

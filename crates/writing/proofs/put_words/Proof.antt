@@ -1,7 +1,7 @@
 -- put_words meets its contract.
-use mathlib.Core.Path.{_≡_, refl, sym, ap, _∙_}
-use Prim.Native.Nat.{ℕ, suc, _+_, _-_, _*_, _≤_, _<_}
-use mathlib.Core.List.{List, [], _∷_, _++_}
+use mathlib.Core.Path.{refl, ap}
+use Prim.Native.Nat.{_+_, _-_, _*_, _≤_}
+use mathlib.Core.List.{[], _∷_}
 use Rattle.lists.specs.Spans.{stretch}
 use Rattle.lists.specs.Words.{bytes}
 use Rattle.writing.proofs.Emits.{Emits, emits-start, emits-on, emits-end, emits-size, bytes-two, stretch-all, words-done, words-more}
@@ -54,7 +54,7 @@ loop-less c = search needs
 
 -- src/lib.rt:111:5
 loop-again : tie.Need-loop-again Inv-loop μ-loop
-loop-again c = 
+loop-again c =
     let a = c .before .before .before .before .before .before .before .before .before .args in
     let j = c .before .before .before .before .before .before .loop .j in
     let x = c .before .before .before .num .result in

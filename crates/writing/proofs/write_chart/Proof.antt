@@ -57,7 +57,7 @@ same-length c = search needs
 
 -- src/lib.rt:197:1
 returns : tie.Need-returns
-returns c = 
+returns c =
     let a = c .before .before .before .before .before .before .before .before .before .before .before .before .before .before .before .before .before .before .before .before .args in
     chart-join (a .out .now) (a .at) (a .w) (a .h) (a .xs .now) (a .ys .now) _ _ (c .before .before .before .before .before .before .before .before .before .before .before .before .before .before .before .before .kept-of .ensures .0) (c .before .before .before .before .before .before .before .before .before .before .before .before .before .before .put-head .ensures) (omega arith) (c .before .before .before .before .before .before .before .before .before .before .put-word .ensures) (omega arith) (c .before .before .before .before .before .before .put-word2 .ensures) (omega arith) (c .before .before .put-points .ensures)
 

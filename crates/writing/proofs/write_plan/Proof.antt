@@ -1,3 +1,5 @@
+-- write_plan meets its contract.
+use Rattle.writing.proofs.Pieces.{plan-join}
 use native.Mathlib.Omega.{arith}
 use borrow.Author.Needs.{needs}
 use Rattle.writing.proofs.write_plan.Statement.{statement}
@@ -39,7 +41,9 @@ same-length c = search needs
 
 -- src/lib.rt:176:1
 returns : tie.Need-returns
-returns c = search needs
+returns c =
+    let a = c .before .before .before .before .before .before .before .before .before .before .before .before .before .before .before .before .args in
+    plan-join (a .out .now) (a .at) (a .sizes .now) (a .entries .now) _ _ (c .before .before .before .before .before .before .before .before .before .before .before .before .kept-of .ensures .0) (c .before .before .before .before .before .before .before .before .before .before .put-head .ensures) (omega arith) (c .before .before .before .before .before .before .put-word .ensures) (omega arith) (c .before .before .put-rings .ensures)
 
 pub write-plan-spec : {M : Type 1} → statement M
 write-plan-spec =
