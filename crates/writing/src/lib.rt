@@ -119,10 +119,10 @@ fn put_bytes(out: &mut [u8], at: usize, a: &[u8], k: usize)
     requires { ⌜ (at < 2 ^ 39) × (k < 2 ^ 16) ⌝ }
     ensures { λ r. ⌜ now (out .exit) ≡ sets (now (out .entry)) at (stretch (now (a .entry)) 0 k) ⌝ }
 {
-    let mut j = 0;
-    while j < k {
-        put_byte(out, at + j, lists::byte(a, j));
-        j += 1;
+    let mut i = 0;
+    while i < k {
+        put_byte(out, at + i, lists::byte(a, i));
+        i += 1;
     }
 }
 

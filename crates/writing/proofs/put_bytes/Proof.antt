@@ -14,10 +14,10 @@ use Rattle.lists.proofs.byte.Reads as byte-reads
 use Rattle.writing.proofs.put_byte.Reads as put-byte-reads
 
 abbrev Inv-loop : tie.InvT-loop
-Inv-loop out₀ at a k j₀ out j = (j ≤ k) × Emits out₀ at (stretch a 0 k) out (at + j) (stretch a j (k - j))
+Inv-loop out₀ at a k i₀ out i = (i ≤ k) × Emits out₀ at (stretch a 0 k) out (at + i) (stretch a i (k - i))
 
 abbrev μ-loop : tie.MeasureT-loop
-μ-loop out₀ at a k j₀ out j = k - j
+μ-loop out₀ at a k i₀ out i = k - i
 
 -- src/lib.rt:123:5
 loop-holds : tie.Need-loop-holds Inv-loop μ-loop
@@ -36,8 +36,8 @@ put-byte-requires : tie.Need-put-byte-requires Inv-loop μ-loop
 put-byte-requires c κs = search needs
 
 -- src/lib.rt:125:9
-add-j : tie.Need-add-j Inv-loop μ-loop
-add-j c = search needs
+add-i : tie.Need-add-i Inv-loop μ-loop
+add-i c = search needs
 
 -- src/lib.rt:123:5
 loop-less : tie.Need-loop-less Inv-loop μ-loop
@@ -45,7 +45,7 @@ loop-less c = search needs
 
 -- src/lib.rt:123:5
 loop-again : tie.Need-loop-again Inv-loop μ-loop
-loop-again c = (omega arith, emits-on (c .before .before .before .before .before .before .loop .inv .1) (c .before .before .before .byte .result ∷ []) (singles-more (c .before .before .before .before .before .before .before .before .before .args .a .now) (c .before .before .before .before .before .before .before .before .before .args .k) (c .before .before .before .before .before .before .loop .j) (c .before .before .before .before .before .before .loop .j + 1) _ (omega arith) refl (c .before .before .before .byte .ensures .0)) (c .before .before .put-byte .ensures) (omega arith))
+loop-again c = (omega arith, emits-on (c .before .before .before .before .before .before .loop .inv .1) (c .before .before .before .byte .result ∷ []) (singles-more (c .before .before .before .before .before .before .before .before .before .args .a .now) (c .before .before .before .before .before .before .before .before .before .args .k) (c .before .before .before .before .before .before .loop .i) (c .before .before .before .before .before .before .loop .i + 1) _ (omega arith) refl (c .before .before .before .byte .ensures .0)) (c .before .before .put-byte .ensures) (omega arith))
 
 -- src/lib.rt:118:1
 same-length : tie.Need-same-length Inv-loop μ-loop
@@ -65,7 +65,7 @@ put-bytes-spec =
     add-put-byte
     byte-requires
     put-byte-requires
-    add-j
+    add-i
     loop-less
     loop-again
     same-length
