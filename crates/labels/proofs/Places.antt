@@ -1,5 +1,5 @@
 -- Where the labels of a ring stand in a flat array, and what the model says of them there.
-use Prim.Native.Nat.{ℕ, zero, suc, _+_, _-_, _≤_, _<_, min}
+use Prim.Native.Nat.{ℕ, zero, suc, _+_, _-_, _%_, _≤_, _<_, min}
 use mathlib.Core.Path.{_≡_, refl, sym, ap, _∙_}
 use mathlib.Core.List.{List, [], _∷_, _++_, map}
 use mathlib.Core.Bool.{Bool, true, false, cond}
@@ -26,6 +26,10 @@ pub getD-inside : (l : List ℕ) (i d e : ℕ) → i < length l → getD l i d �
 getD-inside [] i d e h = absurd (omega arith)
 getD-inside (a ∷ l) zero d e h = refl
 getD-inside (a ∷ l) (suc i) d e h = getD-inside l i d e (omega arith)
+
+-- whole turns do not matter
+pub turned-on : (l q : ℕ) → (l + q % 4) % 4 ≡ (l + q) % 4
+turned-on l q = omega arith
 
 -- of n contexts, at most 200
 pub held-small : (sizes es : List ℕ) (n : ℕ) → n ≤ 200 → held sizes es n ≡ table sizes es n

@@ -1,3 +1,10 @@
+-- change::put_label meets its contract.
+use mathlib.Core.Path.{refl, ap, _∙_}
+use Prim.Native.Nat.{ℕ}
+use Rattle.model.specs.Labels.{put}
+use Rattle.rings.specs.Tables.{table}
+use Rattle.labels.specs.Held.{held}
+use Rattle.labels.proofs.Places.{put-there, put-none}
 use native.Mathlib.Omega.{arith}
 use borrow.Author.Needs.{needs}
 use Rattle.labels.proofs.change.put_label.Statement.{statement}
@@ -49,11 +56,13 @@ store-requires c κs = search needs
 
 -- src/change.rt:35:9
 returns : tie.Need-returns
-returns c = ?
+unfolding held
+returns c = let a = c .before .before .before .before .before .before .before .before .before .before .before .args in c .store .ensures ∙ put-there (c .before .before .before .before .before .before .before .before .starts-of .result) (a .sizes .now) (a .entries .now) (c .before .before .before .before .before .before .before .lesser .result) (c .before .before .before .before .before .before .before .before .starts-of .ensures) (omega arith) (a .u) (a .v) (c .before .num .ensures .0) (c .before .before .before .before .before .index-of .ensures .0) (c .before .before .before .before .size-of .ensures .0) (a .labels) (a .l) (omega arith) ∙ ap (λ (m : ℕ). put (table (a .sizes .now) (a .entries .now) m) (a .u) (a .v) (a .l) (a .labels)) (c .before .before .before .before .before .before .before .lesser .ensures)
 
 -- src/change.rt:20:1
 returns-2 : tie.Need-returns-2
-returns-2 c = ?
+unfolding held
+returns-2 c = let a = c .before .before .before .before .before .before .before .before .args in put-none (c .before .before .before .before .before .starts-of .result) (a .sizes .now) (a .entries .now) (c .before .before .before .before .lesser .result) (c .before .before .before .before .before .starts-of .ensures) (omega arith) (a .u) (a .v) refl (c .before .before .index-of .ensures .0) (c .before .size-of .ensures .0) (a .labels) (a .l) (omega arith) ∙ ap (λ (m : ℕ). put (table (a .sizes .now) (a .entries .now) m) (a .u) (a .v) (a .l) (a .labels)) (c .before .before .before .before .lesser .ensures)
 
 pub put-label-spec : {M : Type 1} → statement M
 put-label-spec =

@@ -1,3 +1,10 @@
+-- change::turn_dart meets its contract.
+use mathlib.Core.Path.{ap, _∙_}
+use Prim.Native.Nat.{ℕ, _+_, _%_}
+use Rattle.model.specs.Labels.{put}
+use Rattle.model.specs.Turn.{turnDart}
+use Rattle.labels.specs.Held.{held}
+use Rattle.labels.proofs.Places.{turned-on}
 use native.Mathlib.Omega.{arith}
 use borrow.Author.Needs.{needs}
 use Rattle.labels.proofs.change.turn_dart.Statement.{statement}
@@ -29,7 +36,8 @@ put-label-requires c κs = search needs
 
 -- src/change.rt:41:1
 returns : tie.Need-returns
-returns c = ?
+unfolding turnDart
+returns c = let a = c .before .before .before .before .before .args in let l = c .before .label-of .ensures .0 in c .put-label .ensures ∙ ap (λ (k : ℕ). put (held (a .sizes .now) (a .entries .now) (a .n)) (a .u) (a .v) k (a .t1)) (turned-on (c .before .label-of .result) (a .quarters) ∙ ap (λ (k : ℕ). (k + a .quarters) % 4) l)
 
 pub turn-dart-spec : {M : Type 1} → statement M
 turn-dart-spec =

@@ -1,3 +1,7 @@
+-- change::turn_edge meets its contract.
+use mathlib.Core.Path.{ap, _∙_}
+use Rattle.model.specs.Turn.{turnDart}
+use Rattle.labels.specs.Held.{held}
 use native.Mathlib.Omega.{arith}
 use borrow.Author.Needs.{needs}
 use Rattle.labels.proofs.change.turn_edge.Statement.{statement}
@@ -16,7 +20,7 @@ turn-dart-requires-2 c κs = search needs
 
 -- src/change.rt:58:1
 returns : tie.Need-returns
-returns c = ?
+returns c = let a = c .before .before .before .before .args in c .turn-dart2 .ensures ∙ ap (turnDart (held (a .sizes .now) (a .entries .now) (a .n)) (a .quarters) (a .u, a .v)) (c .before .turn-dart .ensures)
 
 pub turn-edge-spec : {M : Type 1} → statement M
 turn-edge-spec = tie.close (tie.spec turn-dart-requires turn-dart-requires-2 returns)
