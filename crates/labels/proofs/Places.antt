@@ -1,0 +1,139 @@
+-- Where the labels of a ring stand in a flat array, and what the model says of them there.
+use Prim.Native.Nat.{ℕ, zero, suc, _+_, _-_, _%_, _≤_, _<_, min}
+use mathlib.Core.Path.{_≡_, refl, sym, ap, _∙_}
+use mathlib.Core.List.{List, [], _∷_, _++_, map}
+use mathlib.Core.Bool.{Bool, true, false, cond}
+use native.Mathlib.Omega.{arith}
+use lib.ListN.{length, getD, set, take, drop, length-append, length-take, List·getD-eq-default}
+use lib.Seq.{slice, take-nil, getD-take, getD-drop}
+use lib.Dec.{ltb}
+use borrow.Author.Tests.{ltb-true, ltb-false, lt-ltb, le-ltb}
+use Rattle.lists.specs.Tests.{any, member}
+use Rattle.lists.specs.Ranges.{from}
+use Rattle.lists.specs.Parts.{concat, indexOf}
+use Rattle.lists.specs.Spans.{stretch, span}
+use Rattle.lists.proofs.Tests.{any-map}
+use Rattle.lists.proofs.Ranges.{getD-map-from}
+use Rattle.lists.proofs.Spans.{length-stretch}
+use Rattle.model.specs.Plan.{Plan, neighbour, entries, ring, adjacent}
+use Rattle.model.specs.Labels.{unlabelled, start, labelsAround, labelOf, put}
+use Rattle.rings.specs.Tables.{startOf, startsOf, sizeOf, rows, table}
+use Rattle.rings.proofs.Rows.{start-first, start-more, size-outside, entries-rows, ring-rows, ring-size, member-index}
+use Rattle.labels.specs.Held.{held}
+
+-- inside a list it does not matter what lies outside
+pub getD-inside : (l : List ℕ) (i d e : ℕ) → i < length l → getD l i d ≡ getD l i e
+getD-inside [] i d e h = absurd (omega arith)
+getD-inside (a ∷ l) zero d e h = refl
+getD-inside (a ∷ l) (suc i) d e h = getD-inside l i d e (omega arith)
+
+-- whole turns do not matter
+pub turned-on : (l q : ℕ) → (l + q % 4) % 4 ≡ (l + q) % 4
+turned-on l q = omega arith
+
+-- of n contexts, at most 200
+pub held-small : (sizes es : List ℕ) (n : ℕ) → n ≤ 200 → held sizes es n ≡ table sizes es n
+unfolding held
+held-small sizes es n h = let z : min n 200 ≡ n = omega arith in ap (table sizes es) z
+
+-- ---- the lists before the u-th, joined, are as long as the sum of their sizes
+module _ (sizes : List ℕ) (f : ℕ → List ℕ) (long : (w : ℕ) → length (f w) ≡ getD sizes w 0) where
+  joined-length : (a k u : ℕ) → u ≤ k → startOf sizes a + length (concat (take u (map f (from a k)))) ≡ startOf sizes (a + u)
+  joined-length a k zero h = let z : a + 0 ≡ a = omega arith in rw z (omega arith)
+  joined-length a zero (suc u) h = absurd (omega arith)
+  joined-length a (suc k) (suc u) h =
+      let r = joined-length (suc a) k u (omega arith) in
+      let m = start-more sizes a in
+      let l = long a in
+      let c = length-append (f a) (concat (take u (map f (from (suc a) k)))) in
+      let z : startOf sizes (suc a + u) ≡ startOf sizes (a + suc u) = ap (startOf sizes) (omega arith) in
+      omega arith
+
+drop-take : (s k : ℕ) (l : List ℕ) → drop s (take (s + k) l) ≡ take k (drop s l)
+drop-take zero k l = let z : 0 + k ≡ k = omega arith in rw z
+drop-take (suc s) k [] = let z : suc s + k ≡ suc (s + k) = omega arith in rw z (sym (take-nil k))
+drop-take (suc s) k (x ∷ l) = let z : suc s + k ≡ suc (s + k) = omega arith in rw z (drop-take s k l)
+
+module _ (starts sizes es : List ℕ) (n : ℕ) (same : starts ≡ startsOf sizes) (small : n ≤ 200) where
+  -- the plan that these starts give
+  abbrev Rows : Plan
+  Rows = rows starts sizes es n
+
+  -- where u's labels begin
+  start-rows : (u : ℕ) → u ≤ n → start Rows u ≡ startOf sizes u
+  unfolding start rows
+  start-rows u h =
+      let r = joined-length sizes (λ (w : ℕ). stretch es (getD starts w 0) (getD sizes w 0)) (λ w. length-stretch es (getD starts w 0) (getD sizes w 0)) 0 n u h in
+      let z = start-first sizes in
+      let e : startOf sizes (0 + u) ≡ startOf sizes u = ap (startOf sizes) (omega arith) in
+      omega arith
+
+  start-held : (u : ℕ) → u < n → getD starts u 0 ≡ start Rows u
+  unfolding startsOf
+  start-held u h =
+      ap (λ (l : List ℕ). getD l u 0) same ∙ getD-map-from (startOf sizes) 0 200 u 0 (omega arith) ∙ ap (startOf sizes) (omega arith) ∙ sym (start-rows u (omega arith))
+
+  size-rows : (u : ℕ) → length (entries Rows u) ≡ sizeOf sizes n u
+  size-rows u = ap length (entries-rows starts sizes es n u) ∙ length-stretch es (getD starts u 0) (sizeOf sizes n u)
+
+  -- these starts are those of the table
+  is-table : Rows ≡ table sizes es n
+  unfolding table
+  is-table = ap (λ (l : List ℕ). rows l sizes es n) same
+
+  -- only a context has a ring
+  within : (u i : ℕ) → i < sizeOf sizes n u → u < n
+  within u i h = go (ltb u n) refl
+    where
+      go : (t : Bool) → ltb u n ≡ t → u < n
+      go true q = ltb-true u n q
+      go false q = let z = size-outside sizes n u (ltb-false u n q) in absurd (omega arith)
+
+  module _ (u v : ℕ) {s i k : ℕ} (from-s : s ≡ getD starts u 0) (at : i ≡ indexOf v (ring (rows starts sizes es n) u)) (size : k ≡ sizeOf sizes n u) where
+    begins : i < k → s ≡ start Rows u
+    begins h = from-s ∙ start-held u (within u i (omega arith))
+
+    -- there is a dart from u to v: its label stands at s + i
+    pub label-there : (ls : List ℕ) → i < k → getD ls (s + i) unlabelled ≡ labelOf (table sizes es n) ls u v
+    unfolding labelOf labelsAround
+    label-there ls h =
+        sym
+        ((λ j. getD (take (size-rows u j) (drop (sym (begins h) j) ls)) (sym at j) 5)
+        ∙ getD-take (sizeOf sizes n u) (drop s ls) i 5 (omega arith)
+        ∙ getD-drop s ls i 5)
+        ∙ ap (λ (p : Plan). labelOf p ls u v) is-table
+
+    -- there is none, and no label
+    pub label-none : (ls : List ℕ) → k ≤ i → unlabelled ≡ labelOf (table sizes es n) ls u v
+    unfolding labelOf labelsAround
+    label-none ls h =
+        let l = length-take (length (entries Rows u)) (drop (start Rows u) ls) in
+        let z = size-rows u in
+        sym (List·getD-eq-default (take (length (entries Rows u)) (drop (start Rows u) ls)) 5 (omega arith)) ∙ ap (λ (p : Plan). labelOf p ls u v) is-table
+
+    is-dart : adjacent Rows u v ≡ ltb i k
+    unfolding adjacent
+    is-dart = member-index v (ring Rows u) ∙ (λ j. ltb (sym at j) ((ring-size starts sizes es n u ∙ sym size) j))
+
+    -- a label put on that dart is put at s + i
+    pub put-there : (ls : List ℕ) (l : ℕ) → i < k → set ls (s + i) l ≡ put (table sizes es n) u v l ls
+    unfolding put
+    put-there ls l h = (λ j. set ls (begins h j + at j) l) ∙ sym (rw (is-dart ∙ lt-ltb i k h)) ∙ ap (λ (p : Plan). put p u v l ls) is-table
+
+    pub put-none : (ls : List ℕ) (l : ℕ) → k ≤ i → ls ≡ put (table sizes es n) u v l ls
+    unfolding put
+    put-none ls l h = sym (rw (is-dart ∙ le-ltb i k h)) ∙ ap (λ (p : Plan). put p u v l ls) is-table
+
+  -- ---- the labels around u, and the entries of its ring, as a stretch of an array
+  module _ (u : ℕ) {s k : ℕ} (from-s : s ≡ getD starts u 0) (size : k ≡ sizeOf sizes n u) where
+    pub around-held : (ls : List ℕ) → u < n → slice s (s + k) ls ≡ labelsAround (table sizes es n) ls u
+    unfolding labelsAround
+    around-held ls h =
+        drop-take s k ls ∙ (λ j. take ((size ∙ sym (size-rows u)) j) (drop ((from-s ∙ start-held u h) j) ls)) ∙ ap (λ (p : Plan). labelsAround p ls u) is-table
+
+    pub ring-any : (f : ℕ → Bool) → any (λ (x : ℕ). f (neighbour x)) (span es s (s + k)) ≡ any f (ring (table sizes es n) u)
+    ring-any f =
+        let z : s + k - s ≡ k = omega arith in
+        any-map f neighbour (span es s (s + k))
+        ∙ (λ j. any f (map neighbour (stretch es (from-s j) ((z ∙ size) j))))
+        ∙ ap (any f) (sym (ring-rows starts sizes es n u) ∙ ap (λ (p : Plan). ring p u) is-table)

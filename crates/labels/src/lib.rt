@@ -1,0 +1,82 @@
+// Labels of darts in a flat array: the label of a dart, the label rules, and changes of labels, each equal to a definition of the model.
+ghost use mathlib.Core.Path.{_≡_};
+ghost use Prim.Native.Nat.{min, _≤_, _<_, _^_};
+ghost use lib.ListN.{getD};
+ghost use Rattle.model.specs.Labels.{unlabelled, labelOf, due};
+ghost use Rattle.rings.specs.Tables.{startsOf, table};
+ghost use Rattle.labels.specs.Held.{held};
+
+pub mod change;
+pub mod rules;
+pub mod runs;
+
+// The lesser of two numbers.
+fn lesser(a: usize, b: usize) -> usize
+    ensures { λ r. ⌜ r ≡ min a b ⌝ }
+{
+    if a < b { a } else { b }
+}
+
+// The label at i; past the last there is none, which is 5.
+pub fn label_at(labels: &[u8], i: usize) -> usize
+    ensures { λ r. ⌜ r ≡ getD (now (labels .entry)) i unlabelled ⌝ }
+    ensures { λ r. ⌜ r < 2 ^ 8 ⌝ }
+{
+    if i < labels.len() {
+        lists::wide_byte(labels[i])
+    } else {
+        5
+    }
+}
+
+// The label due on the inner darts that leave a context: North's are down, East's left, South's up, West's right; no one label is due at an inner context.
+pub fn due_label(u: usize) -> usize
+    ensures { λ r. ⌜ r ≡ due u ⌝ }
+{
+    match u {
+        0 => 2,
+        1 => 3,
+        2 => 0,
+        3 => 1,
+        4..=199 => 5,
+        _ => 5,
+    }
+}
+
+// The label of the dart from u to v, where the rings begin at these starts.
+fn label_in<'a>(
+    starts: &'a [u16],
+    sizes: &'a [u8],
+    entries: &'a [u16],
+    n: usize,
+    labels: &'a [u8],
+    u: usize,
+    v: usize,
+) -> usize
+    requires { ⌜ now starts ≡ startsOf (now sizes) ⌝ }
+    requires { ⌜ n ≤ 200 ⌝ }
+    ensures { λ r. ⌜ r ≡ labelOf (table (now (sizes .entry)) (now (entries .entry)) n) (now (labels .entry)) u v ⌝ }
+    ensures { λ r. ⌜ r < 2 ^ 8 ⌝ }
+{
+    let i = rings::index_of(starts, sizes, entries, n, u, v);
+    if i < rings::size_of(sizes, n, u) {
+        return label_at(labels, lists::num(starts, u) + i);
+    }
+    5
+}
+
+// The label of the dart from u to v; 5 where there is no dart or no label.
+pub fn label_of<'a>(
+    sizes: &'a [u8],
+    entries: &'a [u16],
+    n: usize,
+    labels: &'a [u8],
+    u: usize,
+    v: usize,
+) -> usize
+    ensures { λ r. ⌜ r ≡ labelOf (held (now (sizes .entry)) (now (entries .entry)) n) (now (labels .entry)) u v ⌝ }
+    ensures { λ r. ⌜ r < 2 ^ 8 ⌝ }
+{
+    let starts = rings::starts_of(sizes);
+    label_in(&starts, sizes, entries, lesser(n, 200), labels, u, v)
+}
