@@ -1,12 +1,11 @@
 -- What the arrays hold where n is at most 200 and the arrays reach as far: the plain table, the first labels, the first points.
 use Prim.Native.Nat.{ℕ, zero, suc, _+_, _≤_}
 use mathlib.Core.Path.{_≡_, refl, ap, _∙_}
-use mathlib.Core.List.{List, _∷_}
+use mathlib.Core.List.{List}
 use native.Mathlib.Omega.{arith}
-use lib.ListN.{length, getD, take, drop}
+use lib.ListN.{length, take, drop}
 use lib.Seq.{drop-cons}
 use Rattle.lists.specs.Spans.{stretch}
-use Rattle.model.specs.Chart.{Chart}
 use Rattle.rings.specs.Tables.{startOf, table}
 use Rattle.writing.specs.Files.{kept, planHeld, dartsHeld, labelsHeld, chartHeld}
 
