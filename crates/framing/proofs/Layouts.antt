@@ -62,13 +62,13 @@ module _ (file : List ℕ) where
 -- a refusal, whatever came before it
 pub lays-refused : (file : List ℕ) {o : Outcome Sheet} {l : Layout} (k p : ℕ) → l ≡ nothing k p → o ≡ refused k p → Lays file o l
 unfolding sheetIn tidied
-lays-refused file {o} k p e q = subst (Lays file o) (sym e) (record { told = sym q; tidy = refl; few = omega arith; labels-near = omega arith; chart-near = omega arith })
+lays-refused file {o} k p e q = subst (Lays file o) (sym e) (record { told = sym q; tidy = refl; enough = tt; few = omega arith; labels-near = omega arith; chart-near = omega arith })
 
 -- the same outcome, said otherwise
 pub lays-as : {file : List ℕ} {o o′ : Outcome Sheet} {l : Layout} → o ≡ o′ → Lays file o l → Lays file o′ l
 lays-as {file} {l = l} e h = subst (λ (q : Outcome Sheet). Lays file q l) e h
 
-module _ (file sizes : List ℕ) (n : ℕ) (few : n ≤ 200) (whole : sizes ≡ padded 200 (stretch sizes 0 n)) where
+module _ (file sizes : List ℕ) (n : ℕ) (enough : 5 ≤ n) (few : n ≤ 200) (whole : sizes ≡ padded 200 (stretch sizes 0 n)) where
   -- the end behind the rings
   pub lays-opened : (at : ℕ) → length file ≤ at
       → Lays file (restFrom file (planIn file sizes n) [] (optional n) at) (record { found = Opened; n = n; sizes = sizes; labels = 0; chart = 0 })
@@ -77,6 +77,7 @@ module _ (file sizes : List ℕ) (n : ℕ) (few : n ≤ 200) (whole : sizes ≡ 
       record {
         told = sym (rest-done file (planIn file sizes n) [] (optional n) at (rest-end file (optional n) at h));
         tidy = λ i. record { found = Opened; n = n; sizes = whole i; labels = 0; chart = 0 };
+        enough = enough;
         few = few;
         labels-near = omega arith;
         chart-near = omega arith;
@@ -92,6 +93,7 @@ module _ (file sizes : List ℕ) (n : ℕ) (few : n ≤ 200) (whole : sizes ≡ 
       record {
         told = sym (rest-done file (planIn file sizes n) (labelsIn file n labels ∷ []) due (labels + dartCount n) (rest-end file due (labels + dartCount n) h));
         tidy = λ i. record { found = Labelled; n = n; sizes = whole i; labels = labels; chart = 0 };
+        enough = enough;
         few = few;
         labels-near = omega arith;
         chart-near = omega arith;
@@ -111,6 +113,7 @@ module _ (file sizes : List ℕ) (n : ℕ) (few : n ≤ 200) (whole : sizes ≡ 
             ap (λ (l : List ℕ). accepted (charted p ls (chartIn l))) (sym numbers)
             ∙ sym (rest-done file p (ls ∷ stretch file chart (4 + 4 * n) ∷ []) [] (chart + (4 + 4 * n)) e);
         tidy = λ i. record { found = Charted; n = n; sizes = whole i; labels = labels; chart = chart };
+        enough = enough;
         few = few;
         labels-near = omega arith;
         chart-near = omega arith;

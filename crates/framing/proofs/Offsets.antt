@@ -4,10 +4,10 @@ use mathlib.Core.Path.{_≡_, refl, sym, ap, _∙_}
 use mathlib.Core.List.{List, [], _∷_}
 use mathlib.Core.Bool.{Bool, true, false, cond, _&&_}
 use native.Mathlib.Omega.{arith}
-use lib.ListN.{length, getD, take, drop, length-drop, drop-of-length-le}
+use lib.ListN.{length, getD, take, drop, length-take, length-drop, drop-of-length-le}
 use lib.Seq.{getD-drop, drop-drop, drop-cons}
 use lib.Dec.{eqb, leb}
-use borrow.Author.Tests.{leb-true, le-leb, lt-leb, eq-eqb, ne-eqb}
+use borrow.Author.Tests.{leb-true, leb-false, le-leb, lt-leb, eq-eqb, ne-eqb}
 use Rattle.lists.specs.Tests.{empty}
 use Rattle.lists.specs.Words.{word, words}
 use Rattle.lists.specs.Spans.{stretch}
@@ -161,3 +161,15 @@ part-fits s at k h = rw (le-leb (at + k) (length s) h)
 pub part-past : (s : List ℕ) (at k : ℕ) → length s < at + k → [] ≡ partAt s at k
 unfolding partAt
 part-past s at k h = rw (lt-leb (at + k) (length s) h)
+
+-- a part that has its whole size
+pub part-whole : (s : List ℕ) (at k : ℕ) → length (take k (drop at s)) ≡ k → take k (drop at s) ≡ partAt s at k
+unfolding partAt
+part-whole s at k h = go (leb (at + k) (length s)) refl
+  where
+    none : k ≡ 0 → take k (drop at s) ≡ []
+    none z = rw z
+
+    go : (t : Bool) → leb (at + k) (length s) ≡ t → take k (drop at s) ≡ cond t (take k (drop at s)) []
+    go true q = refl
+    go false q = none (let l = leb-false (at + k) (length s) q in omega (arith, length-take k (drop at s), length-drop at s))

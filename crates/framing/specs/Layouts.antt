@@ -49,6 +49,13 @@ tidyAs (Refused k at) n sizes l c = record { found = Refused k at; n = 0; sizes 
 unfoldable pub tidied : Layout → Layout
 tidied l = tidyAs (l .found) (l .n) (l .sizes) (l .labels) (l .chart)
 
+-- a file that is not refused has 5 contexts or more
+abbrev pub Enough : Found → ℕ → Type 0
+Enough Opened n = 5 ≤ n
+Enough Labelled n = 5 ≤ n
+Enough Charted n = 5 ≤ n
+Enough (Refused k at) n = Unit {0}
+
 -- a refusal, and nothing beside it
 abbrev pub nothing : ℕ → ℕ → Layout
 nothing k at = record { found = Refused k at; n = 0; sizes = zeros 200; labels = 0; chart = 0 }
@@ -73,6 +80,7 @@ planFrom file n = do
 pub record Lays (file : List ℕ) (o : Outcome Sheet) (l : Layout) : Type 0 where
   pub told : sheetIn file l ≡ o
   pub tidy : l ≡ tidied l
+  pub enough : Enough (l .found) (l .n)
   pub few : l .n ≤ 200
   pub labels-near : l .labels < 2 ^ 17
   pub chart-near : l .chart < 2 ^ 17

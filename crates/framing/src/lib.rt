@@ -9,7 +9,7 @@ ghost use Rattle.lists.specs.Spans.{stretch, padded};
 ghost use Rattle.model.specs.Plan.{dartCount};
 ghost use Rattle.model.specs.File.{frame, fitsRing, frameRings, frameRest, optional, decode};
 ghost use Rattle.framing.specs.Offsets.{cursor, wordAt, frameAt, framedOf, dueOf, endOf, ringOf, RingBelow, walkOf, WalkBounds, partAt};
-ghost use Rattle.framing.specs.Layouts.{planIn, labelsIn, sheetIn, tidied, restFrom, planFrom, Lays, nothing};
+ghost use Rattle.framing.specs.Layouts.{planIn, labelsIn, sheetIn, tidied, restFrom, planFrom, Enough, Lays, nothing};
 
 // The record at an offset: its kind and the size of its body; broken where its length is missing, under 2 or past the end.
 pub enum Frame {
@@ -18,22 +18,22 @@ pub enum Frame {
 }
 
 // What is due at an offset: it is there, or the refusal's number and place.
-pub enum Due {
+enum Due {
     There,
     Refused(u8, usize),
 }
 
 // The ring record at an offset: the number of its entries, or the refusal's number and place.
-pub enum Ring {
+enum Ring {
     Size(usize),
     Unfit(u8, usize),
 }
 
 // All ring records: whether they are there, the number of entries of each, and the offset behind them.
-pub struct Walk {
-    pub due: Due,
-    pub sizes: [u8; 200],
-    pub at: usize,
+struct Walk {
+    due: Due,
+    sizes: [u8; 200],
+    at: usize,
 }
 
 // What a file holds: a plan, labels too, a chart too; or the refusal's number and place.
@@ -95,16 +95,16 @@ fn due_at(file: &[u8], at: usize, kind: usize, size: usize) -> Due
 }
 
 // The end is due: a whole record there is 2.
-fn end_at(file: &[u8], at: usize) -> Due
-    ensures { λ r. ⌜ endOf r ≡ frameRest [] (cursor (now (file .entry)) at) ⌝ }
+fn end_at(file: &[u8], end: usize) -> Due
+    ensures { λ r. ⌜ endOf r ≡ frameRest [] (cursor (now (file .entry)) end) ⌝ }
 {
-    if file.len() <= at {
+    if file.len() <= end {
         return Due::There;
     }
-    let f = frame_at(file, at);
+    let f = frame_at(file, end);
     match f {
-        Frame::Broken => Due::Refused(1, at),
-        Frame::Body(_, _) => Due::Refused(2, at),
+        Frame::Broken => Due::Refused(1, end),
+        Frame::Body(_, _) => Due::Refused(2, end),
     }
 }
 
@@ -180,6 +180,7 @@ fn refused(number: u8, place: usize) -> Layout
 
 // Behind a chart: the end.
 fn frame_end(file: &[u8], n: usize, sizes: [u8; 200], labels: usize, chart: usize) -> Layout
+    requires { ⌜ 5 ≤ n ⌝ }
     requires { ⌜ n ≤ 200 ⌝ }
     requires { ⌜ labels ≤ 80410 ⌝ }
     requires { ⌜ chart ≤ 81600 ⌝ }
@@ -273,6 +274,7 @@ fn frame_plan(file: &[u8]) -> Layout
 pub fn frame_file(file: &[u8]) -> Layout
     ensures { λ r. ⌜ sheetIn (now (file .entry)) r ≡ decode (now (file .entry)) ⌝ }
     ensures { λ r. ⌜ r ≡ tidied r ⌝ }
+    ensures { λ r. ⌜ Enough (r .found) (r .n) ⌝ }
     ensures { λ r. ⌜ r .n ≤ 200 ⌝ }
     ensures { λ r. ⌜ r .labels < 2 ^ 17 ⌝ }
     ensures { λ r. ⌜ r .chart < 2 ^ 17 ⌝ }

@@ -15,7 +15,7 @@ use Rattle.framing.proofs.frame_at.Reads as frame-at-reads
 
 -- src/lib.rt:102:9
 returns : tie.Need-returns
-returns c = let a = c .before .before .args in rest-end (a .file .now) [] (a .at) (c .if1 .taken)
+returns c = let a = c .before .before .args in rest-end (a .file .now) [] (a .end) (c .if1 .taken)
 
 -- src/lib.rt:104:9
 frame-at-requires : tie.Need-frame-at-requires
@@ -34,14 +34,14 @@ returns-2 : tie.Need-returns-2
 returns-2 c =
     let a = c .before .before .before .before .before .args in
     let never : ℕ → Bool = λ (m : ℕ). false in
-    end-refused (a .file .now) (a .at) 1 (a .at) (c .before .before .before .if1 .left) (as-broken (a .file .now) (a .at) 0 never (c .before .before .frame-at .ensures .1 0 never) (c .enum-told .given .1))
+    end-refused (a .file .now) (a .end) 1 (a .end) (c .before .before .before .if1 .left) (as-broken (a .file .now) (a .end) 0 never (c .before .before .frame-at .ensures .1 0 never) (c .enum-told .given .1))
 
 -- src/lib.rt:98:1
 returns-3 : tie.Need-returns-3
 returns-3 c =
     let a = c .before .before .before .before .before .args in
     let never : ℕ → Bool = λ (m : ℕ). false in
-    end-refused (a .file .now) (a .at) 2 (a .at) (c .before .before .before .if1 .left) (as-size (a .file .now) (a .at) 0 never (c .before .before .frame-at .ensures .1 0 never) _ _ (c .enum-told2 .given .1) refl)
+    end-refused (a .file .now) (a .end) 2 (a .end) (c .before .before .before .if1 .left) (as-size (a .file .now) (a .end) 0 never (c .before .before .frame-at .ensures .1 0 never) _ _ (c .enum-told2 .given .1) refl)
 
 pub end-at-spec : {M : Type 1} → statement M
 end-at-spec =

@@ -34,7 +34,7 @@ returns : tie.Need-returns
 returns c =
     let a = c .before .before .args in
     let p = c .before .before .pre in
-    lays-labelled (a .file .now) (a .sizes) (a .n) (p .1 .0) (p .1 .1 .1) (a .labels) (p .1 .1 .0) (c .if1 .taken)
+    lays-labelled (a .file .now) (a .sizes) (a .n) (p .0) (p .1 .0) (p .1 .1 .1) (a .labels) (p .1 .1 .0) (c .if1 .taken)
 
 -- src/lib.rt:220:39
 mul-due-at : tie.Need-mul-due-at
@@ -66,7 +66,7 @@ add-frame-end c = search needs
 
 -- src/lib.rt:223:23
 frame-end-requires : tie.Need-frame-end-requires
-frame-end-requires c κs = let p = c .before .before .before .before .before .pre in (p .1 .0, (p .1 .1 .0, (omega arith, p .1 .1 .1)))
+frame-end-requires c κs = let p = c .before .before .before .before .before .pre in (p .0, (p .1 .0, (p .1 .1 .0, (omega arith, p .1 .1 .1))))
 
 -- src/lib.rt:203:1
 returns-2 : tie.Need-returns-2

@@ -58,7 +58,7 @@ returns-2 c =
     let a = c .before .before .before .before .args in
     let p = c .before .before .before .before .pre in
     let e = sym (ap endOf (c .enum-told .given .1)) ∙ c .before .before .end-at .ensures in
-    lays-charted (a .file .now) (a .sizes) (a .n) (p .0) (p .1 .1 .1) (a .labels) (a .chart) (p .1 .0) (p .1 .1 .0) e
+    lays-charted (a .file .now) (a .sizes) (a .n) (p .0) (p .1 .0) (p .1 .1 .1 .1) (a .labels) (a .chart) (p .1 .1 .0) (p .1 .1 .1 .0) e
 
 pub frame-end-spec : {M : Type 1} → statement M
 frame-end-spec =

@@ -38,7 +38,7 @@ returns c =
     let f = c .before .before .before .before .before .before .args .file .now in
     let e = sym (ap (dueOf f 0 2) (c .before .before .head .given .1)) ∙ c .before .before .before .before .due-at .ensures in
     let l = lays-refused f _ _ (c .refused .ensures) (file-refused f _ _ e) in
-    (l .told, (l .tidy, (l .few, (l .labels-near, l .chart-near))))
+    (l .told, (l .tidy, (l .enough, (l .few, (l .labels-near, l .chart-near)))))
 
 -- src/lib.rt:273:1
 returns-2 : tie.Need-returns-2
@@ -46,7 +46,7 @@ returns-2 c =
     let f = c .before .before .before .before .before .args .file .now in
     let e = sym (ap (dueOf f 0 2) (c .before .enum-told .given .1)) ∙ c .before .before .before .due-at .ensures in
     let l = lays-as (file-there f e) (c .frame-plan .ensures) in
-    (l .told, (l .tidy, (l .few, (l .labels-near, l .chart-near))))
+    (l .told, (l .tidy, (l .enough, (l .few, (l .labels-near, l .chart-near)))))
 
 pub frame-file-spec : {M : Type 1} → statement M
 frame-file-spec =

@@ -23,7 +23,7 @@ returns : tie.Need-returns
 returns c =
     let a = c .before .before .args in
     let p = c .before .before .pre in
-    lays-opened (a .file .now) (a .sizes) (a .n) (p .1 .0) (p .1 .1 .1) (a .at) (c .if1 .taken)
+    lays-opened (a .file .now) (a .sizes) (a .n) (p .0) (p .1 .0) (p .1 .1 .1) (a .at) (c .if1 .taken)
 
 -- src/lib.rt:244:35
 mul-due-at : tie.Need-mul-due-at
