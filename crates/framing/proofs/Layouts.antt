@@ -1,23 +1,21 @@
 -- From the records to the layout: each step of framing tells what the model decodes.
-use Prim.Native.Nat.{ℕ, _+_, _-_, _*_, _^_, _≤_, _<_}
+use Prim.Native.Nat.{ℕ, _+_, _-_, _*_, _≤_, _<_}
 use mathlib.Core.Path.{_≡_, refl, sym, ap, _∙_, subst}
 use mathlib.Core.List.{List, [], _∷_, _++_, append-assoc}
-use mathlib.Core.Bool.{Bool, false}
+use mathlib.Core.Bool.{false}
 use native.Mathlib.Omega.{arith}
-use lib.ListN.{length, getD, drop}
-use lib.Dec.{eqb, leb}
+use lib.ListN.{length}
+use lib.Dec.{eqb}
 use borrow.Author.Tests.{le-leb, lt-leb}
 use Rattle.lists.specs.Words.{word}
-use Rattle.lists.specs.Spans.{stretch, zeros, padded}
+use Rattle.lists.specs.Spans.{stretch, padded}
 use Rattle.model.specs.Outcome.{Outcome, accepted, refused, _>>=_}
 use Rattle.model.specs.Plan.{Plan, dartCount}
-use Rattle.model.specs.File.{Sheet, charted, Cursor, frame, frameRings, frameRest, optional, chartIn, sheetOf, decode}
-use Rattle.rings.specs.Tables.{startsOf}
-use Rattle.rings.specs.Lent.{wordsAt, lent}
+use Rattle.model.specs.File.{Sheet, charted, frame, frameRings, frameRest, optional, chartIn, sheetOf, decode}
 use Rattle.framing.specs.declared.Found.the-variants.{Opened, Labelled, Charted}
 use Rattle.framing.specs.declared.Layout.{Layout}
 use Rattle.framing.specs.Offsets.{cursor, wordAt}
-use Rattle.framing.specs.Layouts.{planIn, labelsIn, chartFrom, sheetIn, tidied, nothing, restFrom, planFrom, Lays}
+use Rattle.framing.specs.Layouts.{planIn, labelsIn, sheetIn, tidied, nothing, restFrom, planFrom, Lays}
 use Rattle.framing.proofs.Offsets.{words-stretch, empty-end, empty-before}
 
 -- ---- the records after the rings

@@ -11,7 +11,7 @@ use borrow.Author.Tests.{leb-true, leb-false, le-leb, lt-leb, eq-eqb, ne-eqb}
 use Rattle.lists.specs.Tests.{empty}
 use Rattle.lists.specs.Words.{word, words}
 use Rattle.lists.specs.Spans.{stretch}
-use Rattle.lists.proofs.Bools.{and-yes, yes-and}
+use Rattle.lists.proofs.Bools.{and-yes}
 use Rattle.model.specs.Outcome.{Outcome, accepted, refused, _>>_, require}
 use Rattle.model.specs.File.{Cursor, Framed, frame, fitsRing}
 use Rattle.rings.specs.Lent.{wordsAt}

@@ -1,14 +1,14 @@
 -- The layout of a lent file: what it says of the file in the terms of the model.
 use Prim.Native.Nat.{ℕ, _+_, _-_, _*_, _^_, _<_, _≤_}
 use mathlib.Core.Path.{_≡_}
-use mathlib.Core.List.{List, [], _∷_, _++_}
+use mathlib.Core.List.{List, _++_}
 use mathlib.Core.Bool.{_&&_}
 use lib.Dec.{leb}
 use Rattle.lists.specs.Spans.{stretch, zeros, padded}
 use Rattle.model.specs.Outcome.{Outcome, accepted, refused, _>>=_, _>>_, require}
 use Rattle.model.specs.Plan.{Plan, dartCount}
 use Rattle.model.specs.Chart.{Chart}
-use Rattle.model.specs.File.{Sheet, opened, labelled, charted, Cursor, frameRings, frameRest, optional, chartIn, sheetOf}
+use Rattle.model.specs.File.{Sheet, opened, labelled, charted, frameRings, frameRest, optional, chartIn, sheetOf}
 use Rattle.rings.specs.Tables.{startsOf}
 use Rattle.rings.specs.Lent.{wordsAt, lent}
 use Rattle.framing.specs.declared.Found.{Found}

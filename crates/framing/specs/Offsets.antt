@@ -1,7 +1,7 @@
 -- The records of a lent file by their offsets: what the answers about one record and about the rings say in the terms of the model.
 use Prim.Native.Nat.{ℕ, _+_, _-_, _*_, _<_, _≤_}
 use mathlib.Core.Path.{_≡_}
-use mathlib.Core.List.{List, [], _∷_}
+use mathlib.Core.List.{List, []}
 use mathlib.Core.Bool.{Bool, cond, _&&_}
 use lib.ListN.{length, getD, take, drop}
 use lib.Dec.{eqb, leb}

@@ -1,9 +1,8 @@
 // Framing: the records of a lent file, the refusals 1, 2 and 3 with their places, and where everything stands in the file.
 ghost use mathlib.Core.Path.{_≡_};
-ghost use mathlib.Core.List.{List, [], _∷_};
+ghost use mathlib.Core.List.{[], _∷_};
 ghost use mathlib.Core.Bool.{Bool};
 ghost use Prim.Native.Nat.{ℕ, _+_, _-_, _*_, _<_, _≤_, _^_};
-ghost use lib.ListN.{length};
 ghost use lib.Dec.{eqb};
 ghost use Rattle.lists.specs.Spans.{stretch, padded};
 ghost use Rattle.model.specs.Plan.{dartCount};

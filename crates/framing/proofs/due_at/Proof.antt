@@ -1,13 +1,12 @@
 -- `due_at` meets its contract.
 use Prim.Native.Nat.{_+_}
-use mathlib.Core.Path.{ap, _∙_}
+use mathlib.Core.Path.{_∙_}
 use lib.Dec.{eqb}
 use borrow.Author.Tests.{eq-eqb, ne-eqb}
 use Rattle.lists.specs.Spans.{stretch}
 use Rattle.model.specs.Outcome.{accepted}
 use Rattle.framing.specs.Offsets.{cursor}
 use Rattle.framing.proofs.Offsets.{as-broken, as-whole, as-kind, as-size}
-use native.Mathlib.Omega.{arith}
 use borrow.Author.Needs.{needs}
 use Rattle.framing.proofs.due_at.Statement.{statement}
 use Rattle.framing.proofs.due_at.Tie as tie

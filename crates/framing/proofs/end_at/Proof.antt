@@ -5,7 +5,6 @@ use mathlib.Core.Path.{refl}
 use mathlib.Core.Bool.{Bool, false}
 use Rattle.framing.proofs.Offsets.{as-broken, as-size}
 use Rattle.framing.proofs.Layouts.{rest-end, end-refused}
-use native.Mathlib.Omega.{arith}
 use borrow.Author.Needs.{needs}
 use Rattle.framing.proofs.end_at.Statement.{statement}
 use Rattle.framing.proofs.end_at.Tie as tie

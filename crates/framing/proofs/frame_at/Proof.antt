@@ -1,6 +1,6 @@
 -- `frame_at` meets its contract.
 use Prim.Native.Nat.{_-_}
-use mathlib.Core.Path.{sym, ap, _∙_}
+use mathlib.Core.Path.{ap, _∙_}
 use Rattle.framing.specs.declared.Frame.the-variants.{Body}
 use Rattle.framing.specs.Offsets.{framedOf}
 use Rattle.framing.proofs.Offsets.{frame-same, at-past, at-short, at-low, at-long, at-whole}

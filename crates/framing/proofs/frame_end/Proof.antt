@@ -6,7 +6,6 @@ use Rattle.lists.specs.Spans.{stretch}
 use Rattle.framing.specs.Offsets.{endOf}
 use Rattle.framing.specs.Layouts.{planIn, labelsIn}
 use Rattle.framing.proofs.Layouts.{rest-refused, lays-refused, lays-charted}
-use native.Mathlib.Omega.{arith}
 use borrow.Author.Needs.{needs}
 use Rattle.framing.proofs.frame_end.Statement.{statement}
 use Rattle.framing.proofs.frame_end.Tie as tie

@@ -2,7 +2,6 @@
 use mathlib.Core.Path.{sym, ap, _∙_}
 use Rattle.framing.specs.Offsets.{dueOf}
 use Rattle.framing.proofs.Layouts.{file-refused, file-there, lays-refused, lays-as}
-use native.Mathlib.Omega.{arith}
 use borrow.Author.Needs.{needs}
 use Rattle.framing.proofs.frame_file.Statement.{statement}
 use Rattle.framing.proofs.frame_file.Tie as tie

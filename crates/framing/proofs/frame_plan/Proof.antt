@@ -1,7 +1,5 @@
 -- `frame_plan` meets its contract.
-use Prim.Native.Nat.{ℕ, _≤_, _<_}
-use mathlib.Core.Path.{_≡_, sym, ap, _∙_, subst}
-use lib.ListN.{length}
+use mathlib.Core.Path.{sym, ap, _∙_, subst}
 use Rattle.framing.specs.declared.Due.{Due}
 use Rattle.framing.specs.Offsets.{ringsAs, WalkBounds}
 use Rattle.framing.specs.Layouts.{planFrom}

@@ -1,6 +1,5 @@
 -- `refused` meets its contract.
 use Rattle.lists.specs.Spans.{zeros}
-use native.Mathlib.Omega.{arith}
 use borrow.Author.Needs.{needs}
 use Rattle.framing.proofs.refused.Statement.{statement}
 use Rattle.framing.proofs.refused.Tie as tie

@@ -1,6 +1,6 @@
 -- `ring_at` meets its contract.
 use Prim.Native.Nat.{_+_, _*_, _/_}
-use mathlib.Core.Path.{_≡_, sym, ap, _∙_}
+use mathlib.Core.Path.{_≡_, _∙_}
 use Rattle.lists.specs.Spans.{stretch}
 use Rattle.model.specs.Outcome.{accepted}
 use Rattle.model.specs.File.{fitsRing}

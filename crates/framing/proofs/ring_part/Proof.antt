@@ -1,7 +1,6 @@
 -- `ring_part` meets its contract.
 use Prim.Native.Nat.{_+_, _-_}
-use mathlib.Core.Path.{_≡_, ap, _∙_}
-use lib.ListN.{take, drop}
+use mathlib.Core.Path.{_≡_}
 use Rattle.framing.proofs.Offsets.{part-fits, part-past}
 use native.Mathlib.Omega.{arith}
 use borrow.Author.Needs.{needs}

@@ -1,5 +1,5 @@
 -- `walk_rings` meets its contract.
-use Prim.Native.Nat.{_+_, _-_, _*_, _<_}
+use Prim.Native.Nat.{_-_, _<_}
 use mathlib.Core.Path.{_≡_, refl, sym, ap, _∙_, subst}
 use Rattle.framing.specs.Offsets.{ringOf, RingBelow}
 use Rattle.framing.proofs.Walks.{Walks, walks-start, walks-refused, walks-on, walks-sizes, walks-end}
