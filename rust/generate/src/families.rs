@@ -98,14 +98,10 @@ pub fn column(n: usize) -> Rings {
     let last = n as u16 - 1;
     let mut rings = vec![
         vec![1, 4, 3],
-        (5..=last + 1).rev().map(|u| u - 1).collect(),
+        [vec![2], (4..=last).rev().collect(), vec![0]].concat(),
         vec![3, last, 1],
-        (4..=last).collect(),
+        [vec![0], (4..=last).collect(), vec![2]].concat(),
     ];
-    rings[1].insert(0, 2);
-    rings[1].push(0);
-    rings[3].insert(0, 0);
-    rings[3].push(2);
     for u in 4..=last {
         let above = if u == 4 { 0 } else { u - 1 };
         let below = if u == last { 2 } else { u + 1 };

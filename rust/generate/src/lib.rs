@@ -11,6 +11,7 @@ pub mod families;
 pub mod file;
 pub mod odd;
 mod random;
+pub mod sample;
 
 pub use random::Random;
 

@@ -3,7 +3,7 @@
 //! They work on rings as lists and on labels as one list per ring, and share no code with the
 //! calls.
 
-use crate::types::Refusal;
+use crate::types::{Refusal, Sheet};
 use std::collections::BTreeSet;
 
 /// Rings as lists.
@@ -344,4 +344,134 @@ pub fn chart(rings: &Rings, labels: &[Vec<u8>]) -> Result<PlainChart, Refusal> {
             return Ok((values[1], values[2], points));
         }
     }
+}
+
+/// The parts of a file that is accepted.
+#[derive(Clone, Debug, PartialEq, Eq)]
+pub struct PlainFile {
+    /// The rings.
+    pub rings: Vec<Vec<u16>>,
+    /// The labels, ring by ring, if any.
+    pub labels: Option<Vec<Vec<u8>>>,
+    /// The chart, if any.
+    pub chart: Option<PlainChart>,
+}
+
+/// One record of a file that is being framed: its offset, kind and body.
+struct Record {
+    offset: usize,
+    kind: usize,
+    body: Vec<u8>,
+}
+
+/// The number of two bytes at an offset, if both are there.
+fn number_at(bytes: &[u8], offset: usize) -> Option<usize> {
+    let (low, high) = (*bytes.get(offset)?, *bytes.get(offset + 1)?);
+    Some(low as usize + 256 * high as usize)
+}
+
+/// The record at an offset; nothing if its length is missing, under 2 or past the end.
+fn record_at(bytes: &[u8], offset: usize) -> Option<Record> {
+    let length = number_at(bytes, offset)?;
+    let kind = number_at(bytes, offset + 2)?;
+    if length < 2 {
+        return None;
+    }
+    let body = bytes.get(offset + 4..offset + 2 + length)?.to_vec();
+    Some(Record { offset, kind, body })
+}
+
+/// The numbers of two bytes of a body.
+fn numbers(body: &[u8]) -> Vec<u16> {
+    body.chunks(2)
+        .map(|pair| pair[0] as u16 + 256 * pair[1] as u16)
+        .collect()
+}
+
+/// Frames a file: refusals 1 to 3. Gives n and all records.
+fn frame(bytes: &[u8]) -> Result<(usize, Vec<Record>), Refusal> {
+    let mut records: Vec<Record> = Vec::new();
+    let mut n = 0;
+    let mut offset = 0;
+    loop {
+        let count = records.len();
+        if count > n && offset == bytes.len() {
+            return Ok((n, records));
+        }
+        let record = record_at(bytes, offset).ok_or(Refusal::new(1, offset))?;
+        let length = record.body.len();
+        let due = match count {
+            0 => record.kind == 1 && length == 2,
+            _ if count <= n => record.kind == 2 && length % 2 == 0 && length < 2 * n,
+            _ if count == n + 1 => record.kind == 3 && length + 14 == 6 * n,
+            _ if count == n + 2 => record.kind == 4 && length == 4 * n + 4,
+            _ => false,
+        };
+        if !due {
+            return Err(Refusal::new(2, record.offset));
+        }
+        if count == 0 {
+            n = numbers(&record.body)[0] as usize;
+            if n < 5 || 200 < n {
+                return Err(Refusal::new(3, 0));
+            }
+        }
+        offset += 4 + length;
+        records.push(record);
+    }
+}
+
+/// Splits labels in dart order into one list per ring.
+pub fn labels_by_ring(rings: &Rings, labels: &[u8]) -> Vec<Vec<u8>> {
+    let mut rest = labels.iter().copied();
+    let of_ring = |ring: &Vec<u16>| rest.by_ref().take(ring.len()).collect();
+    rings.iter().map(of_ring).collect()
+}
+
+/// Opens a file.
+pub fn open(bytes: &[u8]) -> Result<PlainFile, Refusal> {
+    let (n, records) = frame(bytes)?;
+    let rings: Vec<Vec<u16>> = records[1..=n]
+        .iter()
+        .map(|record| numbers(&record.body))
+        .collect();
+    if let Some(refusal) = plan_refusal(&rings) {
+        return Err(refusal);
+    }
+    let labels = records.get(n + 1);
+    let labels = labels.map(|record| labels_by_ring(&rings, &record.body));
+    if let Some(refusal) = labels.as_ref().and_then(|all| label_refusal(&rings, all)) {
+        return Err(refusal);
+    }
+    let mut stored = None;
+    if let (Some(labels), Some(record)) = (&labels, records.get(n + 2)) {
+        let found = chart(&rings, labels)?;
+        let values = numbers(&record.body);
+        let points = values[2..].chunks(2);
+        let points = points.map(|xy| (xy[0] as i64, xy[1] as i64)).collect();
+        if (values[0] as i64, values[1] as i64, points) != found {
+            return Err(Refusal::new(12, 0));
+        }
+        stored = Some(found);
+    }
+    Ok(PlainFile {
+        rings,
+        labels,
+        chart: stored,
+    })
+}
+
+/// Whether a sheet holds exactly these parts.
+pub fn sheet_holds(sheet: &Sheet, file: &PlainFile) -> bool {
+    let Some(plan) = sheet.plan() else {
+        return false;
+    };
+    let labels = sheet
+        .labels()
+        .map(|l| labels_by_ring(&file.rings, l.bytes()));
+    let chart = sheet.chart().map(|chart| {
+        let points = chart.points.iter().map(|&(x, y)| (x as i64, y as i64));
+        (chart.w as i64, chart.h as i64, points.collect())
+    });
+    plan.rings() == file.rings && labels == file.labels && chart == file.chart
 }

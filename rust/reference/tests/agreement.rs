@@ -1,0 +1,124 @@
+//! The fast versions against the plain ones, on generated plans.
+
+mod common;
+
+use common::{flat, open_both, opened, Tally};
+use generate::file::file;
+use generate::sample::{any_plan, plan_of_family, small_plan, FAMILIES};
+use generate::{Random, Rings};
+use reference::{plain, *};
+
+/// Compares scan, sweep and, where there are labels, the chart.
+fn compare(rings: &Rings, tally: &mut Tally) {
+    let mut sheet = opened(rings);
+    assert_eq!(scan(&sheet), Ok(plain::scan(rings)), "{rings:?}");
+    let answer = sweep(&mut sheet);
+    tally.count(&answer);
+    let expected = plain::sweep(rings);
+    match (answer, expected) {
+        (Ok(()), Ok(labels)) => {
+            assert_eq!(sheet.labels().unwrap().bytes(), flat(&labels), "{rings:?}");
+            compare_chart(&mut sheet, rings, &labels);
+        }
+        (one, other) => assert_eq!(one, other.map(|_| ()), "{rings:?}"),
+    }
+}
+
+/// Compares the chart, also through a file.
+fn compare_chart(sheet: &mut Sheet, rings: &Rings, labels: &[Vec<u8>]) {
+    let expected = plain::chart(rings, labels).map(|(w, h, points)| {
+        let numbers = [w, h]
+            .into_iter()
+            .chain(points.iter().flat_map(|p| [p.0, p.1]));
+        numbers.map(|value| value as u16).collect::<Vec<_>>()
+    });
+    assert_eq!(chart(sheet), expected.clone().map(|_| ()));
+    let bytes = file(rings, Some(&flat(labels)), expected.as_deref().ok());
+    assert_eq!(encode(sheet), bytes);
+    assert_eq!(open(&bytes).as_ref(), Ok(&*sheet));
+}
+
+#[test]
+fn small_plans() {
+    let mut random = Random::new(1);
+    let mut tally = Tally::default();
+    for _ in 0..20_000 {
+        compare(&small_plan(&mut random), &mut tally);
+    }
+    println!("small plans, sweep: {:?}", tally.0);
+}
+
+#[test]
+fn plans_of_all_families() {
+    let mut random = Random::new(2);
+    let mut tally = Tally::default();
+    for _ in 0..12_000 {
+        compare(&any_plan(40, &mut random), &mut tally);
+    }
+    println!("all families, sweep: {:?}", tally.0);
+    assert_eq!(tally.0.keys().copied().collect::<Vec<_>>(), [0, 10, 14]);
+}
+
+#[test]
+fn odd_plans() {
+    let mut random = Random::new(3);
+    let mut tally = Tally::default();
+    for _ in 0..12_000 {
+        let most = random.between(24, 44);
+        compare(&generate::odd::random_odd(most, &mut random), &mut tally);
+    }
+    println!("odd plans, sweep: {:?}", tally.0);
+}
+
+#[test]
+fn large_plans() {
+    let mut random = Random::new(4);
+    for (family, name) in FAMILIES.iter().enumerate() {
+        let mut tally = Tally::default();
+        for _ in 0..4 {
+            let n = random.between(60, 90);
+            compare(&plan_of_family(family, n, &mut random), &mut tally);
+        }
+        println!("{name}, sweep: {:?}", tally.0);
+    }
+}
+
+#[test]
+fn labels_of_small_plans() {
+    let mut random = Random::new(5);
+    let mut tally = Tally::default();
+    for _ in 0..3_000 {
+        let rings = small_plan(&mut random);
+        let count = 6 * rings.len() - 14;
+        let mut labels = match plain::sweep(&rings) {
+            Ok(labels) => flat(&labels),
+            Err(_) => generate::damage::random_labels(count, &mut random),
+        };
+        for _ in 0..8 {
+            let offered = generate::damage::damaged_labels(&labels, &mut random);
+            tally.count(&compare_offer(&rings, &offered));
+            if offered.len() == count && random.once_in(2) {
+                labels = offered;
+            }
+        }
+    }
+    println!("offered labels: {:?}", tally.0);
+}
+
+/// Compares offer with the plain label rules and with open.
+fn compare_offer(rings: &Rings, offered: &[u8]) -> Result<(), Refusal> {
+    let mut sheet = opened(rings);
+    let answer = offer(&mut sheet, offered);
+    if offered.len() != 6 * rings.len() - 14 {
+        assert_eq!(answer, Err(Refusal::new(2, 0)));
+        return answer;
+    }
+    let by_ring = plain::labels_by_ring(rings, offered);
+    assert_eq!(answer.err(), plain::label_refusal(rings, &by_ring));
+    let opened = open_both(&file(rings, Some(offered), None));
+    assert_eq!(opened.as_ref().err(), answer.as_ref().err());
+    if let Ok(opened) = opened {
+        assert_eq!(opened, sheet);
+    }
+    answer
+}
