@@ -33,21 +33,25 @@ pub(crate) fn test_plan(bodies: &[&[u8]]) -> Result<Plan, Refusal> {
 /// Rule 4. Gives the first dart of each context and the heads of all darts.
 fn test_entries(bodies: &[&[u8]]) -> Result<(Vec<u16>, Vec<u8>), Refusal> {
     let n = bodies.len();
+    let count: usize = bodies.iter().map(|body| body.len() / 2).sum();
     let mut starts = Vec::with_capacity(n + 1);
-    let mut heads = Vec::with_capacity(bodies.iter().map(|body| body.len() / 2).sum());
+    let mut heads = vec![0; count];
+    let mut rest = &mut heads[..];
     for (u, body) in bodies.iter().enumerate() {
-        starts.push(heads.len() as u16);
+        starts.push((count - rest.len()) as u16);
+        let (ring, others) = rest.split_at_mut(body.len() / 2);
         let mut bad = false;
-        heads.extend(body.chunks_exact(2).map(|entry| {
+        for (head, entry) in ring.iter_mut().zip(body.chunks_exact(2)) {
             let v = number(entry) as usize;
             bad |= v >= n || v == u;
-            v as u8
-        }));
+            *head = v as u8;
+        }
         if bad {
             return Err(Refusal::new(4, u));
         }
+        rest = others;
     }
-    starts.push(heads.len() as u16);
+    starts.push(count as u16);
     Ok((starts, heads))
 }
 
@@ -58,9 +62,11 @@ fn test_repeats(starts: &[u16], heads: &[u8]) -> Result<Vec<u8>, Refusal> {
     for (u, row) in places.chunks_exact_mut(256).enumerate() {
         let ring = &heads[starts[u] as usize..starts[u + 1] as usize];
         let mut seen = 0;
-        for (at, &v) in ring.iter().enumerate() {
+        let mut place = 1;
+        for &v in ring {
             seen |= row[v as usize];
-            row[v as usize] = at as u8 + 1;
+            row[v as usize] = place;
+            place += 1;
         }
         if seen != 0 {
             return Err(Refusal::new(5, u));
@@ -71,15 +77,15 @@ fn test_repeats(starts: &[u16], heads: &[u8]) -> Result<Vec<u8>, Refusal> {
 
 /// Rule 6. Gives the reverse of each dart.
 fn test_returns(starts: &[u16], heads: &[u8], places: &[u8]) -> Result<Vec<u16>, Refusal> {
-    let mut backs = Vec::with_capacity(heads.len());
+    let mut backs = vec![0; heads.len()];
     for u in 0..starts.len() - 1 {
+        let darts = starts[u] as usize..starts[u + 1] as usize;
         let mut missing = false;
-        let ring = &heads[starts[u] as usize..starts[u + 1] as usize];
-        backs.extend(ring.iter().map(|&v| {
+        for (back, &v) in backs[darts.clone()].iter_mut().zip(&heads[darts]) {
             let place = places[(v as usize) << 8 | u];
             missing |= place == 0;
-            (starts[v as usize] + place as u16).wrapping_sub(1)
-        }));
+            *back = (starts[v as usize] + place as u16).wrapping_sub(1);
+        }
         if missing {
             return Err(Refusal::new(6, u));
         }
@@ -100,38 +106,116 @@ fn test_border(plan: &Plan) -> Result<(), Refusal> {
     Ok(())
 }
 
-/// The number of table cells for dart numbers, a power of two above every dart number.
-pub(crate) const DART_CELLS: usize = 2048;
-
 /// The dart that follows each dart on its face.
-pub(crate) fn face_steps(plan: &Plan) -> [u16; DART_CELLS] {
-    let mut steps = [0; DART_CELLS];
-    for (step, (&head, &back)) in steps.iter_mut().zip(plan.heads.iter().zip(&plan.backs)) {
-        let v = head as usize;
-        let next = back + 1;
-        *step = if next == plan.starts[v + 1] {
-            plan.starts[v]
+pub(crate) fn face_steps(plan: &Plan) -> Vec<u16> {
+    let darts = plan.heads.iter().zip(&plan.backs);
+    let step = |(&v, &back): (&u8, &u16)| {
+        let (start, end) = (plan.starts[v as usize], plan.starts[v as usize + 1]);
+        if back + 1 == end {
+            start
         } else {
-            next
-        };
-    }
-    steps
+            back + 1
+        }
+    };
+    darts.map(step).collect()
 }
 
 /// Rule 9, on a plan that keeps rules 4 to 8.
 fn test_faces(plan: &Plan) -> Result<(), Refusal> {
-    let steps = face_steps(plan);
-    let step = |dart: u16| steps[dart as usize % DART_CELLS];
+    if third_contexts_agree(plan) {
+        return Ok(());
+    }
+    match lowest_bad_context(plan) {
+        Some(u) => Err(Refusal::new(9, u)),
+        None => Ok(()),
+    }
+}
+
+/// Whether each dart from u to v, the four outer ones apart, has the entry before v in u's ring
+/// after u in v's ring.
+///
+/// This is rule 9: the face then goes on to that context, by the same test at v back to u, and
+/// from there to v. The four outer darts follow each other, so all other walks stay among the rest.
+fn third_contexts_agree(plan: &Plan) -> bool {
+    let mut differ = false;
     for u in 0..plan.n() {
-        // The first dart of a border context leads to the next border context: it is exempt.
-        let exempt = (u < 4) as usize;
-        let mut bad = false;
-        for dart in plan.starts[u] + exempt as u16..plan.starts[u + 1] {
-            bad |= step(step(step(dart))) != dart;
-        }
-        if bad {
-            return Err(Refusal::new(9, u));
+        let darts = plan.darts(u);
+        let outer = (u < 4) as usize;
+        let (heads, backs) = (&plan.heads[darts.clone()], &plan.backs[darts]);
+        let Some(&last) = heads.last() else { continue };
+        let mut before = if u < 4 { heads[0] } else { last };
+        for (&v, &back) in heads[outer..].iter().zip(&backs[outer..]) {
+            let (start, end) = (plan.starts[v as usize], plan.starts[v as usize + 1]);
+            let wrap = (back + 1 == end) as u16;
+            let next = back + 1 - wrap * (end - start);
+            differ |= plan.heads[next as usize] != before;
+            before = v;
         }
     }
-    Ok(())
+    !differ
+}
+
+/// The lowest context that a dart leaves that does not come back after three face steps.
+fn lowest_bad_context(plan: &Plan) -> Option<usize> {
+    let steps = face_steps(plan);
+    let step = |dart: usize| steps[dart] as usize;
+    let is_bad = |dart: usize| step(step(step(dart))) != dart;
+    // The first dart of a border context leads to the next border context: it is an outer one.
+    (0..plan.n()).find(|&u| plan.darts(u).skip((u < 4) as usize).any(is_bad))
+}
+
+#[cfg(test)]
+mod t {
+    use super::*;
+    use std::time::Instant;
+    #[test]
+    fn pieces() {
+        let mut r = generate::Random::new(7);
+        let rings = generate::families::irreducible(200, &mut r);
+        let bodies: Vec<Vec<u8>> = rings.iter().map(|x| generate::file::numbers(x)).collect();
+        let bodies: Vec<&[u8]> = bodies.iter().map(|x| &x[..]).collect();
+        let (starts, heads) = test_entries(&bodies).unwrap();
+        let places = test_repeats(&starts, &heads).unwrap();
+        let plan = test_plan(&bodies).unwrap();
+        let t = |name: &str, f: &mut dyn FnMut()| {
+            let mut best = 1e9f64;
+            for _ in 0..200 {
+                let s = Instant::now();
+                for _ in 0..50 {
+                    f();
+                }
+                best = best.min(s.elapsed().as_nanos() as f64 / 50.0);
+            }
+            println!("{name} {best}");
+        };
+        use std::hint::black_box as bb;
+        t("entries", &mut || {
+            bb(test_entries(bb(&bodies)).ok());
+        });
+        t("alloc places", &mut || {
+            bb(vec![0u8; 200 << 8]);
+        });
+        t("repeats", &mut || {
+            bb(test_repeats(bb(&starts), bb(&heads)).ok());
+        });
+        t("returns", &mut || {
+            bb(test_returns(bb(&starts), bb(&heads), bb(&places)).ok());
+        });
+        t("border", &mut || {
+            bb(test_border(bb(&plan)).ok());
+        });
+        t("steps", &mut || {
+            bb(face_steps(bb(&plan)));
+        });
+        t("faces", &mut || {
+            bb(test_faces(bb(&plan)).ok());
+        });
+        t("all", &mut || {
+            bb(test_plan(bb(&bodies)).ok());
+        });
+        let f = generate::file::file(&rings, None, None);
+        t("open", &mut || {
+            bb(crate::open(bb(&f)).ok());
+        });
+    }
 }

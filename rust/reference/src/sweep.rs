@@ -29,10 +29,9 @@ pub fn sweep_labels(plan: &Plan) -> Result<Labels, Refusal> {
     if !state.all_above_south() {
         return Err(Refusal::new(14, 0));
     }
-    state.finish();
     match (4..plan.n()).find(|&u| !state.entered[u]) {
         Some(u) => Err(Refusal::new(10, u)),
-        None => Ok(Labels(state.labels)),
+        None => Ok(Labels(state.labels())),
     }
 }
 
@@ -50,7 +49,6 @@ enum Obstacle {
 /// The state of the sweep. Contexts are numbered as in the plan, darts in ring order.
 struct State<'a> {
     plan: &'a Plan,
-    labels: Vec<u8>,
     /// Whether the context is or was on the frontier.
     entered: [bool; 256],
     /// The dart to the left frontier neighbour, now and when the context entered.
@@ -72,7 +70,6 @@ impl<'a> State<'a> {
     fn new(plan: &'a Plan) -> Self {
         State {
             plan,
-            labels: vec![4; plan.heads.len()],
             entered: [false; 256],
             left: [0; 256],
             first_left: [0; 256],
@@ -309,11 +306,6 @@ impl<'a> State<'a> {
             self.obstacle[last as usize] = Obstacle::Contact(u, v);
             return false;
         }
-        let mut u = first;
-        while u != j {
-            self.label_ring(u);
-            u = self.right_of(u);
-        }
         self.right[i as usize] = self.after(i, self.right[i as usize]);
         self.left[j as usize] = self.before(j, self.left[j as usize]);
         self.enter(i);
@@ -361,39 +353,38 @@ impl<'a> State<'a> {
         true
     }
 
-    /// Labels what is left at the end: the last frontier and the border contexts.
-    fn finish(&mut self) {
-        let mut u = self.right_of(WEST);
-        while u != EAST {
-            self.label_ring(u);
-            u = self.right_of(u);
+    /// The labels, if all inner contexts were on the frontier.
+    fn labels(&self) -> Vec<u8> {
+        let mut labels = vec![4; self.plan.heads.len()];
+        for u in 4..self.plan.n() as u8 {
+            self.label_ring(u, &mut labels[self.plan.darts(u as usize)]);
         }
         for (u, label) in [(NORTH, 2), (EAST, 3), (SOUTH, 0), (WEST, 1)] {
             let inner = self.start(u) as usize + 1..self.end(u) as usize - 1;
-            self.labels[inner].fill(label);
+            labels[inner].fill(label);
         }
+        labels
     }
 
-    /// Labels all darts of an inner context that leaves the frontier: right from its first right
-    /// neighbour to its last, then down, then left from its last left neighbour to its first,
-    /// then up.
-    fn label_ring(&mut self, u: u8) {
+    /// Labels the darts of an inner context: right from its first right neighbour to its last,
+    /// then down, then left from its last left neighbour to its first, then up.
+    fn label_ring(&self, u: u8, ring: &mut [u8]) {
         let at = u as usize;
-        let ends = [
-            (self.after(u, self.right[at]), 1),
-            (self.left[at], 2),
-            (self.after(u, self.first_left[at]), 3),
-            (self.first_right[at], 0),
-        ];
-        let mut dart = self.first_right[at];
-        for (end, label) in ends {
-            loop {
-                self.labels[dart as usize] = label;
-                dart = self.after(u, dart);
-                if dart == end {
-                    break;
-                }
-            }
+        let length = ring.len() as u16;
+        let first = self.first_right[at];
+        let index = |dart: u16| {
+            let wrap = (dart < first) as u16;
+            (dart + wrap * length - first) as u8
+        };
+        let last_right = index(self.right[at]);
+        let last_left = index(self.left[at]);
+        let first_left = index(self.first_left[at]);
+        for (dart, label) in (self.start(u)..).zip(ring) {
+            let index = index(dart);
+            let runs = (index > last_right) as u8
+                + (index >= last_left) as u8
+                + (index > first_left) as u8;
+            *label = (1 + runs) % 4;
         }
     }
 }
