@@ -122,7 +122,9 @@ pub fn damaged_rings(rings: &Rings, random: &mut Random) -> Rings {
 fn remove_contact(rings: &mut Rings, random: &mut Random) {
     if let Some((u, v)) = random_dart(rings, random) {
         rings[u as usize].retain(|&entry| entry != v);
-        rings[v as usize].retain(|&entry| entry != u);
+        if let Some(ring) = rings.get_mut(v as usize) {
+            ring.retain(|&entry| entry != u);
+        }
     }
 }
 

@@ -65,7 +65,7 @@ fn measure(rings: &Rings) -> [f64; 8] {
     let plan = sheet.plan().expect("a plan").clone();
     let mut row = [0.0; 8];
     row[0] = us(time(|| drop(black_box(open(black_box(&bytes))))));
-    row[1] = us(time(|| drop(black_box(smallest_triple(black_box(&plan))))));
+    row[1] = us(time(|| _ = black_box(smallest_triple(black_box(&plan)))));
     row[2] = us(time(|| drop(black_box(sweep_labels(black_box(&plan))))));
     if sweep(&mut sheet).is_err() {
         return row;
@@ -82,11 +82,11 @@ fn measure(rings: &Rings) -> [f64; 8] {
     let mut buffer = full.clone();
     row[5] = us(time(|| drop(black_box(open(black_box(&full))))));
     row[6] = us(time(|| {
-        drop(black_box(write(black_box(&sheet), &mut buffer)))
+        _ = black_box(write(black_box(&sheet), &mut buffer))
     }));
     row[7] = us(time(|| {
-        drop(black_box(sweep(&mut sheet)));
-        drop(black_box(chart(&mut sheet)));
+        _ = black_box(sweep(&mut sheet));
+        _ = black_box(chart(&mut sheet));
     }));
     row
 }
