@@ -67,6 +67,16 @@ pub fn trench_d_labels() -> Vec<u8> {
     labels
 }
 
+/// Labels for a torus of k contexts of this module that keep the label rules: one of eight ways.
+pub fn torus_labels(k: usize, random: &mut Random) -> Vec<u8> {
+    let first = random.below(4) as u8;
+    let second = first + random.below(2) as u8;
+    let half = [first, second, first + 1];
+    let ring = half.iter().chain(&half).zip([0, 0, 0, 2, 2, 2]);
+    let ring: Vec<u8> = ring.map(|(label, more)| (label + more) % 4).collect();
+    ring.repeat(k)
+}
+
 /// The contexts of the face of the dart from u to its ring's entry at an index.
 fn face_at(rings: &Rings, u: u16, index: usize) -> [u16; 3] {
     let v = rings[u as usize][index];

@@ -35,38 +35,35 @@ pub fn least_chart(plan: &Plan, labels: &Labels) -> Result<Chart, Refusal> {
 /// The length of the longest path to each context, or nothing if there is a cycle.
 fn longest_paths(plan: &Plan, labels: &[u8], arcs: Arcs) -> Option<[u8; 256]> {
     let n = plan.n();
-    let mut waiting = [0u8; 256];
-    for u in 0..n {
-        let reversed = labels[plan.darts(u)]
-            .iter()
-            .filter(|&&label| label < 4 && arcs[(label as usize + 2) % 4].0);
-        waiting[u] = reversed.count() as u8;
-    }
-    let mut ready = [0u8; 256];
-    let mut count = 0;
-    for u in 0..n {
-        if waiting[u] == 0 {
-            ready[count] = u as u8;
-            count += 1;
-        }
-    }
+    let mut waiting = arcs_to(plan, labels, arcs);
+    let mut ready = Vec::with_capacity(n);
+    ready.extend((0..n as u8).filter(|&u| waiting[u as usize] == 0));
     let mut lengths = [0u8; 256];
     let mut done = 0;
-    while done < count {
-        let u = ready[done] as usize;
+    while let Some(&u) = ready.get(done) {
         done += 1;
-        let darts = plan.darts(u);
+        let darts = plan.darts(u as usize);
         for (&v, &label) in plan.heads[darts.clone()].iter().zip(&labels[darts]) {
-            if label < 4 && arcs[label as usize].0 {
+            let (is_arc, length) = arcs[label as usize % 4];
+            if label < 4 && is_arc {
                 let v = v as usize;
-                lengths[v] = lengths[v].max(lengths[u] + arcs[label as usize].1);
+                lengths[v] = lengths[v].max(lengths[u as usize] + length);
                 waiting[v] -= 1;
                 if waiting[v] == 0 {
-                    ready[count] = v as u8;
-                    count += 1;
+                    ready.push(v as u8);
                 }
             }
         }
     }
     (done == n).then_some(lengths)
+}
+
+/// The number of arcs that lead to each context: as many as darts that leave it the other way.
+fn arcs_to(plan: &Plan, labels: &[u8], arcs: Arcs) -> [u8; 256] {
+    let leads_back = |&&label: &&u8| label < 4 && arcs[(label as usize + 2) % 4].0;
+    let mut counts = [0; 256];
+    for (u, count) in counts.iter_mut().enumerate().take(plan.n()) {
+        *count = labels[plan.darts(u)].iter().filter(leads_back).count() as u8;
+    }
+    counts
 }

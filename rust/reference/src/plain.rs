@@ -412,7 +412,7 @@ fn frame(bytes: &[u8]) -> Result<(usize, Vec<Record>), Refusal> {
         }
         if count == 0 {
             n = numbers(&record.body)[0] as usize;
-            if n < 5 || 200 < n {
+            if !(5..=200).contains(&n) {
                 return Err(Refusal::new(3, 0));
             }
         }

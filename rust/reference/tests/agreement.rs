@@ -122,3 +122,25 @@ fn compare_offer(rings: &Rings, offered: &[u8]) -> Result<(), Refusal> {
     }
     answer
 }
+
+#[test]
+fn labelled_tori_have_no_chart() {
+    let mut random = Random::new(6);
+    for count in 0..600 {
+        let part = generate::families::irreducible(random.between(5, 20), &mut random);
+        let torus = if count % 2 == 0 {
+            generate::odd::ring_torus(random.between(7, 30))
+        } else {
+            generate::odd::grid_torus(random.between(3, 6), random.between(3, 6))
+        };
+        let mut labels = flat(&plain::sweep(&part).unwrap());
+        labels.extend(generate::odd::torus_labels(torus.len(), &mut random));
+        let rings = generate::odd::beside(&part, &torus);
+        assert_eq!(compare_offer(&rings, &labels), Ok(()));
+        let mut sheet = opened(&rings);
+        offer(&mut sheet, &labels).unwrap();
+        assert_eq!(chart(&mut sheet), Err(Refusal::new(11, 0)));
+        let by_ring = plain::labels_by_ring(&rings, &labels);
+        assert_eq!(plain::chart(&rings, &by_ring), Err(Refusal::new(11, 0)));
+    }
+}
