@@ -26,6 +26,7 @@ pub use chart::least_chart;
 pub use file::{encode, open, ring, write};
 pub use geometry::{doubled_area, inner_faces, strictly_inside};
 pub use labels::test_labels;
+pub use plain::{chart as chart_plain, scan as scan_plain, sweep as sweep_plain};
 pub use print::{sheetprint, PRINT_LIMIT};
 pub use scan::smallest_triple;
 pub use sweep::sweep_labels;

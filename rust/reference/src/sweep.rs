@@ -19,6 +19,11 @@ const EAST: u8 = 1;
 const SOUTH: u8 = 2;
 const WEST: u8 = 3;
 
+const UP: u8 = 0;
+const RIGHT: u8 = 1;
+const DOWN: u8 = 2;
+const LEFT: u8 = 3;
+
 /// The labels that the sweep gives for a plan.
 pub fn sweep_labels(plan: &Plan) -> Result<Labels, Refusal> {
     let mut state = State::new(plan);
@@ -29,9 +34,10 @@ pub fn sweep_labels(plan: &Plan) -> Result<Labels, Refusal> {
     if !state.all_above_south() {
         return Err(Refusal::new(14, 0));
     }
+    // A context that was on the frontier has all its darts labelled by the rules.
     match (4..plan.n()).find(|&u| !state.entered[u]) {
         Some(u) => Err(Refusal::new(10, u)),
-        None => Ok(Labels(state.labels())),
+        None => Ok(Labels(state.finish())),
     }
 }
 
@@ -46,17 +52,24 @@ enum Obstacle {
     Contact(u8, u8),
 }
 
+/// The number of cells for dart numbers: a power of two above all of them.
+const DARTS: usize = 2048;
+
 /// The state of the sweep. Contexts are numbered as in the plan, darts in ring order.
-struct State<'a> {
-    plan: &'a Plan,
+///
+/// The plan is copied into arrays whose lengths fit the types of the indices.
+struct State {
+    starts: [u16; 257],
+    heads: [u8; DARTS],
+    backs: [u16; DARTS],
+    count: usize,
+    labels: [u8; DARTS],
     /// Whether the context is or was on the frontier.
     entered: [bool; 256],
-    /// The dart to the left frontier neighbour, now and when the context entered.
+    /// The dart to the left frontier neighbour.
     left: [u16; 256],
-    first_left: [u16; 256],
-    /// The dart to the right frontier neighbour, now and when the context entered.
+    /// The dart to the right frontier neighbour.
     right: [u16; 256],
-    first_right: [u16; 256],
     /// In how many places a context that never was on the frontier touches it.
     touches: [u8; 256],
     /// What was found to be in the way below a frontier context.
@@ -65,30 +78,37 @@ struct State<'a> {
     list: Vec<u8>,
 }
 
-impl<'a> State<'a> {
+impl State {
     /// Nothing entered yet.
-    fn new(plan: &'a Plan) -> Self {
-        State {
-            plan,
+    fn new(plan: &Plan) -> Self {
+        let count = plan.heads.len();
+        let mut state = State {
+            starts: [0; 257],
+            heads: [0; DARTS],
+            backs: [0; DARTS],
+            count,
+            labels: [4; DARTS],
             entered: [false; 256],
             left: [0; 256],
-            first_left: [0; 256],
             right: [0; 256],
-            first_right: [0; 256],
             touches: [0; 256],
             obstacle: [Obstacle::None; 256],
             list: Vec::with_capacity(plan.n()),
-        }
+        };
+        state.starts[..plan.starts.len()].copy_from_slice(&plan.starts);
+        state.heads[..count].copy_from_slice(&plan.heads);
+        state.backs[..count].copy_from_slice(&plan.backs);
+        state
     }
 
     /// The first dart of a context.
     fn start(&self, u: u8) -> u16 {
-        self.plan.starts[u as usize]
+        self.starts[u as usize]
     }
 
     /// The number after a context's last dart.
     fn end(&self, u: u8) -> u16 {
-        self.plan.starts[u as usize + 1]
+        self.starts[u as usize + 1]
     }
 
     /// The dart after this one in the ring of `u`.
@@ -111,7 +131,17 @@ impl<'a> State<'a> {
 
     /// The context that a dart leads to.
     fn head(&self, dart: u16) -> u8 {
-        self.plan.heads[dart as usize]
+        self.heads[dart as usize % DARTS]
+    }
+
+    /// The reverse of a dart.
+    fn back(&self, dart: u16) -> u16 {
+        self.backs[dart as usize % DARTS]
+    }
+
+    /// Labels a dart.
+    fn label(&mut self, dart: u16, label: u8) {
+        self.labels[dart as usize % DARTS] = label;
     }
 
     /// The left frontier neighbour.
@@ -140,45 +170,45 @@ impl<'a> State<'a> {
         self.entered[EAST as usize] = true;
         self.entered[WEST as usize] = true;
         for dart in self.start(NORTH) + 1..self.end(NORTH) - 1 {
-            let u = self.head(dart);
-            let back = self.plan.backs[dart as usize];
+            let (u, back) = (self.head(dart), self.back(dart));
             self.left[u as usize] = self.before(u, back);
             self.right[u as usize] = self.after(u, back);
             self.entered[u as usize] = true;
+            self.label(dart, DOWN);
+            self.label(back, UP);
             self.list.push(u);
         }
-        self.list.reverse();
         // West's ring begins with North, East's ends with North: beside it stands the neighbour.
         self.right[WEST as usize] = self.start(WEST) + 1;
         self.left[EAST as usize] = self.end(EAST) - 2;
-        for dart in self.start(WEST) + 2..self.end(WEST) {
-            self.touches[self.plan.heads[dart as usize] as usize] += 1;
+        // West's first entry below lies under the edge to its right.
+        let below_west = self.start(WEST) + 3..self.end(WEST);
+        let below_east = self.start(EAST)..self.end(EAST) - 2;
+        for dart in below_west.chain(below_east) {
+            self.touches[self.head(dart) as usize] += 1;
         }
-        for dart in self.start(EAST)..self.end(EAST) - 2 {
-            self.touches[self.plan.heads[dart as usize] as usize] += 1;
-        }
-        let good = self.touch_below().is_none();
-        self.enter(WEST);
-        good
+        self.touch_below().is_none()
     }
 
-    /// Counts the contacts of the list's contexts with what lies below them. Gives a contact with
-    /// a context that is on the frontier or on the list, if there is one.
+    /// Counts the places where what lies below the list's contexts touches the frontier. The
+    /// entry under the edge to the right is left out: its stretch is counted at the right end.
+    ///
+    /// Gives a contact with a context that is on the frontier or on the list, if there is one.
     fn touch_below(&mut self) -> Option<(u8, u8)> {
         let mut contact = None;
         for at in 0..self.list.len() {
             let u = self.list[at];
-            let (mut dart, end) = (self.right[u as usize], self.left[u as usize]);
-            loop {
-                dart = self.after(u, dart);
-                if dart == end {
-                    break;
-                }
+            let end = self.left[u as usize];
+            let mut dart = self.after(u, self.right[u as usize]);
+            let mut place = 0;
+            while dart != end {
                 let v = self.head(dart);
-                self.touches[v as usize] += 1;
+                self.touches[v as usize] += place;
                 if self.entered[v as usize] {
                     contact = Some((u, v));
                 }
+                place = 1;
+                dart = self.after(u, dart);
             }
         }
         contact
@@ -189,28 +219,14 @@ impl<'a> State<'a> {
         for at in 0..self.list.len() {
             let u = self.list[at];
             self.entered[u as usize] = false;
-            let (mut dart, end) = (self.right[u as usize], self.left[u as usize]);
-            loop {
+            let end = self.left[u as usize];
+            let mut dart = self.after(u, self.right[u as usize]);
+            let mut place = 0;
+            while dart != end {
+                self.touches[self.head(dart) as usize] -= place;
+                place = 1;
                 dart = self.after(u, dart);
-                if dart == end {
-                    break;
-                }
-                self.touches[self.plan.heads[dart as usize] as usize] -= 1;
             }
-        }
-    }
-
-    /// Joins the list to the frontier, to the right of `u`. The contexts under the new frontier
-    /// edges have one place less for each.
-    fn enter(&mut self, u: u8) {
-        let under = self.under_right(u);
-        self.touches[under as usize] = self.touches[under as usize].wrapping_sub(1);
-        for at in 0..self.list.len() {
-            let v = self.list[at];
-            self.first_left[v as usize] = self.left[v as usize];
-            self.first_right[v as usize] = self.right[v as usize];
-            let under = self.under_right(v);
-            self.touches[under as usize] = self.touches[under as usize].wrapping_sub(1);
         }
     }
 
@@ -298,7 +314,7 @@ impl<'a> State<'a> {
     }
 
     /// Replaces the frontier contexts `first` to `last`, which stand between `i` and `j`, by what
-    /// lies below them. Does nothing and gives false if there is a contact inside the list.
+    /// lies below them. Gives false and leaves the frontier if there is a contact inside the list.
     fn replace(&mut self, i: u8, first: u8, last: u8, j: u8) -> bool {
         self.collect(first, last);
         if let Some((u, v)) = self.touch_below() {
@@ -306,38 +322,49 @@ impl<'a> State<'a> {
             self.obstacle[last as usize] = Obstacle::Contact(u, v);
             return false;
         }
-        self.right[i as usize] = self.after(i, self.right[i as usize]);
-        self.left[j as usize] = self.before(j, self.left[j as usize]);
-        self.enter(i);
+        let (right, left) = (self.right[i as usize], self.left[j as usize]);
+        self.label(right, RIGHT);
+        self.label(left, LEFT);
+        self.right[i as usize] = self.after(i, right);
+        self.left[j as usize] = self.before(j, left);
+        let under = self.under_right(i);
+        self.touches[under as usize] -= 1;
         true
     }
 
     /// Puts what lies below the contexts `first` to `last` on the list, left to right, and notes
-    /// the darts to their frontier neighbours.
+    /// the darts to their frontier neighbours. Labels the darts that leave `first` to `last` and
+    /// the reverses of those that lead down.
     fn collect(&mut self, first: u8, last: u8) {
         self.list.clear();
         let mut u = first;
         loop {
-            let (mut dart, end) = (self.left[u as usize], self.right[u as usize]);
-            loop {
+            let (left, right) = (self.left[u as usize], self.right[u as usize]);
+            self.label(left, LEFT);
+            self.label(right, RIGHT);
+            let mut dart = self.before(u, left);
+            while dart != right {
+                self.collect_one(dart);
                 dart = self.before(u, dart);
-                if dart == end {
-                    break;
-                }
-                let v = self.head(dart);
-                let back = self.plan.backs[dart as usize];
-                if !self.entered[v as usize] {
-                    self.entered[v as usize] = true;
-                    self.left[v as usize] = self.before(v, back);
-                    self.list.push(v);
-                }
-                self.right[v as usize] = self.after(v, back);
             }
             if u == last {
                 return;
             }
-            u = self.right_of(u);
+            u = self.head(right);
         }
+    }
+
+    /// Puts the context that a dart leads down to on the list, if it is not there yet.
+    fn collect_one(&mut self, dart: u16) {
+        let (v, back) = (self.head(dart), self.back(dart));
+        self.label(dart, DOWN);
+        self.label(back, UP);
+        if !self.entered[v as usize] {
+            self.entered[v as usize] = true;
+            self.left[v as usize] = self.before(v, back);
+            self.list.push(v);
+        }
+        self.right[v as usize] = self.after(v, back);
     }
 
     /// Whether each inner frontier context has South alone below.
@@ -353,38 +380,19 @@ impl<'a> State<'a> {
         true
     }
 
-    /// The labels, if all inner contexts were on the frontier.
-    fn labels(&self) -> Vec<u8> {
-        let mut labels = vec![4; self.plan.heads.len()];
-        for u in 4..self.plan.n() as u8 {
-            self.label_ring(u, &mut labels[self.plan.darts(u as usize)]);
+    /// Labels what is left at the end, around the last frontier. Gives all labels.
+    fn finish(mut self) -> Vec<u8> {
+        let mut u = WEST;
+        while u != EAST {
+            let right = self.right[u as usize];
+            self.label(right, RIGHT);
+            self.label(self.back(right), LEFT);
+            u = self.head(right);
         }
-        for (u, label) in [(NORTH, 2), (EAST, 3), (SOUTH, 0), (WEST, 1)] {
-            let inner = self.start(u) as usize + 1..self.end(u) as usize - 1;
-            labels[inner].fill(label);
+        for dart in self.start(SOUTH) + 1..self.end(SOUTH) - 1 {
+            self.label(dart, UP);
+            self.label(self.back(dart), DOWN);
         }
-        labels
-    }
-
-    /// Labels the darts of an inner context: right from its first right neighbour to its last,
-    /// then down, then left from its last left neighbour to its first, then up.
-    fn label_ring(&self, u: u8, ring: &mut [u8]) {
-        let at = u as usize;
-        let length = ring.len() as u16;
-        let first = self.first_right[at];
-        let index = |dart: u16| {
-            let wrap = (dart < first) as u16;
-            (dart + wrap * length - first) as u8
-        };
-        let last_right = index(self.right[at]);
-        let last_left = index(self.left[at]);
-        let first_left = index(self.first_left[at]);
-        for (dart, label) in (self.start(u)..).zip(ring) {
-            let index = index(dart);
-            let runs = (index > last_right) as u8
-                + (index >= last_left) as u8
-                + (index > first_left) as u8;
-            *label = (1 + runs) % 4;
-        }
+        self.labels[..self.count].to_vec()
     }
 }

@@ -3,6 +3,7 @@
 mod common;
 
 use common::{flat, open_both, opened, Tally};
+use generate::families::{column, fan_behind_column, irreducible};
 use generate::file::file;
 use generate::sample::{any_plan, plan_of_family, small_plan, FAMILIES};
 use generate::{Random, Rings};
@@ -75,12 +76,35 @@ fn large_plans() {
     let mut random = Random::new(4);
     for (family, name) in FAMILIES.iter().enumerate() {
         let mut tally = Tally::default();
-        for _ in 0..4 {
-            let n = random.between(60, 90);
-            compare(&plan_of_family(family, n, &mut random), &mut tally);
+        for n in [60, 75, 90, 200] {
+            let rings = plan_of_family(family, n, &mut random);
+            compare(&rings, &mut tally);
         }
         println!("{name}, sweep: {:?}", tally.0);
     }
+    let mut tally = Tally::default();
+    compare(&fan_behind_column(49, 146), &mut tally);
+}
+
+#[test]
+fn flat_families_have_labels_and_charts() {
+    let mut random = Random::new(7);
+    for n in 5..=200 {
+        check_flat(&irreducible(n, &mut random));
+        check_flat(&column(n));
+        for family in (0..7).filter(|&family| n >= 24 && family != 2) {
+            check_flat(&plan_of_family(family, n, &mut random));
+        }
+    }
+}
+
+/// Checks that a plan has no triple, labels and a chart.
+fn check_flat(rings: &Rings) {
+    let mut sheet = opened(rings);
+    assert_eq!(scan(&sheet), Ok(None));
+    assert_eq!(sweep(&mut sheet), Ok(()));
+    assert_eq!(chart(&mut sheet), Ok(()));
+    assert_eq!(open(&encode(&sheet)).as_ref(), Ok(&sheet));
 }
 
 #[test]
