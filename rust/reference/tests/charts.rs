@@ -75,17 +75,15 @@ fn chart_by_trial(sheet: &Sheet) -> Option<Chart> {
     let (plan, labels) = (sheet.plan().unwrap(), sheet.labels().unwrap());
     let n = plan.n();
     let inner = n - 4;
-    let x = |u: usize| {
-        [Some(inner), Some(inner), None, None]
-            .get(u)
-            .copied()
-            .unwrap_or(Some(u - 4))
+    let x = |u: usize| match u {
+        0 | 1 => Some(inner),
+        2 | 3 => None,
+        _ => Some(u - 4),
     };
-    let y = |u: usize| {
-        [Some(inner), None, None, Some(inner)]
-            .get(u)
-            .copied()
-            .unwrap_or(Some(u - 4))
+    let y = |u: usize| match u {
+        0 | 3 => Some(inner),
+        1 | 2 => None,
+        _ => Some(u - 4),
     };
     let (mut rules_x, mut rules_y) = (Vec::new(), Vec::new());
     for u in 0..n {
@@ -119,6 +117,7 @@ fn charts_are_least() {
     let mut count = 0;
     let mut small: Vec<Rings> = vec![families::trench_a(), families::trench_b()];
     small.extend((0..150).map(|_| families::irreducible(random.between(5, 9), &mut random)));
+    small.extend((0..6).map(|_| families::irreducible(10, &mut random)));
     for rings in small {
         for mut sheet in all_labellings(&rings) {
             let by_trial = chart_by_trial(&sheet);
