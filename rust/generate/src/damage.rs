@@ -179,6 +179,48 @@ pub fn damaged_labels(labels: &[u8], random: &mut Random) -> Vec<u8> {
     labels
 }
 
+/// Labels with one inner edge changed on both sides, each dart keeping two quarters' difference
+/// modulo 4: turned, or with 4 or 8 added to both.
+pub fn labels_with_other_edge(rings: &Rings, labels: &[u8], random: &mut Random) -> Vec<u8> {
+    let mut labels = labels.to_vec();
+    if let Some((u, v)) = random_dart(rings, random) {
+        let more = *random.pick(&[1, 2, 3, 4, 8]);
+        for (u, v) in [(u, v), (v, u)] {
+            let label = &mut labels[dart_number(rings, u, v)];
+            *label = if more < 4 {
+                (*label + more) % 4
+            } else {
+                *label + more
+            };
+        }
+    }
+    labels
+}
+
+/// Labels with the ring of one inner context in runs that go round none to three times, clockwise
+/// or counterclockwise, and the reverse darts labelled to fit.
+pub fn labels_in_runs(rings: &Rings, labels: &[u8], context: u16, random: &mut Random) -> Vec<u8> {
+    let mut labels = labels.to_vec();
+    let ring = &rings[context as usize];
+    let steps = 4 * random.below(4);
+    let forward = random.below(4) * 2 + 1;
+    let first = random.below(4);
+    for (index, &v) in ring.iter().enumerate() {
+        let step = index * steps / ring.len();
+        let label = ((first + forward * step) % 4) as u8;
+        labels[dart_number(rings, context, v)] = label;
+        labels[dart_number(rings, v, context)] = (label + 2) % 4;
+    }
+    labels
+}
+
+/// The number of a dart in ring order.
+fn dart_number(rings: &Rings, u: u16, v: u16) -> usize {
+    let before: usize = rings[..u as usize].iter().map(Vec::len).sum();
+    let at = rings[u as usize].iter().position(|&entry| entry == v);
+    before + at.expect("neighbours")
+}
+
 /// Random label bytes from 0 to 4.
 pub fn random_labels(count: usize, random: &mut Random) -> Vec<u8> {
     (0..count).map(|_| random.below(5) as u8).collect()

@@ -3,7 +3,8 @@
 mod common;
 
 use common::{flat, open_both, opened, Tally};
-use generate::families::{column, fan_behind_column, irreducible};
+use generate::damage::{labels_in_runs, labels_with_other_edge};
+use generate::families::{column, fan_behind_column, irreducible, wheel};
 use generate::file::file;
 use generate::sample::{any_plan, plan_of_family, small_plan, FAMILIES};
 use generate::{Random, Rings};
@@ -127,6 +128,31 @@ fn labels_of_small_plans() {
         }
     }
     println!("offered labels: {:?}", tally.0);
+}
+
+#[test]
+fn labels_with_changed_edges_and_rings() {
+    let mut random = Random::new(8);
+    let mut tally = Tally::default();
+    for count in 0..3_000 {
+        let rings = if count % 2 == 0 {
+            wheel(random.between(9, 30), &mut random)
+        } else {
+            small_plan(&mut random)
+        };
+        let labels = match plain::sweep(&rings) {
+            Ok(labels) => flat(&labels),
+            Err(_) => continue,
+        };
+        let inner = random.between(4, rings.len() - 1) as u16;
+        for context in [4, inner] {
+            let offered = labels_in_runs(&rings, &labels, context, &mut random);
+            tally.count(&compare_offer(&rings, &offered));
+        }
+        let offered = labels_with_other_edge(&rings, &labels, &mut random);
+        tally.count(&compare_offer(&rings, &offered));
+    }
+    println!("changed edges and rings: {:?}", tally.0);
 }
 
 /// Compares offer with the plain label rules and with open.
