@@ -22,11 +22,10 @@ pub fn label_at(labels: &[u8], i: usize) -> usize
     ensures { λ r. ⌜ r ≡ getD (now (labels .entry)) i unlabelled ⌝ }
     ensures { λ r. ⌜ r < 2 ^ 8 ⌝ }
 {
-    if i < labels.len() {
-        lists::wide_byte(labels[i])
-    } else {
-        5
+    if i >= labels.len() {
+        return 5;
     }
+    lists::wide_byte(labels[i])
 }
 
 // The label due on the inner darts that leave a context: North's are down, East's left, South's up, West's right; no one label is due at an inner context.

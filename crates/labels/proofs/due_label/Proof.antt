@@ -2,38 +2,28 @@
 use mathlib.Core.Path.{sym, ap}
 use Rattle.model.specs.Labels.{due}
 use Rattle.labels.proofs.Breaks.{due-none}
-use native.Mathlib.Omega.{arith}
-use borrow.Author.Needs.{needs}
 use Rattle.labels.proofs.due_label.Statement.{statement}
 use Rattle.labels.proofs.due_label.Tie as tie
-use Rattle.labels.proofs.due_label.Reads as reads
-use Rattle.labels.proofs.due_label.Lts as lts
 
--- src/lib.rt:33:1
 returns : tie.Need-returns
 unfolding due
 returns c = sym (ap due (c .match .keys1))
 
--- src/lib.rt:33:1
 returns-2 : tie.Need-returns-2
 unfolding due
 returns-2 c = sym (ap due (c .match .keys2))
 
--- src/lib.rt:33:1
 returns-3 : tie.Need-returns-3
 unfolding due
 returns-3 c = sym (ap due (c .match .keys3))
 
--- src/lib.rt:33:1
 returns-4 : tie.Need-returns-4
 unfolding due
 returns-4 c = sym (ap due (c .match .keys4))
 
--- src/lib.rt:33:1
 returns-5 : tie.Need-returns-5
 returns-5 c = let r = c .before .match .rest in due-none (c .before .before .args .u) (r .0 .0 .0 .1) (r .0 .0 .1) (r .0 .1) (r .1)
 
--- src/lib.rt:33:1
 returns-6 : tie.Need-returns-6
 returns-6 c = let r = c .before .match .rest in due-none (c .before .before .args .u) (r .0 .0 .0 .1) (r .0 .0 .1) (r .0 .1) (r .1)
 

@@ -4,36 +4,27 @@ use Prim.Native.Nat.{ℕ}
 use Rattle.model.specs.Labels.{labelOf}
 use Rattle.rings.specs.Tables.{table}
 use Rattle.labels.specs.Held.{held}
-use native.Mathlib.Omega.{arith}
 use borrow.Author.Needs.{needs}
 use Rattle.labels.proofs.label_of.Statement.{statement}
 use Rattle.labels.proofs.label_of.Tie as tie
-use Rattle.labels.proofs.label_of.Reads as reads
-use Rattle.labels.proofs.label_of.Lts as lts
-use Rattle.labels.proofs.label_in.Reads as label-in-reads
-use Rattle.labels.proofs.lesser.Reads as lesser-reads
-use Rattle.rings.proofs.starts_of.Reads as starts-of-reads
 
--- src/lib.rt:80:18
 starts-of-requires : tie.Need-starts-of-requires
 starts-of-requires c κs = search needs
 
--- src/lib.rt:81:14
 slice-aggregate-label-in : tie.Need-slice-aggregate-label-in
 slice-aggregate-label-in c = search needs
 
--- src/lib.rt:81:39
 lesser-requires : tie.Need-lesser-requires
 lesser-requires c κs = search needs
 
--- src/lib.rt:81:5
 label-in-requires : tie.Need-label-in-requires
 label-in-requires c κs = search needs
 
--- src/lib.rt:69:1
 returns : tie.Need-returns
 unfolding held
-returns c = let a = c .before .before .before .before .before .before .before .args in (c .label-in .ensures .0 ∙ ap (λ (m : ℕ). labelOf (table (a .sizes .now) (a .entries .now) m) (a .labels .now) (a .u) (a .v)) (c .before .lesser .ensures), c .label-in .ensures .1)
+returns c =
+    let a = c .before .before .before .before .before .before .before .args in
+    (c .label-in .ensures .0 ∙ ap (λ (m : ℕ). labelOf (table (a .sizes .now) (a .entries .now) m) (a .labels .now) (a .u) (a .v)) (c .before .lesser .ensures), c .label-in .ensures .1)
 
 pub label-of-spec : {M : Type 1} → statement M
 label-of-spec =

@@ -9,60 +9,48 @@ use native.Mathlib.Omega.{arith}
 use borrow.Author.Needs.{needs}
 use Rattle.labels.proofs.change.put_label.Statement.{statement}
 use Rattle.labels.proofs.change.put_label.Tie as tie
-use Rattle.labels.proofs.change.put_label.Reads as reads
-use Rattle.labels.proofs.change.put_label.Lts as lts
-use Rattle.labels.proofs.change.store.Reads as store-reads
-use Rattle.labels.proofs.lesser.Reads as lesser-reads
-use Rattle.lists.proofs.num.Reads as num-reads
-use Rattle.rings.proofs.index_of.Reads as index-of-reads
-use Rattle.rings.proofs.size_of.Reads as size-of-reads
-use Rattle.rings.proofs.starts_of.Reads as starts-of-reads
 
--- src/change.rt:31:18
 starts-of-requires : tie.Need-starts-of-requires
 starts-of-requires c κs = search needs
 
--- src/change.rt:32:9
 lesser-requires : tie.Need-lesser-requires
 lesser-requires c κs = search needs
 
--- src/change.rt:33:29
 slice-aggregate-index-of : tie.Need-slice-aggregate-index-of
 slice-aggregate-index-of c = search needs
 
--- src/change.rt:33:9
 index-of-requires : tie.Need-index-of-requires
 index-of-requires c κs = search needs
 
--- src/change.rt:34:12
 size-of-requires : tie.Need-size-of-requires
 size-of-requires c κs = search needs
 
--- src/change.rt:35:41
 slice-aggregate-num : tie.Need-slice-aggregate-num
 slice-aggregate-num c = search needs
 
--- src/change.rt:35:30
 num-requires : tie.Need-num-requires
 num-requires c κs = search needs
 
--- src/change.rt:35:30
 add-store : tie.Need-add-store
 add-store c = search needs
 
--- src/change.rt:35:9
 store-requires : tie.Need-store-requires
 store-requires c κs = search needs
 
--- src/change.rt:35:9
 returns : tie.Need-returns
 unfolding held
-returns c = let a = c .before .before .before .before .before .before .before .before .before .before .before .args in c .store .ensures ∙ put-there (c .before .before .before .before .before .before .before .before .starts-of .result) (a .sizes .now) (a .entries .now) (c .before .before .before .before .before .before .before .lesser .result) (c .before .before .before .before .before .before .before .before .starts-of .ensures) (omega arith) (a .u) (a .v) (c .before .num .ensures .0) (c .before .before .before .before .before .index-of .ensures .0) (c .before .before .before .before .size-of .ensures .0) (a .labels) (a .l) (omega arith) ∙ ap (λ (m : ℕ). put (table (a .sizes .now) (a .entries .now) m) (a .u) (a .v) (a .l) (a .labels)) (c .before .before .before .before .before .before .before .lesser .ensures)
+returns c =
+    let a = c .before .before .before .before .before .before .before .before .before .before .before .args in
+    c .store .ensures
+    ∙ put-there (c .before .before .before .before .before .before .before .before .starts-of .result) (a .sizes .now) (a .entries .now) (c .before .before .before .before .before .before .before .lesser .result) (c .before .before .before .before .before .before .before .before .starts-of .ensures) (omega arith) (a .u) (a .v) (c .before .num .ensures .0) (c .before .before .before .before .before .index-of .ensures .0) (c .before .before .before .before .size-of .ensures .0) (a .labels) (a .l) (omega arith)
+    ∙ ap (λ (m : ℕ). put (table (a .sizes .now) (a .entries .now) m) (a .u) (a .v) (a .l) (a .labels)) (c .before .before .before .before .before .before .before .lesser .ensures)
 
--- src/change.rt:20:1
 returns-2 : tie.Need-returns-2
 unfolding held
-returns-2 c = let a = c .before .before .before .before .before .before .before .before .args in put-none (c .before .before .before .before .before .starts-of .result) (a .sizes .now) (a .entries .now) (c .before .before .before .before .lesser .result) (c .before .before .before .before .before .starts-of .ensures) (omega arith) (a .u) (a .v) refl (c .before .before .index-of .ensures .0) (c .before .size-of .ensures .0) (a .labels) (a .l) (omega arith) ∙ ap (λ (m : ℕ). put (table (a .sizes .now) (a .entries .now) m) (a .u) (a .v) (a .l) (a .labels)) (c .before .before .before .before .lesser .ensures)
+returns-2 c =
+    let a = c .before .before .before .before .before .before .before .before .args in
+    put-none (c .before .before .before .before .before .starts-of .result) (a .sizes .now) (a .entries .now) (c .before .before .before .before .lesser .result) (c .before .before .before .before .before .starts-of .ensures) (omega arith) (a .u) (a .v) refl (c .before .before .index-of .ensures .0) (c .before .size-of .ensures .0) (a .labels) (a .l) (omega arith)
+    ∙ ap (λ (m : ℕ). put (table (a .sizes .now) (a .entries .now) m) (a .u) (a .v) (a .l) (a .labels)) (c .before .before .before .before .lesser .ensures)
 
 pub put-label-spec : {M : Type 1} → statement M
 put-label-spec =

@@ -5,39 +5,33 @@ use Rattle.model.specs.Labels.{put}
 use Rattle.model.specs.Turn.{turnDart}
 use Rattle.labels.specs.Held.{held}
 use Rattle.labels.proofs.Places.{turned-on}
-use native.Mathlib.Omega.{arith}
 use borrow.Author.Needs.{needs}
 use Rattle.labels.proofs.change.turn_dart.Statement.{statement}
 use Rattle.labels.proofs.change.turn_dart.Tie as tie
-use Rattle.labels.proofs.change.turn_dart.Reads as reads
-use Rattle.labels.proofs.change.turn_dart.Lts as lts
-use Rattle.labels.proofs.change.put_label.Reads as put-label-reads
-use Rattle.labels.proofs.label_of.Reads as label-of-reads
 
--- src/change.rt:52:48
 slice-aggregate-label-of : tie.Need-slice-aggregate-label-of
 slice-aggregate-label-of c = search needs
 
--- src/change.rt:52:9
 label-of-requires : tie.Need-label-of-requires
 label-of-requires c κs = search needs
 
--- src/change.rt:53:19
 add-turned : tie.Need-add-turned
 add-turned c = search needs
 
--- src/change.rt:54:48
 cast-put-label : tie.Need-cast-put-label
 cast-put-label c = search needs
 
--- src/change.rt:54:5
 put-label-requires : tie.Need-put-label-requires
 put-label-requires c κs = search needs
 
--- src/change.rt:41:1
 returns : tie.Need-returns
 unfolding turnDart
-returns c = let a = c .before .before .before .before .before .args in let l = c .before .label-of .ensures .0 in c .put-label .ensures ∙ ap (λ (k : ℕ). put (held (a .sizes .now) (a .entries .now) (a .n)) (a .u) (a .v) k (a .t1)) (turned-on (c .before .label-of .result) (a .quarters) ∙ ap (λ (k : ℕ). (k + a .quarters) % 4) l)
+returns c =
+    let a = c .before .before .before .before .before .args in
+    let p = held (a .sizes .now) (a .entries .now) (a .n) in
+    let l = c .before .label-of .ensures .0 in
+    c .put-label .ensures
+    ∙ ap (λ (k : ℕ). put p (a .u) (a .v) k (a .t1)) (turned-on (c .before .label-of .result) (a .quarters) ∙ ap (λ (k : ℕ). (k + a .quarters) % 4) l)
 
 pub turn-dart-spec : {M : Type 1} → statement M
 turn-dart-spec =

@@ -2,25 +2,22 @@
 use mathlib.Core.Path.{ap, _∙_}
 use Rattle.model.specs.Turn.{turnDart}
 use Rattle.labels.specs.Held.{held}
-use native.Mathlib.Omega.{arith}
 use borrow.Author.Needs.{needs}
 use Rattle.labels.proofs.change.turn_edge.Statement.{statement}
 use Rattle.labels.proofs.change.turn_edge.Tie as tie
-use Rattle.labels.proofs.change.turn_edge.Reads as reads
-use Rattle.labels.proofs.change.turn_edge.Lts as lts
-use Rattle.labels.proofs.change.turn_dart.Reads as turn-dart-reads
 
--- src/change.rt:69:9
 turn-dart-requires : tie.Need-turn-dart-requires
 turn-dart-requires c κs = search needs
 
--- src/change.rt:70:5
 turn-dart-requires-2 : tie.Need-turn-dart-requires-2
 turn-dart-requires-2 c κs = search needs
 
--- src/change.rt:58:1
 returns : tie.Need-returns
-returns c = let a = c .before .before .before .before .args in c .turn-dart2 .ensures ∙ ap (turnDart (held (a .sizes .now) (a .entries .now) (a .n)) (a .quarters) (a .u, a .v)) (c .before .turn-dart .ensures)
+returns c =
+    let a = c .before .before .before .before .args in
+    let p = held (a .sizes .now) (a .entries .now) (a .n) in
+    c .turn-dart2 .ensures
+    ∙ ap (turnDart p (a .quarters) (a .u, a .v)) (c .before .turn-dart .ensures)
 
 pub turn-edge-spec : {M : Type 1} → statement M
 turn-edge-spec = tie.close (tie.spec turn-dart-requires turn-dart-requires-2 returns)

@@ -8,40 +8,35 @@ use native.Mathlib.Omega.{arith}
 use borrow.Author.Needs.{needs}
 use Rattle.labels.proofs.rules.bad_ring.Statement.{statement}
 use Rattle.labels.proofs.rules.bad_ring.Tie as tie
-use Rattle.labels.proofs.rules.bad_ring.Reads as reads
-use Rattle.labels.proofs.rules.bad_ring.Lts as lts
-use Rattle.labels.proofs.rules.not_dues.Reads as not-dues-reads
-use Rattle.labels.proofs.runs.four_runs.Reads as four-runs-reads
-use Rattle.lists.proofs.num.Reads as num-reads
-use Rattle.rings.proofs.size_of.Reads as size-of-reads
 
--- src/rules.rt:128:9
 not-dues-requires : tie.Need-not-dues-requires
 not-dues-requires c κs = search needs
 
--- src/rules.rt:128:9
 returns : tie.Need-returns
-returns c = let a = c .before .before .before .before .before .before .args in c .not-dues .ensures ∙ ring-border (table (a .sizes .now) (a .entries .now) (a .n)) (a .labels .now) (a .u) (omega arith)
+returns c =
+    let a = c .before .before .before .before .before .before .args in
+    let p = table (a .sizes .now) (a .entries .now) (a .n) in
+    c .not-dues .ensures
+    ∙ ring-border p (a .labels .now) (a .u) (omega arith)
 
--- src/rules.rt:130:9
 num-requires : tie.Need-num-requires
 num-requires c κs = search needs
 
--- src/rules.rt:131:44
 size-of-requires : tie.Need-size-of-requires
 size-of-requires c κs = search needs
 
--- src/rules.rt:131:40
 add-four-runs : tie.Need-add-four-runs
 add-four-runs c = search needs
 
--- src/rules.rt:131:6
 four-runs-requires : tie.Need-four-runs-requires
 four-runs-requires c κs = search needs
 
--- src/rules.rt:114:1
 returns-2 : tie.Need-returns-2
-returns-2 c = let a = c .before .before .before .before .before .before .before .before .args in ring-inner (table (a .sizes .now) (a .entries .now) (a .n)) (a .labels .now) (a .u) (c .four-runs .ensures ∙ ap fourRuns (around-held (a .starts .now) (a .sizes .now) (a .entries .now) (a .n) (c .before .before .before .before .before .before .before .before .pre .0) (omega arith) (a .u) (c .before .before .num .ensures .0) (c .before .size-of .ensures .0) (a .labels .now) (omega arith))) (omega arith)
+returns-2 c =
+    let entry = c .before .before .before .before .before .before .before .before in
+    let a = entry .args in
+    let p = table (a .sizes .now) (a .entries .now) (a .n) in
+    ring-inner p (a .labels .now) (a .u) (c .four-runs .ensures ∙ ap fourRuns (around-held (a .starts .now) (a .sizes .now) (a .entries .now) (a .n) (entry .pre .0) (omega arith) (a .u) (c .before .before .num .ensures .0) (c .before .size-of .ensures .0) (a .labels .now) (omega arith))) (omega arith)
 
 pub bad-ring-spec : {M : Type 1} → statement M
 bad-ring-spec =

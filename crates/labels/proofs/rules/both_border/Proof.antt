@@ -2,17 +2,12 @@
 use mathlib.Core.Path.{sym}
 use borrow.Author.Tests.{lt-ltb, le-ltb}
 use native.Mathlib.Omega.{arith}
-use borrow.Author.Needs.{needs}
 use Rattle.labels.proofs.rules.both_border.Statement.{statement}
 use Rattle.labels.proofs.rules.both_border.Tie as tie
-use Rattle.labels.proofs.rules.both_border.Reads as reads
-use Rattle.labels.proofs.rules.both_border.Lts as lts
 
--- src/rules.rt:13:1
 returns : tie.Need-returns
 returns c = sym (rw (lt-ltb (c .before .args .u) 4 (c .if1 .taken)))
 
--- src/rules.rt:13:1
 returns-2 : tie.Need-returns-2
 returns-2 c = sym (rw (le-ltb (c .before .args .u) 4 (omega arith)))
 

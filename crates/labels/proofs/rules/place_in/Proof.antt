@@ -8,9 +8,6 @@ use native.Mathlib.Omega.{arith}
 use borrow.Author.Needs.{needs}
 use Rattle.labels.proofs.rules.place_in.Statement.{statement}
 use Rattle.labels.proofs.rules.place_in.Tie as tie
-use Rattle.labels.proofs.rules.place_in.Reads as reads
-use Rattle.labels.proofs.rules.place_in.Lts as lts
-use Rattle.labels.proofs.rules.breaks_at.Reads as breaks-at-reads
 
 abbrev Inv-loop : tie.InvT-loop
 Inv-loop starts sizes entries n labels u₀ u = Looks (breaks (table sizes entries n) labels) n u
@@ -18,31 +15,26 @@ Inv-loop starts sizes entries n labels u₀ u = Looks (breaks (table sizes entri
 abbrev μ-loop : tie.MeasureT-loop
 μ-loop starts sizes entries n labels u₀ u = n - u
 
--- src/rules.rt:168:5
 loop-holds : tie.Need-loop-holds Inv-loop μ-loop
 loop-holds c = looks-start
 
--- src/rules.rt:169:12
 breaks-at-requires : tie.Need-breaks-at-requires Inv-loop μ-loop
 breaks-at-requires c κs = search needs
 
--- src/rules.rt:170:13
 returns : tie.Need-returns Inv-loop μ-loop
-returns c = (looks-hit (c .before .before .before .loop .inv) (omega arith) (sym (c .before .breaks-at .ensures) ∙ c .if1 .taken), omega arith)
+returns c =
+    (looks-hit (c .before .before .before .loop .inv) (omega arith) (sym (c .before .breaks-at .ensures) ∙ c .if1 .taken), omega arith)
 
--- src/rules.rt:172:9
 add-u : tie.Need-add-u Inv-loop μ-loop
 add-u c = search needs
 
--- src/rules.rt:168:5
 loop-less : tie.Need-loop-less Inv-loop μ-loop
 loop-less c = search needs
 
--- src/rules.rt:168:5
 loop-again : tie.Need-loop-again Inv-loop μ-loop
-loop-again c = looks-on (c .before .before .before .loop .inv) (omega arith) (omega arith) (sym (c .before .breaks-at .ensures) ∙ c .if1 .left)
+loop-again c =
+    looks-on (c .before .before .before .loop .inv) (omega arith) (omega arith) (sym (c .before .breaks-at .ensures) ∙ c .if1 .left)
 
--- src/rules.rt:155:1
 returns-2 : tie.Need-returns-2 Inv-loop μ-loop
 returns-2 c = (looks-end (c .before .loop .inv) (omega arith), let h = c .before .loop .inv .reached in omega arith)
 

@@ -8,32 +8,25 @@ use native.Mathlib.Omega.{arith}
 use borrow.Author.Needs.{needs}
 use Rattle.labels.proofs.rules.rules_place.Statement.{statement}
 use Rattle.labels.proofs.rules.rules_place.Tie as tie
-use Rattle.labels.proofs.rules.rules_place.Reads as reads
-use Rattle.labels.proofs.rules.rules_place.Lts as lts
-use Rattle.labels.proofs.lesser.Reads as lesser-reads
-use Rattle.labels.proofs.rules.place_in.Reads as place-in-reads
-use Rattle.rings.proofs.starts_of.Reads as starts-of-reads
 
--- src/rules.rt:182:18
 starts-of-requires : tie.Need-starts-of-requires
 starts-of-requires c κs = search needs
 
--- src/rules.rt:183:14
 slice-aggregate-place-in : tie.Need-slice-aggregate-place-in
 slice-aggregate-place-in c = search needs
 
--- src/rules.rt:183:39
 lesser-requires : tie.Need-lesser-requires
 lesser-requires c κs = search needs
 
--- src/rules.rt:183:5
 place-in-requires : tie.Need-place-in-requires
 place-in-requires c κs = search needs
 
--- src/rules.rt:178:1
 returns : tie.Need-returns
 unfolding held
-returns c = let a = c .before .before .before .before .before .before .before .args in let m = c .before .lesser .ensures in (c .place-in .ensures .0 ∙ (λ i. lowest (breaks (table (a .sizes .now) (a .entries .now) (m i)) (a .labels .now)) (m i)), omega arith)
+returns c =
+    let a = c .before .before .before .before .before .before .before .args in
+    let m = c .before .lesser .ensures in
+    (c .place-in .ensures .0 ∙ (λ i. lowest (breaks (table (a .sizes .now) (a .entries .now) (m i)) (a .labels .now)) (m i)), omega arith)
 
 pub rules-place-spec : {M : Type 1} → statement M
 rules-place-spec =

@@ -5,26 +5,19 @@ use native.Mathlib.Omega.{arith}
 use borrow.Author.Needs.{needs}
 use Rattle.labels.proofs.runs.change_weight.Statement.{statement}
 use Rattle.labels.proofs.runs.change_weight.Tie as tie
-use Rattle.labels.proofs.runs.change_weight.Reads as reads
-use Rattle.labels.proofs.runs.change_weight.Lts as lts
 
--- src/runs.rt:14:9
 returns : tie.Need-returns
 returns c = (sym (weight-same _ _ (c .if1 .taken)), omega arith)
 
--- src/runs.rt:17:9
 returns-2 : tie.Need-returns-2
 returns-2 c = (weight-high _ _ (c .before .if1 .left) (omega arith), omega arith)
 
--- src/runs.rt:19:14
 add-if3 : tie.Need-add-if3
 add-if3 c = search needs
 
--- src/runs.rt:9:1
 returns-3 : tie.Need-returns-3
 returns-3 c = (weight-one _ _ (c .before .before .if1 .left) (omega arith) (c .if3 .taken), omega arith)
 
--- src/runs.rt:9:1
 returns-4 : tie.Need-returns-4
 returns-4 c = (weight-other _ _ (c .before .before .if1 .left) (omega arith) (c .if3 .left), omega arith)
 

@@ -7,11 +7,6 @@ use native.Mathlib.Omega.{arith}
 use borrow.Author.Needs.{needs}
 use Rattle.labels.proofs.runs.four_runs.Statement.{statement}
 use Rattle.labels.proofs.runs.four_runs.Tie as tie
-use Rattle.labels.proofs.runs.four_runs.Reads as reads
-use Rattle.labels.proofs.runs.four_runs.Lts as lts
-use Rattle.labels.proofs.label_at.Reads as label-at-reads
-use Rattle.labels.proofs.lesser.Reads as lesser-reads
-use Rattle.labels.proofs.runs.change_weight.Reads as change-weight-reads
 
 abbrev Inv-loop : tie.InvT-loop
 Inv-loop labels a e end last₀ weight₀ i₀ last weight i = Weighs labels a end i last weight
@@ -19,57 +14,54 @@ Inv-loop labels a e end last₀ weight₀ i₀ last weight i = Weighs labels a e
 abbrev μ-loop : tie.MeasureT-loop
 μ-loop labels a e end last₀ weight₀ i₀ last weight i = end - i
 
--- src/runs.rt:26:9
 lesser-requires : tie.Need-lesser-requires Inv-loop μ-loop
 lesser-requires c κs = search needs
 
--- src/runs.rt:28:9
 returns : tie.Need-returns Inv-loop μ-loop
-returns c = let a = c .before .before .before .args in runs-none (a .labels .now) (a .a) (c .before .lesser .result) (omega arith) ∙ ap fourRuns (slice-end (a .labels .now) (a .a) (a .e) (c .before .lesser .result) (c .before .lesser .ensures))
+returns c =
+    let a = c .before .before .before .args in
+    runs-none (a .labels .now) (a .a) (c .before .lesser .result) (omega arith)
+    ∙ ap fourRuns (slice-end (a .labels .now) (a .a) (a .e) (c .before .lesser .result) (c .before .lesser .ensures))
 
--- src/runs.rt:30:44
 sub-label-at : tie.Need-sub-label-at Inv-loop μ-loop
 sub-label-at c = search needs
 
--- src/runs.rt:30:9
 label-at-requires : tie.Need-label-at-requires Inv-loop μ-loop
 label-at-requires c κs = search needs
 
--- src/runs.rt:33:5
 loop-holds : tie.Need-loop-holds Inv-loop μ-loop
 loop-holds c = weighs-start (omega arith) (omega arith) (c .label-at .ensures .0)
 
--- src/runs.rt:34:13
 label-at-requires-2 : tie.Need-label-at-requires-2 Inv-loop μ-loop
 label-at-requires-2 c κs = search needs
 
--- src/runs.rt:35:19
 change-weight-requires : tie.Need-change-weight-requires Inv-loop μ-loop
 change-weight-requires c κs = search needs
 
--- src/runs.rt:35:9
 add-weight : tie.Need-add-weight Inv-loop μ-loop
 add-weight c = let l = c .before .before .before .loop .inv .light in let w = c .change-weight .ensures .1 in omega arith
 
--- src/runs.rt:37:13
 returns-2 : tie.Need-returns-2 Inv-loop μ-loop
-returns-2 c = let a = c .before .before .before .before .before .before .before .before .before .args in weighs-heavy (c .before .before .before .before .loop .inv) (omega arith) (c .before .before .label-at2 .ensures .0) (c .before .change-weight .ensures .0) (omega arith) ∙ ap fourRuns (slice-end (a .labels .now) (a .a) (a .e) (c .before .before .before .before .before .before .before .lesser .result) (c .before .before .before .before .before .before .before .lesser .ensures))
+returns-2 c =
+    let a = c .before .before .before .before .before .before .before .before .before .args in
+    weighs-heavy (c .before .before .before .before .loop .inv) (omega arith) (c .before .before .label-at2 .ensures .0) (c .before .change-weight .ensures .0) (omega arith)
+    ∙ ap fourRuns (slice-end (a .labels .now) (a .a) (a .e) (c .before .before .before .before .before .before .before .lesser .result) (c .before .before .before .before .before .before .before .lesser .ensures))
 
--- src/runs.rt:40:9
 add-i : tie.Need-add-i Inv-loop μ-loop
 add-i c = search needs
 
--- src/runs.rt:33:5
 loop-less : tie.Need-loop-less Inv-loop μ-loop
 loop-less c = search needs
 
--- src/runs.rt:33:5
 loop-again : tie.Need-loop-again Inv-loop μ-loop
-loop-again c = weighs-on (c .before .before .before .before .loop .inv) refl (omega arith) (c .before .before .label-at2 .ensures .0) (c .before .change-weight .ensures .0) (omega arith)
+loop-again c =
+    weighs-on (c .before .before .before .before .loop .inv) refl (omega arith) (c .before .before .label-at2 .ensures .0) (c .before .change-weight .ensures .0) (omega arith)
 
--- src/runs.rt:23:1
 returns-3 : tie.Need-returns-3 Inv-loop μ-loop
-returns-3 c = let a = c .before .before .before .before .before .before .args in weighs-end (c .before .loop .inv) (omega arith) ∙ ap fourRuns (slice-end (a .labels .now) (a .a) (a .e) (c .before .before .before .before .lesser .result) (c .before .before .before .before .lesser .ensures))
+returns-3 c =
+    let a = c .before .before .before .before .before .before .args in
+    weighs-end (c .before .loop .inv) (omega arith)
+    ∙ ap fourRuns (slice-end (a .labels .now) (a .a) (a .e) (c .before .before .before .before .lesser .result) (c .before .before .before .before .lesser .ensures))
 
 pub four-runs-spec : {M : Type 1} → statement M
 four-runs-spec =
