@@ -1,0 +1,198 @@
+// Runs vectors over the leaves. Standard input holds plan files, each behind its length in two bytes, little-endian; the
+// program prints a line for each: what framing finds, the place that each plan rule gives (n where it is kept), the scan,
+// the place of the label rules, the chart, and whether what is written is the file. A leaf that the ones before it rule out
+// is not asked.
+
+fn print(word: &[u8], x: usize) {
+    io::write_all(1, word);
+    io::print_decimal(1, x as u64);
+}
+
+// The number put at an index, if the index is there.
+fn store(entries: &mut [u16], at: usize, v: usize) {
+    if at < entries.len() {
+        entries[at] = (v % 65536) as u16;
+    }
+}
+
+// The entries of u's ring, copied behind those of the rings before it.
+fn copy_ring<'a>(
+    entries: &mut [u16],
+    file: &'a [u8],
+    starts: &'a [u16],
+    sizes: &'a [u8],
+    n: usize,
+    u: usize,
+) {
+    let from = lists::num(starts, u);
+    let k = rings::size_of(sizes, n, u);
+    let mut i = 0;
+    while i < k {
+        store(
+            entries,
+            from + i,
+            lent::neighbour_in(file, starts, sizes, n, u, i),
+        );
+        i += 1;
+    }
+}
+
+// The places that rules 4, 5 and 6 give; whether all are kept.
+fn print_lent_rules<'a>(file: &'a [u8], starts: &'a [u16], sizes: &'a [u8], n: usize) -> bool {
+    let four = lent::rule4_place(file, starts, sizes, n);
+    let five = lent::rule5_place(file, starts, sizes, n);
+    let six = lent::rule6_place(file, starts, sizes, n);
+    print(b" 4:", four);
+    print(b" 5:", five);
+    print(b" 6:", six);
+    if n < 200 {
+        print(b" entries ", lists::num(starts, n));
+    }
+    if four < n {
+        return false;
+    }
+    if five < n {
+        return false;
+    }
+    n <= six
+}
+
+// The places that rules 8 and 9 give; whether both are kept.
+fn print_flat_rules<'a>(starts: &'a [u16], sizes: &'a [u8], entries: &'a [u16], n: usize) -> bool {
+    let eight = rings::faces::rule8_place(starts, sizes, entries, n);
+    let nine = rings::faces::rule9_place(starts, sizes, entries, n);
+    print(b" 8:", eight);
+    print(b" 9:", nine);
+    if eight < 4 {
+        return false;
+    }
+    n <= nine
+}
+
+fn print_scan<'a>(starts: &'a [u16], sizes: &'a [u8], entries: &'a [u16], n: usize) {
+    let scanned = rings::scan::scan(starts, sizes, entries, n);
+    match scanned {
+        rings::scan::Scanned::Nothing => {
+            io::write_all(1, b" triangle none");
+        }
+        rings::scan::Scanned::Triple(a, b, c) => {
+            print(b" triangle ", a);
+            print(b",", b);
+            print(b",", c);
+        }
+    }
+}
+
+// How many of the first k bytes are the same in both, up to the first that differs.
+fn same_bytes<'a>(a: &'a [u8], b: &'a [u8], k: usize) -> usize {
+    let mut i = 0;
+    while i < k {
+        if lists::byte(a, i) != lists::byte(b, i) {
+            return i;
+        }
+        i += 1;
+    }
+    i
+}
+
+// How many bytes the plan alone takes when it is written, and how many of them are the file's.
+fn print_written<'a>(file: &'a [u8], sizes: &'a [u8], entries: &'a [u16], n: usize) {
+    let mut space = io::buffer();
+    writing::write_plan(&mut space, 0, n, sizes, entries);
+    let size = writing::plan_length(sizes, n);
+    print(b" bytes ", size);
+    print(b" same ", same_bytes(file, &space, size));
+}
+
+// The place of the label rules.
+fn print_labels<'a>(sizes: &'a [u8], entries: &'a [u16], n: usize, labels: &'a [u8]) {
+    print(
+        b" 10:",
+        labels::rules::rules_place(sizes, entries, n, labels),
+    );
+}
+
+// The rules 8 and 9, and on a plan that keeps them the scan, what is written, and the label rules where there are labels.
+fn print_flat<'a>(
+    file: &'a [u8],
+    starts: &'a [u16],
+    sizes: &'a [u8],
+    entries: &'a [u16],
+    n: usize,
+    labels: &'a [u8],
+) {
+    if !print_flat_rules(starts, sizes, entries, n) {
+        return;
+    }
+    print_scan(starts, sizes, entries, n);
+    print_written(file, sizes, entries, n);
+    if labels.len() > 0 {
+        print_labels(sizes, entries, n, labels);
+    }
+}
+
+// What the leaves find in a plan that is framed; `labels` is empty where the file has none.
+fn print_plan<'a>(file: &'a [u8], sizes: &'a [u8], n: usize, labels: &'a [u8]) {
+    let starts = rings::starts_of(sizes);
+    print(b" n ", n);
+    if !print_lent_rules(file, &starts, sizes, n) {
+        return;
+    }
+    let mut entries = [0u16; 1186];
+    let mut u = 0;
+    while u < n {
+        copy_ring(&mut entries, file, &starts, sizes, n, u);
+        u += 1;
+    }
+    print_flat(file, &starts, sizes, &entries, n, labels);
+}
+
+// How many labels a plan of n contexts has; 0 where no plan has n.
+fn dart_count(n: usize) -> usize {
+    if n < 5 {
+        return 0;
+    }
+    if 200 < n {
+        return 0;
+    }
+    6 * n - 14
+}
+
+// A file: the refusal, or what stands in it.
+fn print_file(file: &[u8]) {
+    let layout = framing::frame_file(file);
+    let found = layout.found;
+    let n = layout.n;
+    let sizes = layout.sizes;
+    let at = layout.labels;
+    match found {
+        framing::Found::Refused(number, place) => {
+            print(b"refused ", lists::wide_byte(number));
+            print(b" at ", place);
+        }
+        framing::Found::Opened => {
+            io::write_all(1, b"plan");
+            print_plan(file, &sizes, n, framing::ring_part(file, 0, 0));
+        }
+        framing::Found::Labelled => {
+            io::write_all(1, b"labels");
+            print_plan(file, &sizes, n, framing::ring_part(file, at, dart_count(n)));
+        }
+        framing::Found::Charted => {
+            io::write_all(1, b"chart");
+            print_plan(file, &sizes, n, framing::ring_part(file, at, dart_count(n)));
+        }
+    }
+    io::write_all(1, b"\n");
+}
+
+fn main() {
+    let mut space = io::large_buffer();
+    let got = io::read_full(0, &mut space);
+    let mut at = 0;
+    while at < got {
+        let size = lists::word_at(&space, at);
+        print_file(framing::ring_part(&space, at + 2, size));
+        at += 2 + size;
+    }
+}
