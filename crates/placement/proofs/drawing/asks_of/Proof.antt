@@ -1,0 +1,180 @@
+use native.Mathlib.Omega.{arith}
+use borrow.Author.Needs.{needs}
+use Rattle.placement.proofs.drawing.asks_of.Statement.{statement}
+use Rattle.placement.proofs.drawing.asks_of.Tie as tie
+use Rattle.placement.proofs.drawing.asks_of.Reads as reads
+use Rattle.placement.proofs.drawing.asks_of.Lts as lts
+use Rattle.lists.proofs.num.Reads as num-reads
+use Rattle.placement.proofs.drawing.either.Reads as either-reads
+use Rattle.placement.proofs.drawing.gap_of.Reads as gap-of-reads
+use Rattle.placement.proofs.drawing.is_exchanged.Reads as is-exchanged-reads
+use Rattle.placement.proofs.drawing.kept_of.Reads as kept-of-reads
+use Rattle.placement.proofs.drawing.label_of.Reads as label-of-reads
+use Rattle.placement.proofs.drawing.tied_to.Reads as tied-to-reads
+use Rattle.rings.proofs.neighbour_of.Reads as neighbour-of-reads
+use Rattle.rings.proofs.size_of.Reads as size-of-reads
+
+abbrev Inv-loop : tie.InvT-loop
+Inv-loop starts sizes entries n labels upright lows₀ highs₀ gaps₀ end count₀ u₀ i₀ lows highs gaps count u i =
+    ?
+
+abbrev μ-loop : tie.MeasureT-loop
+μ-loop starts sizes entries n labels upright lows₀ highs₀ gaps₀ end count₀ u₀ i₀ lows highs gaps count u i =
+    ?
+
+-- src/drawing.rt:134:9
+tied-to-requires : tie.Need-tied-to-requires Inv-loop μ-loop
+tied-to-requires c κs = search needs
+
+-- src/drawing.rt:135:5
+array-write-highs : tie.Need-array-write-highs Inv-loop μ-loop
+array-write-highs c = search needs
+
+-- src/drawing.rt:136:5
+array-write-lows : tie.Need-array-write-lows Inv-loop μ-loop
+array-write-lows c = search needs
+
+-- src/drawing.rt:140:5
+loop-holds : tie.Need-loop-holds Inv-loop μ-loop
+loop-holds c = search needs
+
+-- src/drawing.rt:141:16
+size-of-requires : tie.Need-size-of-requires Inv-loop μ-loop
+size-of-requires c κs = search needs
+
+-- src/drawing.rt:142:61
+num-requires : tie.Need-num-requires Inv-loop μ-loop
+num-requires c κs = search needs
+
+-- src/drawing.rt:142:61
+add-num : tie.Need-add-num Inv-loop μ-loop
+add-num c = search needs
+
+-- src/drawing.rt:142:41
+num-requires-2 : tie.Need-num-requires-2 Inv-loop μ-loop
+num-requires-2 c κs = search needs
+
+-- src/drawing.rt:142:17
+neighbour-of-requires : tie.Need-neighbour-of-requires Inv-loop μ-loop
+neighbour-of-requires c κs = search needs
+
+-- src/drawing.rt:143:17
+label-of-requires : tie.Need-label-of-requires Inv-loop μ-loop
+label-of-requires c κs = search needs
+
+-- src/drawing.rt:144:17
+is-exchanged-requires : tie.Need-is-exchanged-requires Inv-loop μ-loop
+is-exchanged-requires c κs = search needs
+
+-- src/drawing.rt:145:21
+cast-a : tie.Need-cast-a Inv-loop μ-loop
+cast-a c = search needs
+
+-- src/drawing.rt:146:21
+cast-b : tie.Need-cast-b Inv-loop μ-loop
+cast-b c = search needs
+
+-- src/drawing.rt:147:27
+either-requires : tie.Need-either-requires Inv-loop μ-loop
+either-requires c κs = search needs
+
+-- src/drawing.rt:147:13
+mul-lows : tie.Need-mul-lows Inv-loop μ-loop
+mul-lows c = search needs
+
+-- src/drawing.rt:147:13
+array-write-lows-2 : tie.Need-array-write-lows-2 Inv-loop μ-loop
+array-write-lows-2 c = search needs
+
+-- src/drawing.rt:148:28
+either-requires-2 : tie.Need-either-requires-2 Inv-loop μ-loop
+either-requires-2 c κs = search needs
+
+-- src/drawing.rt:148:13
+mul-highs : tie.Need-mul-highs Inv-loop μ-loop
+mul-highs c = search needs
+
+-- src/drawing.rt:148:13
+array-write-highs-2 : tie.Need-array-write-highs-2 Inv-loop μ-loop
+array-write-highs-2 c = search needs
+
+-- src/drawing.rt:149:27
+gap-of-requires : tie.Need-gap-of-requires Inv-loop μ-loop
+gap-of-requires c κs = search needs
+
+-- src/drawing.rt:149:13
+array-write-gaps : tie.Need-array-write-gaps Inv-loop μ-loop
+array-write-gaps c = search needs
+
+-- src/drawing.rt:150:22
+kept-of-requires : tie.Need-kept-of-requires Inv-loop μ-loop
+kept-of-requires c κs = search needs
+
+-- src/drawing.rt:150:13
+add-count : tie.Need-add-count Inv-loop μ-loop
+add-count c = search needs
+
+-- src/drawing.rt:151:13
+add-i : tie.Need-add-i Inv-loop μ-loop
+add-i c = search needs
+
+-- src/drawing.rt:140:5
+loop-less : tie.Need-loop-less Inv-loop μ-loop
+loop-less c = search needs
+
+-- src/drawing.rt:140:5
+loop-again : tie.Need-loop-again Inv-loop μ-loop
+loop-again c = search needs
+
+-- src/drawing.rt:153:13
+add-u : tie.Need-add-u Inv-loop μ-loop
+add-u c = search needs
+
+-- src/drawing.rt:140:5
+loop-less-2 : tie.Need-loop-less-2 Inv-loop μ-loop
+loop-less-2 c = search needs
+
+-- src/drawing.rt:140:5
+loop-again-2 : tie.Need-loop-again-2 Inv-loop μ-loop
+loop-again-2 c = search needs
+
+-- src/drawing.rt:117:1
+returns : tie.Need-returns Inv-loop μ-loop
+returns c = search needs
+
+pub asks-of-spec : {M : Type 1} → statement M
+asks-of-spec =
+    tie.close
+    (tie.spec
+    Inv-loop
+    μ-loop
+    tied-to-requires
+    array-write-highs
+    array-write-lows
+    loop-holds
+    size-of-requires
+    num-requires
+    add-num
+    num-requires-2
+    neighbour-of-requires
+    label-of-requires
+    is-exchanged-requires
+    cast-a
+    cast-b
+    either-requires
+    mul-lows
+    array-write-lows-2
+    either-requires-2
+    mul-highs
+    array-write-highs-2
+    gap-of-requires
+    array-write-gaps
+    kept-of-requires
+    add-count
+    add-i
+    loop-less
+    loop-again
+    add-u
+    loop-less-2
+    loop-again-2
+    returns)

@@ -1,0 +1,17 @@
+use native.Mathlib.Omega.{arith}
+use borrow.Author.Needs.{needs}
+use Rattle.placement.proofs.drawing.is_exchanged.Statement.{statement}
+use Rattle.placement.proofs.drawing.is_exchanged.Tie as tie
+use Rattle.placement.proofs.drawing.is_exchanged.Reads as reads
+use Rattle.placement.proofs.drawing.is_exchanged.Lts as lts
+
+-- src/drawing.rt:77:1
+returns : tie.Need-returns
+returns c = search needs
+
+-- src/drawing.rt:77:1
+returns-2 : tie.Need-returns-2
+returns-2 c = search needs
+
+pub is-exchanged-spec : {M : Type 1} → statement M
+is-exchanged-spec = tie.close (tie.spec returns returns-2)

@@ -1,0 +1,17 @@
+use native.Mathlib.Omega.{arith}
+use borrow.Author.Needs.{needs}
+use Rattle.placement.proofs.drawing.kept_of.Statement.{statement}
+use Rattle.placement.proofs.drawing.kept_of.Tie as tie
+use Rattle.placement.proofs.drawing.kept_of.Reads as reads
+use Rattle.placement.proofs.drawing.kept_of.Lts as lts
+
+-- src/drawing.rt:109:1
+returns : tie.Need-returns
+returns c = search needs
+
+-- src/drawing.rt:109:1
+returns-2 : tie.Need-returns-2
+returns-2 c = search needs
+
+pub kept-of-spec : {M : Type 1} → statement M
+kept-of-spec = tie.close (tie.spec returns returns-2)

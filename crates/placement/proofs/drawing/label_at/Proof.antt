@@ -1,0 +1,27 @@
+use native.Mathlib.Omega.{arith}
+use borrow.Author.Needs.{needs}
+use Rattle.placement.proofs.drawing.label_at.Statement.{statement}
+use Rattle.placement.proofs.drawing.label_at.Tie as tie
+use Rattle.placement.proofs.drawing.label_at.Reads as reads
+use Rattle.placement.proofs.drawing.label_at.Lts as lts
+use Rattle.lists.proofs.wide_byte.Reads as wide-byte-reads
+
+-- src/drawing.rt:52:44
+shared-slice-read-wide-byte : tie.Need-shared-slice-read-wide-byte
+shared-slice-read-wide-byte c = search needs
+
+-- src/drawing.rt:52:27
+wide-byte-requires : tie.Need-wide-byte-requires
+wide-byte-requires c κs = search needs
+
+-- src/drawing.rt:49:1
+returns : tie.Need-returns
+returns c = search needs
+
+-- src/drawing.rt:49:1
+returns-2 : tie.Need-returns-2
+returns-2 c = search needs
+
+pub label-at-spec : {M : Type 1} → statement M
+label-at-spec =
+    tie.close (tie.spec shared-slice-read-wide-byte wide-byte-requires returns returns-2)

@@ -1,0 +1,239 @@
+// The chart of a labelled plan, and the comparison of two charts.
+use crate::solver;
+
+ghost use mathlib.Core.Path.{_≡_};
+ghost use mathlib.Core.Bool.{_&&_};
+ghost use Prim.Native.Nat.{_+_, _-_, _<_, _≤_, _^_};
+ghost use lib.ListN.{getD};
+ghost use Rattle.lists.specs.Tests.{all, sameList};
+ghost use Rattle.lists.specs.Spans.{stretch};
+ghost use Rattle.model.specs.Outcome.{refused};
+ghost use Rattle.model.specs.Labels.{unlabelled, labelOf};
+ghost use Rattle.model.specs.Chart.{meets, slope, leastNumbers, sameChart};
+ghost use Rattle.rings.specs.Tables.{startOf, startsOf, table};
+ghost use Rattle.placement.specs.Constraints.{numbersOf, listed, compass, asked, tiedTo, exchanged, chosen, gapOf, keptOf};
+ghost use Rattle.placement.specs.Drawing.{chartOn, inBounds, chartFor, drawnAs, drawnOf, standsAt, squared};
+
+// Constraints in flat arrays, as many as count says.
+pub struct Asks {
+    pub count: usize,
+    pub lows: [u16; 1188],
+    pub highs: [u16; 1188],
+    pub gaps: [u8; 1188],
+}
+
+// The least numbers of one coordinate, and whether they meet all its constraints.
+pub struct Axis {
+    pub found: bool,
+    pub kept: bool,
+    pub at: [u16; 200],
+}
+
+// A chart with zeros after its numbers; where there is none, zeros alone.
+pub struct Drawn {
+    pub found: bool,
+    pub w: u16,
+    pub h: u16,
+    pub xs: [u16; 200],
+    pub ys: [u16; 200],
+}
+
+// The slope that a line must at least have.
+fn slope_due() -> u8
+    ensures { λ r. ⌜ r ≡ slope ⌝ }
+{
+    0
+}
+
+// The label at i; past the end there is none.
+fn label_at(labels: &[u8], i: usize) -> usize
+    ensures { λ r. ⌜ r ≡ getD (now (labels .entry)) i unlabelled ⌝ }
+{
+    if i < labels.len() { lists::wide_byte(labels[i]) } else { 5 }
+}
+
+// The label of the dart from u to v.
+fn label_of<'a>(
+    starts: &'a [u16],
+    sizes: &'a [u8],
+    entries: &'a [u16],
+    n: usize,
+    labels: &'a [u8],
+    u: usize,
+    v: usize,
+) -> usize
+    requires { ⌜ n ≤ 200 ⌝ }
+    requires { ⌜ now starts ≡ startsOf (now sizes) ⌝ }
+    ensures { λ r. ⌜ r ≡ labelOf (table (now (sizes .entry)) (now (entries .entry)) n) (now (labels .entry)) u v ⌝ }
+{
+    let i = rings::index_of(starts, sizes, entries, n, u, v);
+    if i < rings::size_of(sizes, n, u) {
+        return label_at(labels, lists::num(starts, u) + i);
+    }
+    5
+}
+
+// Are a dart's ends exchanged in its constraint?
+fn is_exchanged(upright: bool, label: usize) -> bool
+    ensures { λ r. ⌜ r ≡ exchanged upright label ⌝ }
+{
+    upright && label == 1
+}
+
+// The first context, or the second where they are exchanged.
+fn either(swapped: bool, u: u16, v: u16) -> u16
+    ensures { λ r. ⌜ r ≡ chosen swapped u v ⌝ }
+{
+    if swapped { v } else { u }
+}
+
+// The gap of a dart's constraint.
+fn gap_of(upright: bool, label: usize) -> u8
+    ensures { λ r. ⌜ r ≡ gapOf upright label ⌝ }
+{
+    if upright {
+        if label == 0 { 1 } else { slope_due() }
+    } else {
+        if label == 0 { slope_due() } else { 1 }
+    }
+}
+
+// How many constraints a dart asks for.
+fn kept_of(label: usize) -> usize
+    ensures { λ r. ⌜ r ≡ keptOf label ⌝ }
+    ensures { λ r. ⌜ r ≤ 1 ⌝ }
+{
+    if label < 2 { 1 } else { 0 }
+}
+
+// The context that North is tied to.
+fn tied_to(upright: bool) -> u16
+    ensures { λ r. ⌜ r ≡ tiedTo upright ⌝ }
+{
+    if upright { 3 } else { 1 }
+}
+
+// The constraints of one coordinate: the border's tie, then those of the darts in the order of the rings.
+fn asks_of<'a>(
+    starts: &'a [u16],
+    sizes: &'a [u8],
+    entries: &'a [u16],
+    n: usize,
+    labels: &'a [u8],
+    upright: bool,
+) -> Asks
+    requires { ⌜ n ≤ 200 ⌝ }
+    requires { ⌜ startOf (now sizes) n ≤ 1186 ⌝ }
+    requires { ⌜ now starts ≡ startsOf (now sizes) ⌝ }
+    ensures { λ r. ⌜ listed (r .lows) (r .highs) (r .gaps) (r .count) ≡ asked upright (table (now (sizes .entry)) (now (entries .entry)) n) (now (labels .entry)) ⌝ }
+    ensures { λ r. ⌜ 2 ≤ r .count ⌝ }
+{
+    let mut lows = [0u16; 1188];
+    let mut highs = [0u16; 1188];
+    let mut gaps = [0u8; 1188];
+    let end = tied_to(upright);
+    highs[0] = end;
+    lows[1] = end;
+    let mut count = 2;
+    let mut u = 0;
+    let mut i = 0;
+    while u < n {
+        if i < rings::size_of(sizes, n, u) {
+            let v = rings::neighbour_of(lists::num(entries, lists::num(starts, u) + i));
+            let label = label_of(starts, sizes, entries, n, labels, u, v);
+            let swapped = is_exchanged(upright, label);
+            let a = u as u16;
+            let b = v as u16;
+            lows[count] = either(swapped, a, b);
+            highs[count] = either(swapped, b, a);
+            gaps[count] = gap_of(upright, label);
+            count += kept_of(label);
+            i += 1;
+        } else {
+            u += 1;
+            i = 0;
+        }
+    }
+    Asks {
+        count,
+        lows,
+        highs,
+        gaps,
+    }
+}
+
+// The least numbers of one coordinate.
+fn axis_of<'a>(
+    starts: &'a [u16],
+    sizes: &'a [u8],
+    entries: &'a [u16],
+    n: usize,
+    labels: &'a [u8],
+    upright: bool,
+) -> Axis
+    requires { ⌜ n ≤ 200 ⌝ }
+    requires { ⌜ startOf (now sizes) n ≤ 1186 ⌝ }
+    requires { ⌜ now starts ≡ startsOf (now sizes) ⌝ }
+    ensures { λ r. ⌜ r .found ≡ numbersOf (leastNumbers n (asked upright (table (now (sizes .entry)) (now (entries .entry)) n) (now (labels .entry)))) .found ⌝ }
+    ensures { λ r. ⌜ r .at ≡ numbersOf (leastNumbers n (asked upright (table (now (sizes .entry)) (now (entries .entry)) n) (now (labels .entry)))) .at ⌝ }
+    ensures { λ r. ⌜ r .kept ≡ all (meets (r .at)) (compass upright (table (now (sizes .entry)) (now (entries .entry)) n) (now (labels .entry))) ⌝ }
+{
+    let asks = asks_of(starts, sizes, entries, n, labels, upright);
+    let lows = asks.lows;
+    let highs = asks.highs;
+    let gaps = asks.gaps;
+    let numbers = solver::solve(n, asks.count, &lows, &highs, &gaps);
+    let at = numbers.at;
+    Axis {
+        found: numbers.found,
+        kept: solver::all_met(&lows, &highs, &gaps, 2, asks.count, &at),
+        at,
+    }
+}
+
+// Does the context u stand at a, b?
+fn is_at<'a>(xs: &'a [u16], ys: &'a [u16], u: usize, a: usize, b: usize) -> bool
+    ensures { λ r. ⌜ r ≡ standsAt (now (xs .entry)) (now (ys .entry)) u a b ⌝ }
+{
+    lists::num(xs, u) == a && lists::num(ys, u) == b
+}
+
+// Do the border contexts stand at the corners?
+fn is_squared<'a>(xs: &'a [u16], ys: &'a [u16]) -> bool
+    ensures { λ r. ⌜ r ≡ squared (now (xs .entry)) (now (ys .entry)) ⌝ }
+{
+    if !is_at(xs, ys, 2, 0, 0) {
+        return false;
+    }
+    if !is_at(xs, ys, 3, 0, lists::num(ys, 0)) {
+        return false;
+    }
+    is_at(xs, ys, 1, lists::num(xs, 0), 0)
+}
+
+// No chart.
+fn undrawn() -> Drawn
+    ensures { λ r. ⌜ r ≡ drawnOf (refused 11 0) ⌝ }
+{
+    Drawn {
+        found: false,
+        w: 0,
+        h: 0,
+        xs: [0u16; 200],
+        ys: [0u16; 200],
+    }
+}
+
+// Has the table at most 200 contexts and 1186 entries?
+fn is_in_bounds<'a>(starts: &'a [u16], sizes: &'a [u8], n: usize) -> bool
+    requires { ⌜ now starts ≡ startsOf (now sizes) ⌝ }
+    ensures { λ r. ⌜ r ≡ inBounds (now (sizes .entry)) n ⌝ }
+{
+    if 200 < n {
+        return false;
+    }
+    if n == 0 {
+        return true;
+    }
+    lists::num(starts, n - 1) + lists::byte(sizes, n - 1) <= 1186
+}
