@@ -1,3 +1,5 @@
+use Rattle.placement.proofs.Asks.{Asking, asking-start, asking-room, asking-dart, asking-next, asking-end}
+use Prim.Native.Nat.{_-_, _+_, _*_}
 use native.Mathlib.Omega.{arith}
 use borrow.Author.Needs.{needs}
 use Rattle.placement.proofs.drawing.asks_of.Statement.{statement}
@@ -15,12 +17,10 @@ use Rattle.rings.proofs.neighbour_of.Reads as neighbour-of-reads
 use Rattle.rings.proofs.size_of.Reads as size-of-reads
 
 abbrev Inv-loop : tie.InvT-loop
-Inv-loop starts sizes entries n labels upright lows₀ highs₀ gaps₀ end count₀ u₀ i₀ lows highs gaps count u i =
-    ?
+Inv-loop starts sizes entries n labels upright lows₀ highs₀ gaps₀ end count₀ u₀ i₀ lows highs gaps count u i = Asking sizes entries n labels upright lows highs gaps count u i
 
 abbrev μ-loop : tie.MeasureT-loop
-μ-loop starts sizes entries n labels upright lows₀ highs₀ gaps₀ end count₀ u₀ i₀ lows highs gaps count u i =
-    ?
+μ-loop starts sizes entries n labels upright lows₀ highs₀ gaps₀ end count₀ u₀ i₀ lows highs gaps count u i = (n - u) * 256 - i
 
 -- src/drawing.rt:134:9
 tied-to-requires : tie.Need-tied-to-requires Inv-loop μ-loop
@@ -28,7 +28,7 @@ tied-to-requires c κs = search needs
 
 -- src/drawing.rt:135:5
 array-write-highs : tie.Need-array-write-highs Inv-loop μ-loop
-array-write-highs c = search needs
+array-write-highs c = ?
 
 -- src/drawing.rt:136:5
 array-write-lows : tie.Need-array-write-lows Inv-loop μ-loop
@@ -36,7 +36,7 @@ array-write-lows c = search needs
 
 -- src/drawing.rt:140:5
 loop-holds : tie.Need-loop-holds Inv-loop μ-loop
-loop-holds c = search needs
+loop-holds c = ?
 
 -- src/drawing.rt:141:16
 size-of-requires : tie.Need-size-of-requires Inv-loop μ-loop
@@ -60,7 +60,7 @@ neighbour-of-requires c κs = search needs
 
 -- src/drawing.rt:143:17
 label-of-requires : tie.Need-label-of-requires Inv-loop μ-loop
-label-of-requires c κs = search needs
+label-of-requires c κs = ?
 
 -- src/drawing.rt:144:17
 is-exchanged-requires : tie.Need-is-exchanged-requires Inv-loop μ-loop
@@ -72,7 +72,7 @@ cast-a c = search needs
 
 -- src/drawing.rt:146:21
 cast-b : tie.Need-cast-b Inv-loop μ-loop
-cast-b c = search needs
+cast-b c = ?
 
 -- src/drawing.rt:147:27
 either-requires : tie.Need-either-requires Inv-loop μ-loop
@@ -80,11 +80,11 @@ either-requires c κs = search needs
 
 -- src/drawing.rt:147:13
 mul-lows : tie.Need-mul-lows Inv-loop μ-loop
-mul-lows c = search needs
+mul-lows c = ?
 
 -- src/drawing.rt:147:13
 array-write-lows-2 : tie.Need-array-write-lows-2 Inv-loop μ-loop
-array-write-lows-2 c = search needs
+array-write-lows-2 c = ?
 
 -- src/drawing.rt:148:28
 either-requires-2 : tie.Need-either-requires-2 Inv-loop μ-loop
@@ -92,11 +92,11 @@ either-requires-2 c κs = search needs
 
 -- src/drawing.rt:148:13
 mul-highs : tie.Need-mul-highs Inv-loop μ-loop
-mul-highs c = search needs
+mul-highs c = ?
 
 -- src/drawing.rt:148:13
 array-write-highs-2 : tie.Need-array-write-highs-2 Inv-loop μ-loop
-array-write-highs-2 c = search needs
+array-write-highs-2 c = ?
 
 -- src/drawing.rt:149:27
 gap-of-requires : tie.Need-gap-of-requires Inv-loop μ-loop
@@ -104,7 +104,7 @@ gap-of-requires c κs = search needs
 
 -- src/drawing.rt:149:13
 array-write-gaps : tie.Need-array-write-gaps Inv-loop μ-loop
-array-write-gaps c = search needs
+array-write-gaps c = ?
 
 -- src/drawing.rt:150:22
 kept-of-requires : tie.Need-kept-of-requires Inv-loop μ-loop
@@ -112,19 +112,19 @@ kept-of-requires c κs = search needs
 
 -- src/drawing.rt:150:13
 add-count : tie.Need-add-count Inv-loop μ-loop
-add-count c = search needs
+add-count c = ?
 
 -- src/drawing.rt:151:13
 add-i : tie.Need-add-i Inv-loop μ-loop
-add-i c = search needs
+add-i c = ?
 
 -- src/drawing.rt:140:5
 loop-less : tie.Need-loop-less Inv-loop μ-loop
-loop-less c = search needs
+loop-less c = ?
 
 -- src/drawing.rt:140:5
 loop-again : tie.Need-loop-again Inv-loop μ-loop
-loop-again c = search needs
+loop-again c = ?
 
 -- src/drawing.rt:153:13
 add-u : tie.Need-add-u Inv-loop μ-loop
@@ -132,15 +132,15 @@ add-u c = search needs
 
 -- src/drawing.rt:140:5
 loop-less-2 : tie.Need-loop-less-2 Inv-loop μ-loop
-loop-less-2 c = search needs
+loop-less-2 c = ?
 
 -- src/drawing.rt:140:5
 loop-again-2 : tie.Need-loop-again-2 Inv-loop μ-loop
-loop-again-2 c = search needs
+loop-again-2 c = ?
 
 -- src/drawing.rt:117:1
 returns : tie.Need-returns Inv-loop μ-loop
-returns c = search needs
+returns c = ?
 
 pub asks-of-spec : {M : Type 1} → statement M
 asks-of-spec =

@@ -1,3 +1,4 @@
+use Rattle.placement.specs.Drawing.{standsAt}
 use native.Mathlib.Omega.{arith}
 use borrow.Author.Needs.{needs}
 use Rattle.placement.proofs.drawing.is_at.Statement.{statement}
@@ -16,11 +17,13 @@ num-requires-2 c κs = search needs
 
 -- src/drawing.rt:195:1
 returns : tie.Need-returns
-returns c = search needs
+unfolding standsAt
+returns c = ?
 
 -- src/drawing.rt:195:1
 returns-2 : tie.Need-returns-2
-returns-2 c = search needs
+unfolding standsAt
+returns-2 c = ?
 
 pub is-at-spec : {M : Type 1} → statement M
 is-at-spec = tie.close (tie.spec num-requires num-requires-2 returns returns-2)

@@ -1,3 +1,4 @@
+use Rattle.placement.specs.Constraints.{exchanged}
 use native.Mathlib.Omega.{arith}
 use borrow.Author.Needs.{needs}
 use Rattle.placement.proofs.drawing.is_exchanged.Statement.{statement}
@@ -7,11 +8,13 @@ use Rattle.placement.proofs.drawing.is_exchanged.Lts as lts
 
 -- src/drawing.rt:77:1
 returns : tie.Need-returns
-returns c = search needs
+unfolding exchanged
+returns c = ?
 
 -- src/drawing.rt:77:1
 returns-2 : tie.Need-returns-2
-returns-2 c = search needs
+unfolding exchanged
+returns-2 c = ?
 
 pub is-exchanged-spec : {M : Type 1} → statement M
 is-exchanged-spec = tie.close (tie.spec returns returns-2)

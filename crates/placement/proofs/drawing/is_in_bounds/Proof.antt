@@ -1,3 +1,4 @@
+use Rattle.placement.specs.Drawing.{inBounds}
 use native.Mathlib.Omega.{arith}
 use borrow.Author.Needs.{needs}
 use Rattle.placement.proofs.drawing.is_in_bounds.Statement.{statement}
@@ -9,11 +10,13 @@ use Rattle.lists.proofs.num.Reads as num-reads
 
 -- src/drawing.rt:227:9
 returns : tie.Need-returns
-returns c = search needs
+unfolding inBounds
+returns c = ?
 
 -- src/drawing.rt:230:9
 returns-2 : tie.Need-returns-2
-returns-2 c = search needs
+unfolding inBounds
+returns-2 c = ?
 
 -- src/drawing.rt:232:24
 sub-num : tie.Need-sub-num
@@ -37,7 +40,8 @@ add-result c = search needs
 
 -- src/drawing.rt:222:1
 returns-3 : tie.Need-returns-3
-returns-3 c = search needs
+unfolding inBounds
+returns-3 c = ?
 
 pub is-in-bounds-spec : {M : Type 1} → statement M
 is-in-bounds-spec =

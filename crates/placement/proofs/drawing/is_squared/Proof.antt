@@ -1,3 +1,4 @@
+use Rattle.placement.specs.Drawing.{squared}
 use native.Mathlib.Omega.{arith}
 use borrow.Author.Needs.{needs}
 use Rattle.placement.proofs.drawing.is_squared.Statement.{statement}
@@ -13,7 +14,8 @@ is-at-requires c κs = search needs
 
 -- src/drawing.rt:206:9
 returns : tie.Need-returns
-returns c = search needs
+unfolding squared
+returns c = ?
 
 -- src/drawing.rt:208:29
 num-requires : tie.Need-num-requires
@@ -25,7 +27,8 @@ is-at-requires-2 c κs = search needs
 
 -- src/drawing.rt:209:9
 returns-2 : tie.Need-returns-2
-returns-2 c = search needs
+unfolding squared
+returns-2 c = ?
 
 -- src/drawing.rt:211:22
 num-requires-2 : tie.Need-num-requires-2
@@ -37,7 +40,8 @@ is-at-requires-3 c κs = search needs
 
 -- src/drawing.rt:202:1
 returns-3 : tie.Need-returns-3
-returns-3 c = search needs
+unfolding squared
+returns-3 c = ?
 
 pub is-squared-spec : {M : Type 1} → statement M
 is-squared-spec =

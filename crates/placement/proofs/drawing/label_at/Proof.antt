@@ -1,3 +1,5 @@
+use lib.ListN.{List·getD-eq-default}
+use mathlib.Core.Path.{sym}
 use native.Mathlib.Omega.{arith}
 use borrow.Author.Needs.{needs}
 use Rattle.placement.proofs.drawing.label_at.Statement.{statement}
@@ -16,11 +18,11 @@ wide-byte-requires c κs = search needs
 
 -- src/drawing.rt:49:1
 returns : tie.Need-returns
-returns c = search needs
+returns c = ?
 
 -- src/drawing.rt:49:1
 returns-2 : tie.Need-returns-2
-returns-2 c = search needs
+returns-2 c = sym (List·getD-eq-default (c .before .before .args .labels .now) 5 (c .if1 .left))
 
 pub label-at-spec : {M : Type 1} → statement M
 label-at-spec =

@@ -31,11 +31,11 @@ label-at-requires c κs = search needs
 
 -- src/drawing.rt:71:9
 returns : tie.Need-returns
-returns c = search needs
+returns c = ?
 
 -- src/drawing.rt:56:1
 returns-2 : tie.Need-returns-2
-returns-2 c = search needs
+returns-2 c = ?
 
 pub label-of-spec : {M : Type 1} → statement M
 label-of-spec =

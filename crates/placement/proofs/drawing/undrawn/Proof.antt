@@ -1,3 +1,6 @@
+use Rattle.placement.specs.Drawing.{drawnOf}
+use Rattle.lists.specs.Spans.{zeros}
+use mathlib.Core.Path.{refl}
 use native.Mathlib.Omega.{arith}
 use borrow.Author.Needs.{needs}
 use Rattle.placement.proofs.drawing.undrawn.Statement.{statement}
@@ -7,7 +10,8 @@ use Rattle.placement.proofs.drawing.undrawn.Lts as lts
 
 -- src/drawing.rt:209:1
 returns : tie.Need-returns
-returns c = search needs
+unfolding drawnOf zeros
+returns c = refl
 
 pub undrawn-spec : {M : Type 1} → statement M
 undrawn-spec = tie.close (tie.spec returns)

@@ -1,7 +1,7 @@
+use mathlib.Core.Path.{refl, sym}
 use Rattle.placement.proofs.Relax.{passing-start, passing-on, passing-off, passing-met, passing-up, passing-over, passing-end}
 use Rattle.placement.specs.Relaxing.{Passing}
 use Prim.Native.Nat.{_-_, _≤_}
-use mathlib.Core.Path.{refl}
 use native.Mathlib.Omega.{arith}
 use borrow.Author.Needs.{needs}
 use Rattle.placement.proofs.solver.pass.Statement.{statement}
@@ -36,7 +36,7 @@ num-requires c κs = search needs
 
 -- src/solver.rt:70:42
 slice-aggregate-due-at : tie.Need-slice-aggregate-due-at Inv-loop μ-loop
-slice-aggregate-due-at c = c .before .before .before .before .before .loop .inv .0 .raised .size
+slice-aggregate-due-at c = sym (c .before .before .before .before .before .loop .inv .0 .raised .size)
 
 -- src/solver.rt:70:17
 due-at-requires : tie.Need-due-at-requires Inv-loop μ-loop
@@ -44,7 +44,7 @@ due-at-requires c κs = search needs
 
 -- src/solver.rt:71:27
 slice-aggregate-num : tie.Need-slice-aggregate-num Inv-loop μ-loop
-slice-aggregate-num c = c .before .before .before .before .before .before .before .loop .inv .0 .raised .size
+slice-aggregate-num c = sym (c .before .before .before .before .before .before .before .loop .inv .0 .raised .size)
 
 -- src/solver.rt:71:16
 num-requires-2 : tie.Need-num-requires-2 Inv-loop μ-loop
@@ -64,7 +64,7 @@ mul-at c = search needs
 
 -- src/solver.rt:75:17
 array-write-at : tie.Need-array-write-at Inv-loop μ-loop
-array-write-at c = ?
+array-write-at c = let z = c .before .before .before .before .before .before .before .before .before .before .loop .inv .0 .raised .size in omega arith
 
 -- src/solver.rt:65:5
 loop-less : tie.Need-loop-less Inv-loop μ-loop
