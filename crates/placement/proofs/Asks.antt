@@ -13,11 +13,11 @@ use Rattle.lists.specs.Parts.{concat, indexOf}
 use Rattle.lists.proofs.Ranges.{getD-map-from}
 use Rattle.lists.specs.Spans.{zeros}
 use Rattle.lists.proofs.Spans.{length-stretch, length-zeros}
-use Rattle.model.specs.Plan.{Plan, Dart, count, entries, ring, dartsFrom, darts, entryCount, dartCount}
+use Rattle.model.specs.Plan.{Plan, Dart, count, neighbour, entries, ring, dartsFrom, darts, entryCount, dartCount}
 use Rattle.model.specs.Labels.{start, labelsAround, labelOf, unlabelled}
 use Rattle.model.specs.Chart.{Constraint, constraint, xConstraint, yConstraint, xConstraints, yConstraints, tie, slope}
 use Rattle.rings.specs.Tables.{sumOf, startOf, startsOf, sizeOf, rows, table}
-use Rattle.rings.proofs.Rows.{start-more, size-inside, size-outside, entries-rows, count-rows, ring-size}
+use Rattle.rings.proofs.Rows.{start-more, size-inside, size-outside, entries-rows, count-rows, ring-size, ring-at}
 use Rattle.placement.specs.Constraints.{rise, constraintAt, listedFrom, listed, ties, compass, asked, tiedTo, exchanged, chosen, gapOf, keptOf}
 use Rattle.placement.proofs.Arrays.{getD-zeros, two-first, listed-none, listed-more}
 
@@ -104,6 +104,16 @@ module _ (sizes es : List ℕ) (n : ℕ) (ls : List ℕ) (few : n ≤ 200) (u v 
       let s = start-rows (startsOf sizes) sizes es n u (omega arith) ∙ sym (starts-at sizes u (omega arith)) in
       sym (getD-take (length (entries (table sizes es n) u)) (drop (start (table sizes es n) u) ls) At unlabelled (omega arith)
       ∙ getD-drop (start (table sizes es n) u) ls At unlabelled ∙ ap (λ (k : ℕ). getD ls (k + At) unlabelled) s)
+
+-- the neighbour at i of u's ring, from its entry
+pub dart-at : (starts sizes es : List ℕ) (n u i s e v : ℕ) → starts ≡ startsOf sizes → i < sizeOf sizes n u → s ≡ getD starts u 0 → e ≡ getD es (s + i) 0 → v ≡ neighbour e → v ≡ getD (ring (table sizes es n) u) i 0
+unfolding table
+dart-at starts sizes es n u i s e v q h es₀ ee ev =
+    ev ∙ ap neighbour (ee ∙ ap (λ (k : ℕ). getD es (k + i) 0) (es₀ ∙ ap (λ (l : List ℕ). getD l u 0) q)) ∙ sym (ring-at (startsOf sizes) sizes es n u i h)
+
+pub neighbour-le : (e : ℕ) → neighbour e ≤ e
+unfolding neighbour
+neighbour-le e = omega arith
 
 -- ---- the constraint that a dart asks for
 pub kept-le : (l : ℕ) → keptOf l ≤ 1

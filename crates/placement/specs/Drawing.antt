@@ -39,3 +39,7 @@ standsAt xs ys u a b = eqb (getD xs u 0) a && eqb (getD ys u 0) b
 -- the border contexts stand at the corners: South at (0,0), West above it, East level with it and below North
 unfoldable pub squared : List ℕ → List ℕ → Bool
 squared xs ys = standsAt xs ys south 0 0 && standsAt xs ys west 0 (getD ys north 0) && standsAt xs ys east (getD xs north 0) 0
+
+-- the answer with these numbers where a test holds, else zeros
+unfoldable pub drawnIf : Bool → List ℕ → List ℕ → Drawn
+drawnIf t xs ys = cond t (record { found = true; w = getD xs north 0; h = getD ys north 0; xs = xs; ys = ys }) (drawnOf (refused 11 0))

@@ -22,3 +22,19 @@ pub fn corner(ax: u16, ay: u16, bx: u16, by: u16, cx: u16, cy: u16) -> i64
 {
     (signed(bx) - signed(ax)) * (signed(cy) - signed(ay)) - (signed(cx) - signed(ax)) * (signed(by) - signed(ay))
 }
+
+// The number at i.
+fn word(a: &[u16], i: usize) -> u16
+    ensures { λ r. ⌜ r ≡ getD (now (a .entry)) i 0 ⌝ }
+{
+    if i < a.len() { a[i] } else { 0 }
+}
+
+// Doubled area of the face a, b, c of the chart whose points are in two arrays.
+pub fn area_of<'a>(xs: &'a [u16], ys: &'a [u16], a: usize, b: usize, c: usize) -> i64
+    ensures { λ r. ⌜ r ≡ area (points (now (xs .entry)) (now (ys .entry))) (a ∷ b ∷ c ∷ []) ⌝ }
+{
+    let ax = word(xs, a);
+    let ay = word(ys, a);
+    corner(ax, ay, word(xs, b), word(ys, b), word(xs, c), word(ys, c))
+}

@@ -12,7 +12,7 @@ ghost use Rattle.model.specs.Labels.{unlabelled, labelOf};
 ghost use Rattle.model.specs.Chart.{meets, slope, leastNumbers, sameChart};
 ghost use Rattle.rings.specs.Tables.{startOf, startsOf, table};
 ghost use Rattle.placement.specs.Constraints.{numbersOf, listed, compass, asked, tiedTo, exchanged, chosen, gapOf, keptOf};
-ghost use Rattle.placement.specs.Drawing.{chartOn, inBounds, chartFor, drawnAs, drawnOf, standsAt, squared};
+ghost use Rattle.placement.specs.Drawing.{chartOn, inBounds, chartFor, drawnAs, drawnOf, drawnIf, standsAt, squared};
 
 // Constraints in flat arrays, as many as count says.
 pub struct Asks {
@@ -224,6 +224,22 @@ fn undrawn() -> Drawn
     }
 }
 
+// The chart with these numbers, if the border contexts stand at its corners.
+fn squared_off(xs: [u16; 200], ys: [u16; 200]) -> Drawn
+    ensures { λ r. ⌜ r ≡ drawnIf (squared xs ys) xs ys ⌝ }
+{
+    if !is_squared(&xs, &ys) {
+        return undrawn();
+    }
+    Drawn {
+        found: true,
+        w: xs[0],
+        h: ys[0],
+        xs,
+        ys,
+    }
+}
+
 // Has the table at most 200 contexts and 1186 entries?
 fn is_in_bounds<'a>(starts: &'a [u16], sizes: &'a [u8], n: usize) -> bool
     requires { ⌜ now starts ≡ startsOf (now sizes) ⌝ }
@@ -236,4 +252,89 @@ fn is_in_bounds<'a>(starts: &'a [u16], sizes: &'a [u8], n: usize) -> bool
         return true;
     }
     lists::num(starts, n - 1) + lists::byte(sizes, n - 1) <= 1186
+}
+
+// The chart of the plan that sizes and entries hold, where the rings begin at these starts.
+fn chart_from<'a>(
+    starts: &'a [u16],
+    sizes: &'a [u8],
+    entries: &'a [u16],
+    n: usize,
+    labels: &'a [u8],
+) -> Drawn
+    requires { ⌜ now starts ≡ startsOf (now sizes) ⌝ }
+    ensures { λ r. ⌜ r ≡ drawnOf (chartFor (now (sizes .entry)) (now (entries .entry)) n (now (labels .entry))) ⌝ }
+{
+    if !is_in_bounds(starts, sizes, n) {
+        return undrawn();
+    }
+    let x = axis_of(starts, sizes, entries, n, labels, false);
+    if !x.found {
+        return undrawn();
+    }
+    let y = axis_of(starts, sizes, entries, n, labels, true);
+    if !y.found {
+        return undrawn();
+    }
+    if !x.kept {
+        return undrawn();
+    }
+    if !y.kept {
+        return undrawn();
+    }
+    squared_off(x.at, y.at)
+}
+
+// The chart of the plan that sizes and entries hold: the least placement, or none.
+pub fn chart_of<'a>(
+    sizes: &'a [u8],
+    entries: &'a [u16],
+    n: usize,
+    labels: &'a [u8],
+) -> Drawn
+    ensures { λ r. ⌜ drawnAs r n ≡ chartFor (now (sizes .entry)) (now (entries .entry)) n (now (labels .entry)) ⌝ }
+    ensures { λ r. ⌜ r ≡ drawnOf (chartFor (now (sizes .entry)) (now (entries .entry)) n (now (labels .entry))) ⌝ }
+{
+    let starts = rings::starts_of(sizes);
+    chart_from(&starts, sizes, entries, n, labels)
+}
+
+// Are the first n numbers of two arrays equal?
+fn same_numbers<'a>(n: usize, a: &'a [u16], b: &'a [u16]) -> bool
+    ensures { λ r. ⌜ r ≡ sameList (stretch (now (a .entry)) 0 n) (stretch (now (b .entry)) 0 n) ⌝ }
+{
+    let mut i = 0;
+    while i < n {
+        if lists::num(a, i) != lists::num(b, i) {
+            return false;
+        }
+        i += 1;
+    }
+    true
+}
+
+// Are two charts of n contexts equal: width, height and all points?
+pub fn same_chart<'a>(
+    n: usize,
+    aw: u16,
+    ah: u16,
+    ax: &'a [u16],
+    ay: &'a [u16],
+    bw: u16,
+    bh: u16,
+    bx: &'a [u16],
+    by: &'a [u16],
+) -> bool
+    ensures { λ r. ⌜ r ≡ sameChart (chartOn n aw ah (now (ax .entry)) (now (ay .entry))) (chartOn n bw bh (now (bx .entry)) (now (by .entry))) ⌝ }
+{
+    if aw != bw {
+        return false;
+    }
+    if ah != bh {
+        return false;
+    }
+    if !same_numbers(n, ax, bx) {
+        return false;
+    }
+    same_numbers(n, ay, by)
 }

@@ -1,3 +1,8 @@
+use Rattle.placement.proofs.Draw.{bounds-large, bounds-none, bounds-last}
+use mathlib.Core.List.{List}
+use lib.ListN.{getD}
+use Prim.Native.Nat.{ℕ, _-_}
+use mathlib.Core.Path.{ap, _∙_}
 use Rattle.placement.specs.Drawing.{inBounds}
 use native.Mathlib.Omega.{arith}
 use borrow.Author.Needs.{needs}
@@ -10,13 +15,11 @@ use Rattle.lists.proofs.num.Reads as num-reads
 
 -- src/drawing.rt:227:9
 returns : tie.Need-returns
-unfolding inBounds
-returns c = ?
+returns c = bounds-large (c .before .before .before .args .sizes .now) (c .before .before .before .args .n) (c .if1 .taken)
 
 -- src/drawing.rt:230:9
 returns-2 : tie.Need-returns-2
-unfolding inBounds
-returns-2 c = ?
+returns-2 c = bounds-none (c .before .before .before .before .args .sizes .now) (c .before .before .before .before .args .n) (c .if2 .taken)
 
 -- src/drawing.rt:232:24
 sub-num : tie.Need-sub-num
@@ -40,8 +43,7 @@ add-result c = search needs
 
 -- src/drawing.rt:222:1
 returns-3 : tie.Need-returns-3
-unfolding inBounds
-returns-3 c = ?
+returns-3 c = bounds-last (c .before .before .before .before .before .before .args .sizes .now) (c .before .before .before .before .before .before .args .n) _ _ (c .before .before .before .if1 .left) (c .before .before .if2 .left) (c .before .num .ensures .0 ∙ ap (λ (l : List ℕ). getD l (c .before .before .before .before .before .before .args .n - 1) 0) (c .before .before .before .before .before .before .pre)) (c .byte .ensures .0)
 
 pub is-in-bounds-spec : {M : Type 1} → statement M
 is-in-bounds-spec =

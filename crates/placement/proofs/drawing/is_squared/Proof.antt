@@ -1,3 +1,5 @@
+use Rattle.placement.proofs.Draw.{squared-south, squared-west, squared-east}
+use borrow.Author.Tests.{not-true, not-false}
 use Rattle.placement.specs.Drawing.{squared}
 use native.Mathlib.Omega.{arith}
 use borrow.Author.Needs.{needs}
@@ -14,8 +16,7 @@ is-at-requires c κs = search needs
 
 -- src/drawing.rt:206:9
 returns : tie.Need-returns
-unfolding squared
-returns c = ?
+returns c = squared-south (c .before .before .before .before .args .xs .now) (c .before .before .before .before .args .ys .now) _ (c .before .is-at .ensures) (not-true _ (c .if1 .taken))
 
 -- src/drawing.rt:208:29
 num-requires : tie.Need-num-requires
@@ -27,8 +28,7 @@ is-at-requires-2 c κs = search needs
 
 -- src/drawing.rt:209:9
 returns-2 : tie.Need-returns-2
-unfolding squared
-returns-2 c = ?
+returns-2 c = squared-west (c .before .before .before .before .before .before .before .args .xs .now) (c .before .before .before .before .before .before .before .args .ys .now) _ _ _ (c .before .before .before .before .is-at .ensures) (not-false _ (c .before .before .before .if1 .left)) (c .before .before .num .ensures .0) (c .before .is-at2 .ensures) (not-true _ (c .if2 .taken))
 
 -- src/drawing.rt:211:22
 num-requires-2 : tie.Need-num-requires-2
@@ -40,8 +40,7 @@ is-at-requires-3 c κs = search needs
 
 -- src/drawing.rt:202:1
 returns-3 : tie.Need-returns-3
-unfolding squared
-returns-3 c = ?
+returns-3 c = squared-east (c .before .before .before .before .before .before .before .before .before .args .xs .now) (c .before .before .before .before .before .before .before .before .before .args .ys .now) _ _ _ _ _ (c .before .before .before .before .before .before .is-at .ensures) (not-false _ (c .before .before .before .before .before .if1 .left)) (c .before .before .before .before .num .ensures .0) (c .before .before .before .is-at2 .ensures) (not-false _ (c .before .before .if2 .left)) (c .before .num2 .ensures .0) (c .is-at3 .ensures)
 
 pub is-squared-spec : {M : Type 1} → statement M
 is-squared-spec =

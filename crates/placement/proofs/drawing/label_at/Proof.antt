@@ -1,5 +1,5 @@
+use mathlib.Core.Path.{sym, _∙_}
 use lib.ListN.{List·getD-eq-default}
-use mathlib.Core.Path.{sym}
 use native.Mathlib.Omega.{arith}
 use borrow.Author.Needs.{needs}
 use Rattle.placement.proofs.drawing.label_at.Statement.{statement}
@@ -18,7 +18,7 @@ wide-byte-requires c κs = search needs
 
 -- src/drawing.rt:49:1
 returns : tie.Need-returns
-returns c = ?
+returns c = c .wide-byte .ensures .0 ∙ ?
 
 -- src/drawing.rt:49:1
 returns-2 : tie.Need-returns-2

@@ -1,3 +1,4 @@
+use Rattle.placement.proofs.Asks.{label-there, label-none}
 use native.Mathlib.Omega.{arith}
 use borrow.Author.Needs.{needs}
 use Rattle.placement.proofs.drawing.label_of.Statement.{statement}
@@ -31,11 +32,13 @@ label-at-requires c κs = search needs
 
 -- src/drawing.rt:71:9
 returns : tie.Need-returns
-returns c = ?
+returns c = let at = c .before .before .before .before .index-of .ensures .0 in
+    let s = c .before .before .before .size-of .ensures .0 in
+    ?
 
 -- src/drawing.rt:56:1
 returns-2 : tie.Need-returns-2
-returns-2 c = ?
+returns-2 c = label-none (c .before .before .before .before .before .before .before .args .sizes .now) (c .before .before .before .before .before .before .before .args .entries .now) (c .before .before .before .before .before .before .before .args .n) (c .before .before .before .before .before .before .before .args .labels .now) (c .before .before .before .before .before .before .before .pre .0) (c .before .before .before .before .before .before .before .args .u) (c .before .before .before .before .before .before .before .args .v) (let i = c .before .before .index-of .ensures .0 in let s = c .before .size-of .ensures .0 in let t = c .if1 .left in ?)
 
 pub label-of-spec : {M : Type 1} → statement M
 label-of-spec =

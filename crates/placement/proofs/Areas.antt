@@ -1,0 +1,1 @@
+-- Doubled area: how large differences and products of coordinates are, and the sign of a triangle's area.
