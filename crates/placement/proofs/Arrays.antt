@@ -38,6 +38,12 @@ pub length-padded : (k : ℕ) (l : List ℕ) → length l ≤ k → length (padd
 unfolding padded
 length-padded k l h = let a = length-append l (zeros (k - length l)) in let b = length-zeros (k - length l) in omega arith
 
+-- inside a list it does not matter what is read outside
+pub getD-inside : (l : List ℕ) (i a b : ℕ) → i < length l → getD l i a ≡ getD l i b
+getD-inside [] i a b h = absurd (omega arith)
+getD-inside (k ∷ l) zero a b h = refl
+getD-inside (k ∷ l) (suc i) a b h = getD-inside l i a b (omega arith)
+
 -- the first n entries of an array that has zeros from n on
 module _ (k n : ℕ) (l : List ℕ) (size : length l ≡ k) (fits : n ≤ k) (past : (u : ℕ) → n ≤ u → getD l u 0 ≡ 0) where
   pub getD-first : (u : ℕ) → getD (take n l) u 0 ≡ getD l u 0

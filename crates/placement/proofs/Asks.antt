@@ -105,6 +105,24 @@ module _ (sizes es : List ℕ) (n : ℕ) (ls : List ℕ) (few : n ≤ 200) (u v 
       sym (getD-take (length (entries (table sizes es n) u)) (drop (start (table sizes es n) u) ls) At unlabelled (omega arith)
       ∙ getD-drop (start (table sizes es n) u) ls At unlabelled ∙ ap (λ (k : ℕ). getD ls (k + At) unlabelled) s)
 
+module _ (starts sizes es : List ℕ) (n : ℕ) (ls : List ℕ) (u v i k : ℕ) (few : n ≤ 200) (q : starts ≡ startsOf sizes) (ei : i ≡ indexOf v (ring (rows starts sizes es n) u)) (ek : k ≡ sizeOf sizes n u) where
+  found-at : i ≡ indexOf v (ring (table sizes es n) u)
+  unfolding table
+  found-at = ei ∙ ap (λ (l : List ℕ). indexOf v (ring (rows l sizes es n) u)) q
+
+  -- the label as code reads it
+  pub label-past : k ≤ i → unlabelled ≡ labelOf (table sizes es n) ls u v
+  label-past h = let f = found-at in label-none sizes es n ls few u v (omega arith)
+
+  pub label-read : (s l : ℕ) → i < k → s ≡ getD starts u 0 → l ≡ getD ls (s + i) unlabelled → l ≡ labelOf (table sizes es n) ls u v
+  label-read s l h es₀ el =
+      let f = found-at in
+      el ∙ (λ t. getD ls ((es₀ ∙ ap (λ (r : List ℕ). getD r u 0) q) t + f t) unlabelled) ∙ label-there sizes es n ls few u v (inside (ltb u n) refl) (omega arith)
+    where
+      inside : (t : Bool) → ltb u n ≡ t → u < n
+      inside true e = ltb-true u n e
+      inside false e = let z = size-outside sizes n u (ltb-false u n e) in absurd (omega arith)
+
 -- the neighbour at i of u's ring, from its entry
 pub dart-at : (starts sizes es : List ℕ) (n u i s e v : ℕ) → starts ≡ startsOf sizes → i < sizeOf sizes n u → s ≡ getD starts u 0 → e ≡ getD es (s + i) 0 → v ≡ neighbour e → v ≡ getD (ring (table sizes es n) u) i 0
 unfolding table

@@ -6,10 +6,11 @@ use mathlib.Core.Bool.{Bool, true, false, cond, _&&_, false≢true, true≢false
 use native.Mathlib.Omega.{arith}
 use lib.ListN.{length, getD, drop}
 use lib.Dec.{eqb, leb}
-use borrow.Author.Tests.{eq-eqb, ne-eqb, le-leb, lt-leb}
+use borrow.Author.Tests.{eq-eqb, ne-eqb, le-leb, lt-leb, leb-true}
 use Rattle.lists.specs.Tests.{all, sameList}
 use Rattle.lists.specs.Ranges.{from}
 use Rattle.lists.specs.Spans.{stretch, zeros, padded}
+use Rattle.lists.proofs.Bools.{and-yes}
 use Rattle.model.specs.Outcome.{Outcome, accepted, refused, _>>=_, _>>_, require}
 use Rattle.model.specs.Plan.{Plan, count, entryCount, dartCount, north, east, south, west}
 use Rattle.model.specs.Chart.{Chart, Constraint, x, y, meets, isAt, isPlacement, leastNumbers, leastPlacement, slope, chart, sameChart, tie}
@@ -18,7 +19,8 @@ use Rattle.model.proofs.Placements.{Placed, placed, chart-is, chart-11}
 use Rattle.rings.specs.Tables.{startOf, startsOf, rows, table}
 use Rattle.rings.proofs.Rows.{start-first, start-more, count-rows}
 use Rattle.placement.specs.declared.drawing.Drawn.{Drawn}
-use Rattle.placement.specs.Constraints.{listedFrom, listed, constraintAt, numbersOf, ties, compass, asked}
+use Rattle.placement.specs.declared.solver.Numbers.{Numbers}
+use Rattle.placement.specs.Constraints.{listedFrom, listed, constraintAt, solved, numbersOf, ties, compass, asked}
 use Rattle.placement.specs.Drawing.{chartOn, inBounds, chartFor, drawnAs, drawnOf, drawnIf, standsAt, squared}
 use Rattle.placement.proofs.Arrays.{getD-padded, stretch-padded}
 use Rattle.placement.proofs.Asks.{starts-at, entries-total}
@@ -253,3 +255,37 @@ module _ {a b : List ℕ} {n i : ℕ} (inv : Matches a b n i) where
   pub matches-end : n ≤ i → true ≡ sameList (stretch a 0 n) (stretch b 0 n)
   unfolding stretch
   matches-end h = let z : n - i ≡ 0 = omega arith in sym (inv .same ∙ rw z)
+
+-- ---- what the functions hand on
+pub bounds-say : (sizes : List ℕ) (n : ℕ) → inBounds sizes n ≡ true → (n ≤ 200) × (startOf sizes n ≤ 1186)
+unfolding inBounds
+bounds-say sizes n e = let (a, b) = and-yes (leb n 200) (leb (startOf sizes n) 1186) e in (leb-true n 200 a, leb-true (startOf sizes n) 1186 b)
+
+pub axis-numbers : (n : ℕ) (cs ds : List Constraint) (r : Numbers) → n ≤ 200 → r ≡ numbersOf (solved n cs) → cs ≡ ds → r ≡ numbersOf (leastNumbers n ds)
+unfolding solved
+axis-numbers n cs ds r h e q = e ∙ ap numbersOf (rw (le-leb n 200 h) (ap (leastNumbers n) q))
+
+pub drawn-no : (t : Bool) (xs ys : List ℕ) → t ≡ squared xs ys → t ≡ false → drawnOf (refused 11 0) ≡ drawnIf (squared xs ys) xs ys
+unfolding drawnIf
+drawn-no t xs ys e f = sym (rw (sym e ∙ f))
+
+pub drawn-yes : (t : Bool) (xs ys : List ℕ) (w h : ℕ) → t ≡ squared xs ys → t ≡ true → w ≡ getD xs 0 0 → h ≡ getD ys 0 0 → record { found = true; w = w; h = h; xs = xs; ys = ys } ≡ drawnIf (squared xs ys) xs ys
+unfolding drawnIf
+drawn-yes t xs ys w h e f ew eh = (λ i. record { found = true; w = ew i; h = eh i; xs = xs; ys = ys }) ∙ sym (rw (sym e ∙ f))
+
+module _ (n aw ah : ℕ) (ax ay : List ℕ) (bw bh : ℕ) (bx by : List ℕ) where
+  pub charts-w : (aw ≡ bw → ⊥) → false ≡ sameChart (chartOn n aw ah ax ay) (chartOn n bw bh bx by)
+  unfolding sameChart chartOn
+  charts-w d = sym (rw (ne-eqb aw bw d))
+
+  pub charts-h : aw ≡ bw → (ah ≡ bh → ⊥) → false ≡ sameChart (chartOn n aw ah ax ay) (chartOn n bw bh bx by)
+  unfolding sameChart chartOn
+  charts-h e d = sym (rw (eq-eqb aw bw e, ne-eqb ah bh d))
+
+  pub charts-x : aw ≡ bw → ah ≡ bh → (t : Bool) → t ≡ sameList (stretch ax 0 n) (stretch bx 0 n) → t ≡ false → false ≡ sameChart (chartOn n aw ah ax ay) (chartOn n bw bh bx by)
+  unfolding sameChart chartOn
+  charts-x e f t q d = sym (rw (eq-eqb aw bw e, eq-eqb ah bh f, sym q ∙ d))
+
+  pub charts-y : aw ≡ bw → ah ≡ bh → (t r : Bool) → t ≡ sameList (stretch ax 0 n) (stretch bx 0 n) → t ≡ true → r ≡ sameList (stretch ay 0 n) (stretch by 0 n) → r ≡ sameChart (chartOn n aw ah ax ay) (chartOn n bw bh bx by)
+  unfolding sameChart chartOn
+  charts-y e f t r q d s = s ∙ sym (rw (eq-eqb aw bw e, eq-eqb ah bh f, sym q ∙ d))

@@ -1,7 +1,8 @@
 // Doubled area of a triangle, signed: positive for a counterclockwise walk.
 ghost use mathlib.Core.Path.{_≡_};
 ghost use mathlib.Core.List.{[], _∷_};
-ghost use lib.IntN.{pos};
+ghost use lib.IntN.{pos, subℕ};
+ghost use Prim.Native.Nat.{_<_, _^_};
 ghost use lib.ListN.{getD};
 ghost use Rattle.model.specs.Geometry.{positive, isZero, area};
 ghost use Rattle.placement.specs.Corners.{points, negative, cornerAt, counterclockwise, flat, clockwise};
@@ -13,6 +14,13 @@ fn signed(x: u16) -> i64
     x as i64
 }
 
+// The difference of two coordinates.
+fn difference(a: u16, b: u16) -> i64
+    ensures { λ r. ⌜ r ≡ subℕ a b ⌝ }
+{
+    signed(a) - signed(b)
+}
+
 // Doubled area of the triangle a, b, c from its corners' coordinates.
 pub fn corner(ax: u16, ay: u16, bx: u16, by: u16, cx: u16, cy: u16) -> i64
     ensures { λ r. ⌜ r ≡ cornerAt ax ay bx by cx cy ⌝ }
@@ -20,12 +28,13 @@ pub fn corner(ax: u16, ay: u16, bx: u16, by: u16, cx: u16, cy: u16) -> i64
     ensures { λ r. ⌜ isZero r ≡ flat ax ay bx by cx cy ⌝ }
     ensures { λ r. ⌜ negative r ≡ clockwise ax ay bx by cx cy ⌝ }
 {
-    (signed(bx) - signed(ax)) * (signed(cy) - signed(ay)) - (signed(cx) - signed(ax)) * (signed(by) - signed(ay))
+    difference(bx, ax) * difference(cy, ay) - difference(cx, ax) * difference(by, ay)
 }
 
 // The number at i.
 fn word(a: &[u16], i: usize) -> u16
     ensures { λ r. ⌜ r ≡ getD (now (a .entry)) i 0 ⌝ }
+    ensures { λ r. ⌜ r < 2 ^ 16 ⌝ }
 {
     if i < a.len() { a[i] } else { 0 }
 }

@@ -282,7 +282,9 @@ fn chart_from<'a>(
     if !y.kept {
         return undrawn();
     }
-    squared_off(x.at, y.at)
+    let xs = x.at;
+    let ys = y.at;
+    squared_off(xs, ys)
 }
 
 // The chart of the plan that sizes and entries hold: the least placement, or none.

@@ -7,35 +7,35 @@ use Rattle.placement.proofs.corners.area_of.Lts as lts
 use Rattle.placement.proofs.corners.corner.Reads as corner-reads
 use Rattle.placement.proofs.corners.word.Reads as word-reads
 
--- src/corners.rt:37:9
+-- src/corners.rt:46:9
 word-requires : tie.Need-word-requires
 word-requires c κs = search needs
 
--- src/corners.rt:38:9
+-- src/corners.rt:47:9
 word-requires-2 : tie.Need-word-requires-2
 word-requires-2 c κs = search needs
 
--- src/corners.rt:39:20
+-- src/corners.rt:48:20
 word-requires-3 : tie.Need-word-requires-3
 word-requires-3 c κs = search needs
 
--- src/corners.rt:39:33
+-- src/corners.rt:48:33
 word-requires-4 : tie.Need-word-requires-4
 word-requires-4 c κs = search needs
 
--- src/corners.rt:39:46
+-- src/corners.rt:48:46
 word-requires-5 : tie.Need-word-requires-5
 word-requires-5 c κs = search needs
 
--- src/corners.rt:39:59
+-- src/corners.rt:48:59
 word-requires-6 : tie.Need-word-requires-6
 word-requires-6 c κs = search needs
 
--- src/corners.rt:39:5
+-- src/corners.rt:48:5
 corner-requires : tie.Need-corner-requires
 corner-requires c κs = search needs
 
--- src/corners.rt:34:1
+-- src/corners.rt:43:1
 returns : tie.Need-returns
 returns c = search needs
 

@@ -1,3 +1,5 @@
+use mir.Syntax.{w64}
+use mir.ValLaws.{toZ-pos}
 use native.Mathlib.Omega.{arith}
 use borrow.Author.Needs.{needs}
 use Rattle.placement.proofs.corners.signed.Statement.{statement}
@@ -11,7 +13,7 @@ cast-result c = search needs
 
 -- src/corners.rt:10:1
 returns : tie.Need-returns
-returns c = search needs
+returns c = let h = c .fits .x in toZ-pos w64 (c .args .x) (omega arith)
 
 pub signed-spec : {M : Type 1} → statement M
 signed-spec = tie.close (tie.spec cast-result returns)

@@ -5,19 +5,19 @@ use Rattle.placement.proofs.corners.word.Tie as tie
 use Rattle.placement.proofs.corners.word.Reads as reads
 use Rattle.placement.proofs.corners.word.Lts as lts
 
--- src/corners.rt:30:22
+-- src/corners.rt:39:22
 mul-result : tie.Need-mul-result
 mul-result c = search needs
 
--- src/corners.rt:30:22
+-- src/corners.rt:39:22
 shared-slice-read-result : tie.Need-shared-slice-read-result
 shared-slice-read-result c = search needs
 
--- src/corners.rt:27:1
+-- src/corners.rt:35:1
 returns : tie.Need-returns
 returns c = search needs
 
--- src/corners.rt:27:1
+-- src/corners.rt:35:1
 returns-2 : tie.Need-returns-2
 returns-2 c = search needs
 

@@ -1,3 +1,8 @@
+use Rattle.placement.proofs.Draw.{axis-numbers, after-ties}
+use Rattle.placement.specs.declared.solver.Numbers.{Numbers}
+use Rattle.lists.specs.Tests.{all}
+use Rattle.model.specs.Chart.{meets}
+use mathlib.Core.Path.{ap, _∙_}
 use native.Mathlib.Omega.{arith}
 use borrow.Author.Needs.{needs}
 use Rattle.placement.proofs.drawing.axis_of.Statement.{statement}
@@ -10,7 +15,7 @@ use Rattle.placement.proofs.solver.solve.Reads as solve-reads
 
 -- src/drawing.rt:181:9
 asks-of-requires : tie.Need-asks-of-requires
-asks-of-requires c κs = search needs
+asks-of-requires c κs = c .before .before .before .before .pre
 
 -- src/drawing.rt:185:48
 slice-aggregate-solve : tie.Need-slice-aggregate-solve
@@ -50,7 +55,8 @@ all-met-requires c κs = search needs
 
 -- src/drawing.rt:166:1
 returns : tie.Need-returns
-returns c = search needs
+returns c = let eq = axis-numbers (c .before .before .before .before .before .before .before .before .before .before .before .before .before .before .before .before .before .before .args .n) _ _ (c .before .before .before .before .before .before .solve .result) (c .before .before .before .before .before .before .before .before .before .before .before .before .before .before .before .before .before .before .pre .0) (c .before .before .before .before .before .before .solve .ensures) (c .before .before .before .before .before .before .before .before .before .before .before .before .before .asks-of .ensures .0) in
+    (ap (λ (r : Numbers). r .found) eq, (ap (λ (r : Numbers). r .at) eq, c .all-met .ensures ∙ ap (all (meets (c .before .before .before .before .before .before .solve .result .at))) (after-ties (c .before .before .before .before .before .before .before .before .before .before .before .before .before .asks-of .result .lows) (c .before .before .before .before .before .before .before .before .before .before .before .before .before .asks-of .result .highs) (c .before .before .before .before .before .before .before .before .before .before .before .before .before .asks-of .result .gaps) _ _ _ _ (c .before .before .before .before .before .before .before .before .before .before .before .before .before .asks-of .ensures .1) (c .before .before .before .before .before .before .before .before .before .before .before .before .before .asks-of .ensures .0))))
 
 pub axis-of-spec : {M : Type 1} → statement M
 axis-of-spec =

@@ -1,3 +1,4 @@
+use Rattle.placement.proofs.Arrays.{getD-inside}
 use mathlib.Core.Path.{sym, _∙_}
 use lib.ListN.{List·getD-eq-default}
 use native.Mathlib.Omega.{arith}
@@ -18,7 +19,7 @@ wide-byte-requires c κs = search needs
 
 -- src/drawing.rt:49:1
 returns : tie.Need-returns
-returns c = c .wide-byte .ensures .0 ∙ ?
+returns c = c .wide-byte .ensures .0 ∙ getD-inside (c .before .before .before .before .args .labels .now) (c .before .before .before .before .args .i) 0 5 (c .before .before .if1 .taken)
 
 -- src/drawing.rt:49:1
 returns-2 : tie.Need-returns-2

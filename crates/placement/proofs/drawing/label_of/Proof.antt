@@ -1,4 +1,4 @@
-use Rattle.placement.proofs.Asks.{label-there, label-none}
+use Rattle.placement.proofs.Asks.{label-read, label-past}
 use native.Mathlib.Omega.{arith}
 use borrow.Author.Needs.{needs}
 use Rattle.placement.proofs.drawing.label_of.Statement.{statement}
@@ -32,13 +32,11 @@ label-at-requires c κs = search needs
 
 -- src/drawing.rt:71:9
 returns : tie.Need-returns
-returns c = let at = c .before .before .before .before .index-of .ensures .0 in
-    let s = c .before .before .before .size-of .ensures .0 in
-    ?
+returns c = label-read (c .before .before .before .before .before .before .before .before .before .args .starts .now) (c .before .before .before .before .before .before .before .before .before .args .sizes .now) (c .before .before .before .before .before .before .before .before .before .args .entries .now) (c .before .before .before .before .before .before .before .before .before .args .n) (c .before .before .before .before .before .before .before .before .before .args .labels .now) (c .before .before .before .before .before .before .before .before .before .args .u) (c .before .before .before .before .before .before .before .before .before .args .v) _ _ (c .before .before .before .before .before .before .before .before .before .pre .0) (c .before .before .before .before .before .before .before .before .before .pre .1) (c .before .before .before .before .index-of .ensures .0) (c .before .before .before .size-of .ensures .0) _ _ (c .before .before .if1 .taken) (c .before .num .ensures .0) (c .label-at .ensures)
 
 -- src/drawing.rt:56:1
 returns-2 : tie.Need-returns-2
-returns-2 c = label-none (c .before .before .before .before .before .before .before .args .sizes .now) (c .before .before .before .before .before .before .before .args .entries .now) (c .before .before .before .before .before .before .before .args .n) (c .before .before .before .before .before .before .before .args .labels .now) (c .before .before .before .before .before .before .before .pre .0) (c .before .before .before .before .before .before .before .args .u) (c .before .before .before .before .before .before .before .args .v) (let i = c .before .before .index-of .ensures .0 in let s = c .before .size-of .ensures .0 in let t = c .if1 .left in ?)
+returns-2 c = label-past (c .before .before .before .before .before .before .before .args .starts .now) (c .before .before .before .before .before .before .before .args .sizes .now) (c .before .before .before .before .before .before .before .args .entries .now) (c .before .before .before .before .before .before .before .args .n) (c .before .before .before .before .before .before .before .args .labels .now) (c .before .before .before .before .before .before .before .args .u) (c .before .before .before .before .before .before .before .args .v) _ _ (c .before .before .before .before .before .before .before .pre .0) (c .before .before .before .before .before .before .before .pre .1) (c .before .before .index-of .ensures .0) (c .before .size-of .ensures .0) (c .if1 .left)
 
 pub label-of-spec : {M : Type 1} → statement M
 label-of-spec =

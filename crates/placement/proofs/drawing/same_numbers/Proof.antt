@@ -1,3 +1,5 @@
+use Rattle.placement.proofs.Draw.{Matches, matches-start, matches-hit, matches-on, matches-end}
+use Prim.Native.Nat.{_-_}
 use native.Mathlib.Omega.{arith}
 use borrow.Author.Needs.{needs}
 use Rattle.placement.proofs.drawing.same_numbers.Statement.{statement}
@@ -7,14 +9,14 @@ use Rattle.placement.proofs.drawing.same_numbers.Lts as lts
 use Rattle.lists.proofs.num.Reads as num-reads
 
 abbrev Inv-loop : tie.InvT-loop
-Inv-loop n a b i₀ i = ?
+Inv-loop n a b i₀ i = Matches a b n i
 
 abbrev μ-loop : tie.MeasureT-loop
-μ-loop n a b i₀ i = ?
+μ-loop n a b i₀ i = n - i
 
 -- src/drawing.rt:307:5
 loop-holds : tie.Need-loop-holds Inv-loop μ-loop
-loop-holds c = search needs
+loop-holds c = matches-start
 
 -- src/drawing.rt:308:12
 num-requires : tie.Need-num-requires Inv-loop μ-loop
@@ -26,7 +28,7 @@ num-requires-2 c κs = search needs
 
 -- src/drawing.rt:309:13
 returns : tie.Need-returns Inv-loop μ-loop
-returns c = search needs
+returns c = matches-hit (c .before .before .before .before .loop .inv) (c .before .before .before .loop-test .taken) (c .before .before .num .ensures .0) (c .before .num2 .ensures .0) (c .if1 .taken)
 
 -- src/drawing.rt:311:9
 add-i : tie.Need-add-i Inv-loop μ-loop
@@ -38,11 +40,11 @@ loop-less c = search needs
 
 -- src/drawing.rt:307:5
 loop-again : tie.Need-loop-again Inv-loop μ-loop
-loop-again c = search needs
+loop-again c = matches-on (c .before .before .before .before .loop .inv) (c .before .before .before .loop-test .taken) (c .before .before .num .ensures .0) (c .before .num2 .ensures .0) (omega arith) (c .if1 .left)
 
 -- src/drawing.rt:303:1
 returns-2 : tie.Need-returns-2 Inv-loop μ-loop
-returns-2 c = search needs
+returns-2 c = matches-end (c .before .loop .inv) (c .loop-test .left)
 
 pub same-numbers-spec : {M : Type 1} → statement M
 same-numbers-spec =

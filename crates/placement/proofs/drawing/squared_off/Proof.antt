@@ -1,3 +1,6 @@
+use Rattle.placement.proofs.Draw.{drawn-no, drawn-yes}
+use borrow.Author.Tests.{not-true, not-false}
+use mathlib.Core.Path.{refl, _∙_}
 use native.Mathlib.Omega.{arith}
 use borrow.Author.Needs.{needs}
 use Rattle.placement.proofs.drawing.squared_off.Statement.{statement}
@@ -25,7 +28,7 @@ undrawn-requires c κs = search needs
 
 -- src/drawing.rt:232:9
 returns : tie.Need-returns
-returns c = search needs
+returns c = c .undrawn .ensures ∙ drawn-no _ (c .before .before .before .before .before .args .t1) (c .before .before .before .before .before .args .t2) (c .before .before .is-squared .ensures) (not-true _ (c .before .if1 .taken))
 
 -- src/drawing.rt:236:12
 array-read-t13 : tie.Need-array-read-t13
@@ -37,7 +40,7 @@ array-read-t16 c = search needs
 
 -- src/drawing.rt:228:1
 returns-2 : tie.Need-returns-2
-returns-2 c = search needs
+returns-2 c = drawn-yes _ (c .before .before .before .before .args .t1) (c .before .before .before .before .args .t2) _ _ (c .before .is-squared .ensures) (not-false _ (c .if1 .left)) refl refl
 
 pub squared-off-spec : {M : Type 1} → statement M
 squared-off-spec =
