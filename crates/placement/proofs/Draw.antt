@@ -108,7 +108,7 @@ module _ (p : Plan) (ls : List ℕ) where
   unfolding testOf isPlacement isAt squared standsAt compass
   test-is xs ys ex ey =
       (λ i. all-same (meets (padded 200 xs)) (meets xs) (meets-padded xs) (compass false p ls) i && all-same (meets (padded 200 ys)) (meets ys) (meets-padded ys) (compass true p ls) i
-          && (eqb (getD-padded 200 xs 2 i) 0 && eqb (getD-padded 200 ys 2 i) 0 && (eqb (getD-padded 200 xs 3 i) 0 && eqb (getD-padded 200 ys 3 i) (getD-padded 200 ys 0 i)) && (eqb (getD-padded 200 xs 1 i) (getD-padded 200 xs 0 i) && eqb (getD-padded 200 ys 1 i) 0)))
+      && (eqb (getD-padded 200 xs 2 i) 0 && eqb (getD-padded 200 ys 2 i) 0 && (eqb (getD-padded 200 xs 3 i) 0 && eqb (getD-padded 200 ys 3 i) (getD-padded 200 ys 0 i)) && (eqb (getD-padded 200 xs 1 i) (getD-padded 200 xs 0 i) && eqb (getD-padded 200 ys 1 i) 0)))
       ∙ sym (rw (eq-eqb (length xs) (count p) ex, eq-eqb (length ys) (count p) ey, eq-eqb (getD xs 0 0) (getD xs 0 0) refl, eq-eqb (getD ys 0 0) (getD ys 0 0) refl)
       (shuffle (eqb (getD xs 2 0) 0 && eqb (getD ys 2 0) 0) (eqb (getD xs 3 0) 0 && eqb (getD ys 3 0) (getD ys 0 0)) (eqb (getD xs 1 0) (getD xs 0 0) && eqb (getD ys 1 0) 0) (all (meets xs) (compass false p ls)) (all (meets ys) (compass true p ls))))
 

@@ -1,6 +1,5 @@
 // The chart of a labelled plan, and the comparison of two charts.
 use crate::solver;
-
 ghost use mathlib.Core.Path.{_≡_};
 ghost use mathlib.Core.Bool.{_&&_};
 ghost use Prim.Native.Nat.{_+_, _-_, _<_, _≤_, _^_};
@@ -49,7 +48,11 @@ fn slope_due() -> u8
 fn label_at(labels: &[u8], i: usize) -> usize
     ensures { λ r. ⌜ r ≡ getD (now (labels .entry)) i unlabelled ⌝ }
 {
-    if i < labels.len() { lists::wide_byte(labels[i]) } else { 5 }
+    if i < labels.len() {
+        lists::wide_byte(labels[i])
+    } else {
+        5
+    }
 }
 
 // The label of the dart from u to v.
@@ -288,12 +291,7 @@ fn chart_from<'a>(
 }
 
 // The chart of the plan that sizes and entries hold: the least placement, or none.
-pub fn chart_of<'a>(
-    sizes: &'a [u8],
-    entries: &'a [u16],
-    n: usize,
-    labels: &'a [u8],
-) -> Drawn
+pub fn chart_of<'a>(sizes: &'a [u8], entries: &'a [u16], n: usize, labels: &'a [u8]) -> Drawn
     ensures { λ r. ⌜ drawnAs r n ≡ chartFor (now (sizes .entry)) (now (entries .entry)) n (now (labels .entry)) ⌝ }
     ensures { λ r. ⌜ r ≡ drawnOf (chartFor (now (sizes .entry)) (now (entries .entry)) n (now (labels .entry))) ⌝ }
 {

@@ -70,14 +70,22 @@ fn pass<'a>(
             let due = due_at(lows, gaps, &at, k);
             if lists::num(&at, high) < due {
                 if n < due {
-                    return Round { over: true, rose, at };
+                    return Round {
+                        over: true,
+                        rose,
+                        at,
+                    };
                 }
                 at[high] = due as u16;
                 rose = true;
             }
         }
     }
-    Round { over: false, rose, at }
+    Round {
+        over: false,
+        rose,
+        at,
+    }
 }
 
 // No numbers.
