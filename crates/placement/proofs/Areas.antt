@@ -13,7 +13,7 @@ use lib.Signed.{mag}
 use borrow.Author.Tests.{ltb-true, ltb-false, lt-ltb, le-ltb, eq-eqb, ne-eqb}
 use mir.Syntax.{w64}
 use mir.Val.{SFits, toZ, ofZ}
-use mir.ValLaws.{toZ-ofZ}
+use mir.ValLaws.{toZ-pos, toZ-ofZ}
 use Rattle.lists.specs.Spans.{stretch}
 use Rattle.lists.proofs.Spans.{getD-stretch}
 use Rattle.model.specs.Chart.{Chart, x, y}
@@ -169,18 +169,15 @@ within-minus {y} {z} a b = let m = abs-plus y (negℤ z) in let n = abs-neg z in
 abbrev read : ℤ → ℤ
 read z = toZ w64 (ofZ w64 z)
 
--- a difference of two numbers read back from their bits
-module _ (p q : ℤ) (a b : ℕ) (e : p ≡ pos a) (f : q ≡ pos b) (h : a < 2 ^ 16) (k : b < 2 ^ 16) where
-  read-pos : (n : ℕ) → n < 2 ^ 16 → read (pos n) ≡ pos n
-  read-pos n l = within-read {k = 65536} {z = pos n} (record { within = omega arith }) (omega arith)
+-- a difference of two coordinates
+module _ (a b : ℕ) (h : a < 2 ^ 16) (k : b < 2 ^ 16) where
+  minus-is : toZ w64 a -ℤ toZ w64 b ≡ subℕ a b
+  minus-is = (λ i. toZ-pos w64 a (omega arith) i -ℤ toZ-pos w64 b (omega arith) i) ∙ pos-minus a b
 
-  minus-is : read p -ℤ read q ≡ subℕ a b
-  minus-is = (λ i. read (e i) -ℤ read (f i)) ∙ (λ i. read-pos a h i -ℤ read-pos b k i) ∙ pos-minus a b
-
-  pub minus-fits : SFits w64 (read p -ℤ read q)
+  pub minus-fits : SFits w64 (toZ w64 a -ℤ toZ w64 b)
   minus-fits = subst (SFits w64) (sym minus-is) (within-fits (within-sub a b h k) (omega arith))
 
-  pub minus-read : read (read p -ℤ read q) ≡ subℕ a b
+  pub minus-read : read (toZ w64 a -ℤ toZ w64 b) ≡ subℕ a b
   minus-read = ap read minus-is ∙ within-read (within-sub a b h k) (omega arith)
 
 -- a product of two differences

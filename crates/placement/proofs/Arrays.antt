@@ -9,7 +9,7 @@ use native.Mathlib.Nat.{suc-mul}
 use lib.ListN.{length, getD, set, take, length-append, List·getD-eq-default}
 use lib.Seq.{ext-getD, getD-take, length-take-le, getD-set-same, getD-set-other}
 use lib.Dec.{eqb, ltb}
-use borrow.Author.Tests.{ltb-true, ltb-false, eqb-false}
+use borrow.Author.Tests.{ltb-true, ltb-false, eqb-false, eq-eqb, ne-eqb}
 use Rattle.lists.specs.Ranges.{from}
 use Rattle.lists.specs.Spans.{stretch, zeros, padded}
 use Rattle.lists.proofs.Ranges.{from-mem, mem-from}
@@ -77,6 +77,14 @@ rise-le g = go (eqb g 0)
     go : (t : Bool) → cond t 0 1 ≤ 1
     go true = omega arith
     go false = omega arith
+
+pub due-level : (low g : ℕ) → g ≡ 0 → low ≡ low + rise g
+unfolding rise
+due-level low g e = rw (eq-eqb g 0 e) (omega arith)
+
+pub due-up : (low g : ℕ) → (g ≡ 0 → ⊥) → low + 1 ≡ low + rise g
+unfolding rise
+due-up low g d = rw (ne-eqb g 0 d)
 
 module _ (lows highs gaps : List ℕ) (count : ℕ) where
   pub mem-listed : (k : ℕ) → k < count → List·Memᴰ (constraintAt lows highs gaps k) (listed lows highs gaps count)

@@ -18,7 +18,7 @@ use Rattle.model.specs.Labels.{start, labelsAround, labelOf, unlabelled}
 use Rattle.model.specs.Chart.{Constraint, constraint, xConstraint, yConstraint, xConstraints, yConstraints, tie, slope}
 use Rattle.rings.specs.Tables.{sumOf, startOf, startsOf, sizeOf, rows, table}
 use Rattle.rings.proofs.Rows.{start-more, size-inside, size-outside, entries-rows, count-rows, ring-size, ring-at}
-use Rattle.placement.specs.Constraints.{rise, constraintAt, listedFrom, listed, ties, compass, asked, tiedTo, exchanged, chosen, gapOf, keptOf}
+use Rattle.placement.specs.Constraints.{rise, constraintAt, listedFrom, listed, ties, compass, asked, tiedTo, endOf, gapOf, keptOf}
 use Rattle.placement.proofs.Arrays.{getD-zeros, two-first, listed-none, listed-more}
 
 -- ---- lists joined
@@ -114,10 +114,10 @@ module _ (starts sizes es : List ℕ) (n : ℕ) (ls : List ℕ) (u v i k : ℕ) 
   pub label-past : k ≤ i → unlabelled ≡ labelOf (table sizes es n) ls u v
   label-past h = let f = found-at in label-none sizes es n ls few u v (omega arith)
 
-  pub label-read : (s l : ℕ) → i < k → s ≡ getD starts u 0 → l ≡ getD ls (s + i) unlabelled → l ≡ labelOf (table sizes es n) ls u v
-  label-read s l h es₀ el =
+  pub label-read : (s j l : ℕ) → i < k → s ≡ getD starts u 0 → j ≡ s + i → l ≡ getD ls j unlabelled → l ≡ labelOf (table sizes es n) ls u v
+  label-read s j l h es₀ ej el =
       let f = found-at in
-      el ∙ (λ t. getD ls ((es₀ ∙ ap (λ (r : List ℕ). getD r u 0) q) t + f t) unlabelled) ∙ label-there sizes es n ls few u v (inside (ltb u n) refl) (omega arith)
+      el ∙ ap (λ (m : ℕ). getD ls m unlabelled) ej ∙ (λ t. getD ls ((es₀ ∙ ap (λ (r : List ℕ). getD r u 0) q) t + f t) unlabelled) ∙ label-there sizes es n ls few u v (inside (ltb u n) refl) (omega arith)
     where
       inside : (t : Bool) → ltb u n ≡ t → u < n
       inside true e = ltb-true u n e
@@ -163,8 +163,8 @@ rise-gap upright l = go upright (eqb l 0)
 abbrev dartAsks : Bool → ℕ → Dart → List Constraint
 dartAsks upright l d = cond upright (yConstraint slope l d) (xConstraint slope l d)
 
-asks-one : (upright : Bool) (l u v : ℕ) → l < 2 → dartAsks upright l (u, v) ≡ constraint (chosen (exchanged upright l) u v) (chosen (exchanged upright l) v u) (gapOf upright l) ∷ []
-unfolding xConstraint yConstraint chosen exchanged gapOf
+asks-one : (upright : Bool) (l u v : ℕ) → l < 2 → dartAsks upright l (u, v) ≡ constraint (endOf upright l u v) (endOf upright l v u) (gapOf upright l) ∷ []
+unfolding xConstraint yConstraint endOf gapOf
 asks-one true zero u v h = refl
 asks-one true (suc zero) u v h = refl
 asks-one true (suc (suc l)) u v h = absurd (omega arith)
@@ -285,7 +285,7 @@ module _ (sizes es : List ℕ) (n : ℕ) (ls : List ℕ) (upright : Bool) where
 
     -- a dart more
     pub asking-dart : {i′ k′ : ℕ} (v l a b g : ℕ) → i′ ≡ suc i → k < 1188 → i < sizeOf sizes n u → v ≡ getD (ring P u) i 0 → l ≡ labelOf P ls u v
-        → a ≡ chosen (exchanged upright l) u v → b ≡ chosen (exchanged upright l) v u → g ≡ gapOf upright l → k′ ≡ k + keptOf l → Asking (set lows k a) (set highs k b) (set gaps k g) k′ u i′
+        → a ≡ endOf upright l u v → b ≡ endOf upright l v u → g ≡ gapOf upright l → k′ ≡ k + keptOf l → Asking (set lows k a) (set highs k b) (set gaps k g) k′ u i′
     unfolding asksOf
     asking-dart {i′} {k′} v l a b g q room h ev el ea eb eg ek =
         let one = kept-le l in

@@ -52,12 +52,9 @@ asked upright p ls = ties upright ++ compass upright p ls
 unfoldable pub tiedTo : Bool → ℕ
 tiedTo upright = cond upright west east
 
--- the parts of a dart's constraint: along a right dart y does not rise, so there the dart's ends are exchanged
-unfoldable pub exchanged : Bool → ℕ → Bool
-exchanged upright l = upright && eqb l right
-
-unfoldable pub chosen : Bool → ℕ → ℕ → ℕ
-chosen swapped u v = cond swapped v u
+-- the lower end of the constraint of a dart from u to v, and of its reverse the higher end: along a right dart y does not rise, so there the ends are exchanged
+unfoldable pub endOf : Bool → ℕ → ℕ → ℕ → ℕ
+endOf upright l u v = cond (upright && eqb l right) v u
 
 -- x along an up dart and y along a right dart have the slope's gap, the other two 1
 unfoldable pub gapOf : Bool → ℕ → ℕ

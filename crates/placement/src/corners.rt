@@ -1,24 +1,17 @@
 // Doubled area of a triangle, signed: positive for a counterclockwise walk.
 ghost use mathlib.Core.Path.{_≡_};
 ghost use mathlib.Core.List.{[], _∷_};
-ghost use lib.IntN.{pos, subℕ};
+ghost use lib.IntN.{subℕ};
 ghost use Prim.Native.Nat.{_<_, _^_};
 ghost use lib.ListN.{getD};
 ghost use Rattle.model.specs.Geometry.{positive, isZero, area};
 ghost use Rattle.placement.specs.Corners.{points, negative, cornerAt, counterclockwise, flat, clockwise};
 
-// A coordinate as a signed number.
-fn signed(x: u16) -> i64
-    ensures { λ r. ⌜ r ≡ pos x ⌝ }
-{
-    x as i64
-}
-
 // The difference of two coordinates.
 fn difference(a: u16, b: u16) -> i64
     ensures { λ r. ⌜ r ≡ subℕ a b ⌝ }
 {
-    signed(a) - signed(b)
+    a as i64 - b as i64
 }
 
 // Doubled area of the triangle a, b, c from its corners' coordinates.

@@ -3,15 +3,17 @@ use crate::solver;
 ghost use mathlib.Core.Path.{_≡_};
 ghost use mathlib.Core.Bool.{_&&_};
 ghost use Prim.Native.Nat.{_+_, _-_, _<_, _≤_, _^_};
-ghost use lib.ListN.{getD};
 ghost use Rattle.lists.specs.Tests.{all, sameList};
 ghost use Rattle.lists.specs.Spans.{stretch};
 ghost use Rattle.model.specs.Outcome.{refused};
-ghost use Rattle.model.specs.Labels.{unlabelled, labelOf};
-ghost use Rattle.model.specs.Chart.{meets, slope, leastNumbers, sameChart};
+ghost use Rattle.model.specs.Labels.{labelOf};
+ghost use Rattle.model.specs.Chart.{meets, leastNumbers, sameChart};
 ghost use Rattle.rings.specs.Tables.{startOf, startsOf, table};
-ghost use Rattle.placement.specs.Constraints.{numbersOf, listed, compass, asked, tiedTo, exchanged, chosen, gapOf, keptOf};
+ghost use Rattle.placement.specs.Constraints.{numbersOf, listed, compass, asked, tiedTo, endOf, gapOf, keptOf};
 ghost use Rattle.placement.specs.Drawing.{chartOn, inBounds, chartFor, drawnAs, drawnOf, drawnIf, standsAt, squared};
+
+// The slope that a line must at least have.
+const SLOPE: u8 = 0;
 
 // Constraints in flat arrays, as many as count says.
 pub struct Asks {
@@ -37,24 +39,6 @@ pub struct Drawn {
     pub ys: [u16; 200],
 }
 
-// The slope that a line must at least have.
-fn slope_due() -> u8
-    ensures { λ r. ⌜ r ≡ slope ⌝ }
-{
-    0
-}
-
-// The label at i; past the end there is none.
-fn label_at(labels: &[u8], i: usize) -> usize
-    ensures { λ r. ⌜ r ≡ getD (now (labels .entry)) i unlabelled ⌝ }
-{
-    if i < labels.len() {
-        lists::wide_byte(labels[i])
-    } else {
-        5
-    }
-}
-
 // The label of the dart from u to v.
 fn label_of<'a>(
     starts: &'a [u16],
@@ -71,23 +55,24 @@ fn label_of<'a>(
 {
     let i = rings::index_of(starts, sizes, entries, n, u, v);
     if i < rings::size_of(sizes, n, u) {
-        return label_at(labels, lists::num(starts, u) + i);
+        let k = lists::num(starts, u) + i;
+        if k < labels.len() {
+            return lists::wide_byte(labels[k]);
+        }
     }
     5
 }
 
-// Are a dart's ends exchanged in its constraint?
-fn is_exchanged(upright: bool, label: usize) -> bool
-    ensures { λ r. ⌜ r ≡ exchanged upright label ⌝ }
+// The first context, or the second where a dart's ends are exchanged in its constraint.
+fn end_of(upright: bool, label: usize, u: u16, v: u16) -> u16
+    ensures { λ r. ⌜ r ≡ endOf upright label u v ⌝ }
 {
-    upright && label == 1
-}
-
-// The first context, or the second where they are exchanged.
-fn either(swapped: bool, u: u16, v: u16) -> u16
-    ensures { λ r. ⌜ r ≡ chosen swapped u v ⌝ }
-{
-    if swapped { v } else { u }
+    if upright {
+        if label == 1 {
+            return v;
+        }
+    }
+    u
 }
 
 // The gap of a dart's constraint.
@@ -95,9 +80,9 @@ fn gap_of(upright: bool, label: usize) -> u8
     ensures { λ r. ⌜ r ≡ gapOf upright label ⌝ }
 {
     if upright {
-        if label == 0 { 1 } else { slope_due() }
+        if label == 0 { 1 } else { SLOPE }
     } else {
-        if label == 0 { slope_due() } else { 1 }
+        if label == 0 { SLOPE } else { 1 }
     }
 }
 
@@ -144,11 +129,10 @@ fn asks_of<'a>(
         if i < rings::size_of(sizes, n, u) {
             let v = rings::neighbour_of(lists::num(entries, lists::num(starts, u) + i));
             let label = label_of(starts, sizes, entries, n, labels, u, v);
-            let swapped = is_exchanged(upright, label);
             let a = u as u16;
             let b = v as u16;
-            lows[count] = either(swapped, a, b);
-            highs[count] = either(swapped, b, a);
+            lows[count] = end_of(upright, label, a, b);
+            highs[count] = end_of(upright, label, b, a);
             gaps[count] = gap_of(upright, label);
             count += kept_of(label);
             i += 1;

@@ -21,20 +21,16 @@ pub struct Round {
     pub at: [u16; 200],
 }
 
-// A gap as 0 or 1.
-fn rise_of(gap: usize) -> usize
-    ensures { λ r. ⌜ r ≡ rise gap ⌝ }
-    ensures { λ r. ⌜ r < 2 ^ 8 ⌝ }
-{
-    if gap == 0 { 0 } else { 1 }
-}
-
 // What the constraint at i asks of its higher number.
 fn due_at<'a>(lows: &'a [u16], gaps: &'a [u8], at: &'a [u16], i: usize) -> usize
     ensures { λ r. ⌜ r ≡ getD (now (at .entry)) (getD (now (lows .entry)) i 0) 0 + rise (getD (now (gaps .entry)) i 0) ⌝ }
     ensures { λ r. ⌜ r < 2 ^ 17 ⌝ }
 {
-    lists::num(at, lists::num(lows, i)) + rise_of(lists::byte(gaps, i))
+    let low = lists::num(at, lists::num(lows, i));
+    if lists::byte(gaps, i) == 0 {
+        return low;
+    }
+    low + 1
 }
 
 // The constraint that a pass comes to after i others.
