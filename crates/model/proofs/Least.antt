@@ -20,9 +20,9 @@ use Rattle.model.proofs.Outcomes.{not-both, same-value, same-refusal}
 abbrev at : List ℕ → ℕ → ℕ
 at ks u = getD ks u 0
 
--- numbers, given as a function, that meet every constraint
-abbrev Meets : List Constraint → (ℕ → ℕ) → Type 0
-Meets cs d = (c : Constraint) → List·Memᴰ c cs → d (c .low) + c .gap ≤ d (c .high)
+-- numbers, given as a function, that meet every constraint on one of the first n
+abbrev pub Meets : ℕ → List Constraint → (ℕ → ℕ) → Type 0
+Meets n cs d = (c : Constraint) → List·Memᴰ c cs → c .high < n → d (c .low) + c .gap ≤ d (c .high)
 
 -- no number of the list is above the function's
 abbrev Under : List ℕ → (ℕ → ℕ) → Type 0
@@ -58,12 +58,12 @@ module _ (c : Constraint) (ks : List ℕ) where
       go (inl h) = let e = raise-at u (h .0) (h .1) in let f : at ks u ≡ at ks (c .high) = ap (at ks) (h .0) in omega arith
       go (inr h) = let e = raise-other u h in omega arith
 
-  raise-under : (d : ℕ → ℕ) → d (c .low) + c .gap ≤ d (c .high) → Under ks d → Under (raise c ks) d
+  raise-under : (d : ℕ → ℕ) → (c .high < length ks → d (c .low) + c .gap ≤ d (c .high)) → Under ks d → Under (raise c ks) d
   unfolding raised
   raise-under d m b u = go (raise-cases u)
     where
       go : ((u ≡ c .high) × (u < length ks)) ⊎ ((u ≢ c .high) ⊎ (length ks ≤ c .high)) → at (raise c ks) u ≤ d u
-      go (inl h) = let e = raise-at u (h .0) (h .1) in let f : d u ≡ d (c .high) = ap d (h .0) in let x = b (c .high) in let y = b (c .low) in omega arith
+      go (inl h) = let e = raise-at u (h .0) (h .1) in let f : d u ≡ d (c .high) = ap d (h .0) in let k = m (let q = h .0 in let l = h .1 in omega arith) in let x = b (c .high) in let y = b (c .low) in omega arith
       go (inr h) = let e = raise-other u h in let x = b u in omega arith
 
   raise-length : length (raise c ks) ≡ length ks
@@ -81,10 +81,11 @@ unfolding pass
 pass-rises [] ks u = omega arith
 pass-rises (c ∷ cs) ks u = let x = raise-rises c ks u in let y = pass-rises cs (raise c ks) u in omega arith
 
-pass-under : (cs : List Constraint) (ks : List ℕ) (d : ℕ → ℕ) → Meets cs d → Under ks d → Under (pass cs ks) d
+pass-under : (n : ℕ) (cs : List Constraint) (ks : List ℕ) (d : ℕ → ℕ) → length ks ≡ n → Meets n cs d → Under ks d → Under (pass cs ks) d
 unfolding pass
-pass-under [] ks d m b = b
-pass-under (c ∷ cs) ks d m b = pass-under cs (raise c ks) d (λ e n. m e (List·Memᴰ·tail n)) (raise-under c ks d (m c (List·Memᴰ·head refl)) b)
+pass-under n [] ks d l m b = b
+pass-under n (c ∷ cs) ks d l m b =
+    pass-under n cs (raise c ks) d (raise-length c ks ∙ l) (λ e i. m e (List·Memᴰ·tail i)) (raise-under c ks d (λ h. m c (List·Memᴰ·head refl) (omega arith)) b)
 
 -- where a pass raises nothing, every constraint on a number of the list is met
 pass-still : (cs : List Constraint) (ks : List ℕ) → ((u : ℕ) → at (pass cs ks) u ≤ at ks u) → (c : Constraint) → List·Memᴰ c cs → c .high < length ks → at ks (c .low) + c .gap ≤ at ks (c .high)
@@ -115,11 +116,11 @@ module _ (cs : List Constraint) where
       go r false q e = r e
 
   -- each pass that changes something adds to the sum, and numbers that meet the constraints bound it
-  settle-refused : (n : ℕ) (d : ℕ → ℕ) → Meets cs d → (fuel : ℕ) (ks : List ℕ) (k place : ℕ) → length ks ≡ n → Under ks d → settle cs fuel ks ≡ refused k place → sum (at ks) n + fuel ≤ sum d n
+  settle-refused : (n : ℕ) (d : ℕ → ℕ) → Meets n cs d → (fuel : ℕ) (ks : List ℕ) (k place : ℕ) → length ks ≡ n → Under ks d → settle cs fuel ks ≡ refused k place → sum (at ks) n + fuel ≤ sum d n
   unfolding settle
   settle-refused n d m zero ks k place l b e = let x = sum-mono (at ks) d n b in omega arith
   settle-refused n d m (suc fuel) ks k place l b e =
-      go (settle-refused n d m fuel (pass cs ks) k place (pass-length cs ks ∙ l) (pass-under cs ks d m b)) (sameList (pass cs ks) ks) refl e
+      go (settle-refused n d m fuel (pass cs ks) k place (pass-length cs ks ∙ l) (pass-under n cs ks d l m b)) (sameList (pass cs ks) ks) refl e
     where
       old : ℕ
       old = sum (at ks) n
@@ -185,67 +186,116 @@ zeros-under zero d u = omega arith
 zeros-under (suc n) d zero = omega arith
 zeros-under (suc n) d (suc u) = zeros-under n (λ (w : ℕ). d (suc w)) u
 
+-- numbers for n contexts that meet every constraint on one of them
+pub record Fits (n : ℕ) (cs : List Constraint) (ks : List ℕ) : Type 0 where
+  pub for-all : length ks ≡ n
+  pub met : (c : Constraint) → List·Memᴰ c cs → c .high < n → getD ks (c .low) 0 + c .gap ≤ getD ks (c .high) 0
+
+pub solves-fits : {n : ℕ} {cs : List Constraint} {ks : List ℕ} → Solves n cs ks → Fits n cs ks
+solves-fits s = record { for-all = s .for-all; met = λ c m _. s .met c m }
+
+-- where numbers meet constraints with gaps 0 and 1, so do their ranks, and none of those is above n
+pub record Low (n : ℕ) (cs : List Constraint) : Type 0 where
+  pub low : ℕ → ℕ
+  pub low-meets : Meets n cs low
+  pub low-most : (u : ℕ) → low u ≤ n
+
+pub fits-low : (n : ℕ) (cs : List Constraint) → ((c : Constraint) → List·Memᴰ c cs → c .gap ≤ 1) → (ds : List ℕ) → Fits n cs ds → Low n cs
+fits-low n cs small ds s = record { low = ranks; low-meets = ranks-meet; low-most = most }
+  where
+    ranks : ℕ → ℕ
+    ranks = rank (at ds) n
+
+    -- a number past the end is 0, as the one at n is
+    past : (u : ℕ) → n ≤ u → at ds u ≡ at ds n
+    past u h = let l = s .for-all in List·getD-eq-default ds 0 {n = u} (omega arith) ∙ sym (List·getD-eq-default ds 0 {n = n} (omega arith))
+
+    inside : (u : ℕ) → (w : ℕ) × (w < suc n) × (at ds w ≡ at ds u)
+    inside u = go (ltb u n) refl
+      where
+        go : (t : Bool) → ltb u n ≡ t → (w : ℕ) × (w < suc n) × (at ds w ≡ at ds u)
+        go true q = (u, (let h = ltb-true u n q in omega arith), refl)
+        go false q = (n, omega arith, sym (past u (ltb-false u n q)))
+
+    most : (u : ℕ) → ranks u ≤ n
+    most u = let (w, h, q) = inside u in let x = rank-le (at ds) n w h in let y = rank-mono (at ds) n w u (omega arith) in omega arith
+
+    ranks-meet : Meets n cs ranks
+    ranks-meet c m i = go (c .gap) refl (small c m)
+      where
+        go : (g : ℕ) → c .gap ≡ g → g ≤ 1 → ranks (c .low) + g ≤ ranks (c .high)
+        go zero q h = let x = s .met c m i in let y = rank-mono (at ds) n (c .high) (c .low) (omega arith) in omega arith
+        go (suc zero) q h = let x = s .met c m i in let (w, b, z) = inside (c .low) in let y = rank-strict (at ds) n (c .high) (c .low) w b z (omega arith) in omega arith
+        go (suc (suc g)) q h = absurd (omega arith)
+
 module _ (n : ℕ) (cs : List Constraint) where
-  -- the numbers given are at most those of every solution
-  pub least-under : (ks : List ℕ) → leastNumbers n cs ≡ accepted ks → (ds : List ℕ) → Solves n cs ds → (u : ℕ) → getD ks u 0 ≤ getD ds u 0
+  -- the numbers given are at most all numbers that meet the constraints on the first n
+  pub least-below : (ks : List ℕ) → leastNumbers n cs ≡ accepted ks → (d : ℕ → ℕ) → Meets n cs d → (u : ℕ) → getD ks u 0 ≤ d u
   unfolding leastNumbers
-  least-under ks e ds s = settle-accepted cs (λ l. Under l (at ds)) (λ l b. pass-under cs l (at ds) (s .met) b) (suc (n * n)) (replicate n 0) ks (zeros-under n (at ds)) e .0
+  least-below ks e d m =
+      settle-accepted cs (λ l. (length l ≡ n) × Under l d) (λ l h. (pass-length cs l ∙ h .0, pass-under n cs l d (h .0) m (h .1)))
+      (suc (n * n)) (replicate n 0) ks (length-replicate n 0, zeros-under n d) e .0 .1
+
+  -- and at most those of every solution
+  pub least-under : (ks : List ℕ) → leastNumbers n cs ≡ accepted ks → (ds : List ℕ) → Solves n cs ds → (u : ℕ) → getD ks u 0 ≤ getD ds u 0
+  least-under ks e ds s = least-below ks e (at ds) (λ c m _. s .met c m)
 
   pub least-length : (ks : List ℕ) → leastNumbers n cs ≡ accepted ks → length ks ≡ n
   unfolding leastNumbers
   least-length ks e = settle-accepted cs (λ l. length l ≡ n) (λ l h. pass-length cs l ∙ h) (suc (n * n)) (replicate n 0) ks (length-replicate n 0) e .0
 
-  -- if there is a solution at all, they are one
-  pub least-solves : (ks : List ℕ) → leastNumbers n cs ≡ accepted ks → (ds : List ℕ) → Solves n cs ds → Solves n cs ks
+  -- they meet every constraint on one of the first n
+  pub least-fits : (ks : List ℕ) → leastNumbers n cs ≡ accepted ks → Fits n cs ks
   unfolding leastNumbers
-  least-solves ks e ds s = record { for-all = least-length ks e; met = λ c m. go c m (ltb (c .high) (length ks)) refl }
+  least-fits ks e = record { for-all = least-length ks e; met = λ c m h. pass-still cs ks (λ u. let x : at (pass cs ks) u ≡ at ks u = ap (λ (l : List ℕ). at l u) still in omega arith) c m (let l = least-length ks e in omega arith) }
     where
       still : pass cs ks ≡ ks
       still = settle-accepted cs (λ _. Unit {0}) (λ _ _. tt) (suc (n * n)) (replicate n 0) ks tt e .1
 
-      go : (c : Constraint) → List·Memᴰ c cs → (t : Bool) → ltb (c .high) (length ks) ≡ t → at ks (c .low) + c .gap ≤ at ks (c .high)
-      go c m true q = pass-still cs ks (λ u. let x : at (pass cs ks) u ≡ at ks u = ap (λ (l : List ℕ). at l u) still in omega arith) c m (ltb-true _ _ q)
+  -- if there is a solution at all, they are one
+  pub least-solves : (ks : List ℕ) → leastNumbers n cs ≡ accepted ks → (ds : List ℕ) → Solves n cs ds → Solves n cs ks
+  least-solves ks e ds s = record { for-all = least-length ks e; met = λ c m. go c m (ltb (c .high) n) refl }
+    where
+      go : (c : Constraint) → List·Memᴰ c cs → (t : Bool) → ltb (c .high) n ≡ t → at ks (c .low) + c .gap ≤ at ks (c .high)
+      go c m true q = least-fits ks e .met c m (ltb-true (c .high) n q)
       go c m false q =
-          let l = least-length ks e in
           let k = s .for-all in
           let x = s .met c m in
           let y = least-under ks e ds s (c .low) in
-          let z = List·getD-eq-default ds 0 {n = c .high} (let h = ltb-false (c .high) (length ks) q in omega arith) in
+          let z = List·getD-eq-default ds 0 {n = c .high} (let h = ltb-false (c .high) n q in omega arith) in
           omega arith
 
   pub least-11 : (k place : ℕ) → leastNumbers n cs ≡ refused k place → (k ≡ 11) × (place ≡ 0)
   unfolding leastNumbers
   least-11 k place e = settle-11 cs (suc (n * n)) (replicate n 0) k place e
 
-  -- where it refuses there is no solution
-  pub least-none : ((c : Constraint) → List·Memᴰ c cs → c .gap ≤ 1) → (k place : ℕ) → leastNumbers n cs ≡ refused k place → (ds : List ℕ) → Solves n cs ds → ⊥
-  unfolding leastNumbers
-  least-none small k place e ds s =
-      let x = settle-refused cs n ranks ranks-meet (suc (n * n)) (replicate n 0) k place (length-replicate n 0) (zeros-under n ranks) e in
-      let y = sum-bound ranks n n low in
-      omega arith
-    where
-      ranks : ℕ → ℕ
-      ranks = rank (at ds) n
+  module _ (small : (c : Constraint) → List·Memᴰ c cs → c .gap ≤ 1) where
+    -- where it refuses, no numbers meet the constraints on the first n
+    pub least-nowhere : (k place : ℕ) → leastNumbers n cs ≡ refused k place → (ds : List ℕ) → Fits n cs ds → ⊥
+    unfolding leastNumbers
+    least-nowhere k place e ds s =
+        let r = fits-low n cs small ds s in
+        let x = settle-refused cs n (r .low) (r .low-meets) (suc (n * n)) (replicate n 0) k place (length-replicate n 0) (zeros-under n (r .low)) e in
+        let y = sum-bound (r .low) n n (r .low-most) in
+        omega arith
 
-      -- a number past the end is 0, as the one at n is
-      past : (u : ℕ) → n ≤ u → at ds u ≡ at ds n
-      past u h = let l = s .for-all in List·getD-eq-default ds 0 {n = u} (omega arith) ∙ sym (List·getD-eq-default ds 0 {n = n} (omega arith))
+    -- so there is no solution
+    pub least-none : (k place : ℕ) → leastNumbers n cs ≡ refused k place → (ds : List ℕ) → Solves n cs ds → ⊥
+    least-none k place e ds s = least-nowhere k place e ds (solves-fits s)
 
-      inside : (u : ℕ) → (w : ℕ) × (w < suc n) × (at ds w ≡ at ds u)
-      inside u = go (ltb u n) refl
-        where
-          go : (t : Bool) → ltb u n ≡ t → (w : ℕ) × (w < suc n) × (at ds w ≡ at ds u)
-          go true q = (u, (let h = ltb-true u n q in omega arith), refl)
-          go false q = (n, omega arith, sym (past u (ltb-false u n q)))
+    -- what meets the constraints on the first n and is at most all that does is what is given
+    pub least-is : (ks : List ℕ) → Fits n cs ks → ((ds : List ℕ) → Fits n cs ds → (u : ℕ) → getD ks u 0 ≤ getD ds u 0) → leastNumbers n cs ≡ accepted ks
+    least-is ks f least = go (leastNumbers n cs) refl
+      where
+        go : (o : Outcome (List ℕ)) → leastNumbers n cs ≡ o → o ≡ accepted ks
+        go (refused k place) e = absurd (least-nowhere k place e ks f)
+        go (accepted ds) e =
+            ap accepted (ext-getD 0 ds ks (least-length ds e ∙ sym (f .for-all)) (λ u _. let x = least ds (least-fits ds e) u in let y = least-below ds e (at ks) (f .met) u in omega arith))
 
-      low : (u : ℕ) → ranks u ≤ n
-      low u = let (w, h, q) = inside u in let x = rank-le (at ds) n w h in let y = rank-mono (at ds) n w u (omega arith) in omega arith
-
-      ranks-meet : Meets cs ranks
-      ranks-meet c m = go (c .gap) refl (small c m)
-        where
-          go : (g : ℕ) → c .gap ≡ g → g ≤ 1 → ranks (c .low) + g ≤ ranks (c .high)
-          go zero q h = let x = s .met c m in let y = rank-mono (at ds) n (c .high) (c .low) (omega arith) in omega arith
-          go (suc zero) q h = let x = s .met c m in let (w, b, z) = inside (c .low) in let y = rank-strict (at ds) n (c .high) (c .low) w b z (omega arith) in omega arith
-          go (suc (suc g)) q h = absurd (omega arith)
+    -- and where nothing does, it refuses
+    pub least-refuses : ((ds : List ℕ) → Fits n cs ds → ⊥) → leastNumbers n cs ≡ refused 11 0
+    least-refuses none = go (leastNumbers n cs) refl
+      where
+        go : (o : Outcome (List ℕ)) → leastNumbers n cs ≡ o → o ≡ refused 11 0
+        go (accepted ds) e = absurd (none ds (least-fits ds e))
+        go (refused k place) e = let (a, b) = least-11 k place e in λ i. refused (a i) (b i)

@@ -288,7 +288,7 @@ module _ (s : ℕ) (p : Plan) (ls : List ℕ) where
         record { w-least = omega arith; h-least = omega arith; x-least = λ u _. hx u; y-least = λ u _. hy u }
 
   -- every refusal is 11 at 0
-  chart-11 : (k at : ℕ) → leastPlacement s p ls ≡ refused k at → (k ≡ 11) × (at ≡ 0)
+  pub chart-11 : (k at : ℕ) → leastPlacement s p ls ≡ refused k at → (k ≡ 11) × (at ≡ 0)
   unfolding leastPlacement
   chart-11 k at e = in-x (bind-refused (leastNumbers (count p) xAll) _ k at e)
     where

@@ -1,0 +1,5 @@
+pub mod Arrays
+pub mod Relax
+pub mod Asks
+pub mod Draw
+pub mod Areas

@@ -1,0 +1,4 @@
+pub mod Constraints
+pub mod Relaxing
+pub mod Drawing
+pub mod Corners
