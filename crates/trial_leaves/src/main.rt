@@ -104,12 +104,44 @@ fn print_written<'a>(file: &'a [u8], sizes: &'a [u8], entries: &'a [u16], n: usi
     print(b" same ", same_bytes(file, &space, size));
 }
 
-// The place of the label rules.
+// A context's point.
+fn print_point<'a>(xs: &'a [u16], ys: &'a [u16], u: usize) {
+    print(b" ", lists::num(xs, u));
+    print(b",", lists::num(ys, u));
+}
+
+// The points of n contexts.
+fn print_points<'a>(xs: &'a [u16], ys: &'a [u16], n: usize) {
+    let mut u = 0;
+    while u < n {
+        print_point(xs, ys, u);
+        u += 1;
+    }
+}
+
+// The chart of the labels: its size and the point of each context.
+fn print_chart<'a>(sizes: &'a [u8], entries: &'a [u16], n: usize, labels: &'a [u8]) {
+    let drawn = placement::drawing::chart_of(sizes, entries, n, labels);
+    if !drawn.found {
+        io::write_all(1, b" chart none");
+        return;
+    }
+    let w = drawn.w;
+    let h = drawn.h;
+    print(b" chart ", lists::wide_word(w));
+    print(b"x", lists::wide_word(h));
+    let xs = drawn.xs;
+    let ys = drawn.ys;
+    print_points(&xs, &ys, n);
+}
+
+// The place of the label rules, and the chart where they are kept.
 fn print_labels<'a>(sizes: &'a [u8], entries: &'a [u16], n: usize, labels: &'a [u8]) {
-    print(
-        b" 10:",
-        labels::rules::rules_place(sizes, entries, n, labels),
-    );
+    let ten = labels::rules::rules_place(sizes, entries, n, labels);
+    print(b" 10:", ten);
+    if n <= ten {
+        print_chart(sizes, entries, n, labels);
+    }
 }
 
 // The rules 8 and 9, and on a plan that keeps them the scan, what is written, and the label rules where there are labels.
