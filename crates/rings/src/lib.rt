@@ -9,9 +9,6 @@ ghost use Rattle.lists.specs.Spans.{span};
 ghost use Rattle.model.specs.Plan.{neighbour, next, ring, adjacent};
 ghost use Rattle.rings.specs.Tables.{sizeOf, startsOf, rows};
 
-pub mod faces;
-pub mod scan;
-
 // The neighbour that a ring entry names.
 pub fn neighbour_of(entry: usize) -> usize
     ensures { λ r. ⌜ r ≡ neighbour entry ⌝ }

@@ -59,8 +59,8 @@ fn print_lent_rules<'a>(file: &'a [u8], starts: &'a [u16], sizes: &'a [u8], n: u
 
 // The places that rules 8 and 9 give; whether both are kept.
 fn print_flat_rules<'a>(starts: &'a [u16], sizes: &'a [u8], entries: &'a [u16], n: usize) -> bool {
-    let eight = rings::faces::rule8_place(starts, sizes, entries, n);
-    let nine = rings::faces::rule9_place(starts, sizes, entries, n);
+    let eight = faces::rule8_place(starts, sizes, entries, n);
+    let nine = faces::rule9_place(starts, sizes, entries, n);
     print(b" 8:", eight);
     print(b" 9:", nine);
     if eight < 4 {
@@ -70,12 +70,12 @@ fn print_flat_rules<'a>(starts: &'a [u16], sizes: &'a [u8], entries: &'a [u16], 
 }
 
 fn print_scan<'a>(starts: &'a [u16], sizes: &'a [u8], entries: &'a [u16], n: usize) {
-    let scanned = rings::scan::scan(starts, sizes, entries, n);
+    let scanned = scan::scan(starts, sizes, entries, n);
     match scanned {
-        rings::scan::Scanned::Nothing => {
+        scan::Scanned::Nothing => {
             io::write_all(1, b" triangle none");
         }
-        rings::scan::Scanned::Triple(a, b, c) => {
+        scan::Scanned::Triple(a, b, c) => {
             print(b" triangle ", a);
             print(b",", b);
             print(b",", c);

@@ -1,0 +1,2 @@
+pub mod FaceTests
+pub mod Flags

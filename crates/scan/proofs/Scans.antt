@@ -1,0 +1,204 @@
+-- Scan as a search context by context: first a, then b, then c; and the tests that the code makes of one triple.
+use Prim.Native.Nat.{ℕ, zero, suc, _+_, _-_, _≤_, _<_}
+use mathlib.Core.Path.{_≡_, refl, sym, ap, _∙_, subst}
+use mathlib.Core.List.{List, [], _∷_, _++_, map}
+use mathlib.Core.Bool.{Bool, true, false, cond, not, _&&_, _||_, and-true}
+use mathlib.Core.Option.{Option, none, some}
+use native.Mathlib.Omega.{arith}
+use lib.Dec.{eqb, ltb}
+use borrow.Author.Tests.{ltb-true, lt-ltb, le-ltb, eq-eqb, ne-eqb}
+use Rattle.lists.specs.Ranges.{from, firstFrom, lowest}
+use Rattle.lists.specs.Parts.{concat}
+use Rattle.lists.proofs.Ranges.{FirstOf, first-found, none-first}
+use Rattle.model.specs.Plan.{Plan, count, adjacent, step, outer, closes, walk, onInnerFace}
+use Rattle.model.specs.Scan.{Triple, after, triples, innerFace, enclosing, firstEnclosing, scan}
+use Rattle.faces.proofs.Flags.{flag-yes, flag-no, not-flag-yes, not-flag-no}
+use Rattle.scan.specs.Scanned.{thirdFor, secondFor, firstFor}
+
+abbrev triple : ℕ → ℕ → ℕ → Triple
+triple a b c = (a, b, c)
+
+-- ---- the walk a, b, c is an inner face: the tests that decide it
+module _ (p : Plan) (a b c : ℕ) where
+  abbrev third : ℕ
+  third = step p (a, b) .1
+
+  face-is : innerFace p a b c ≡ (adjacent p a b && (not (outer (a, b)) && closes p (a, b)) && eqb third c)
+  unfolding innerFace onInnerFace walk
+  face-is = rw (eq-eqb a a refl, eq-eqb b b refl, and-true (eqb third c))
+
+  face-elsewhere : (j o t s : Bool) → s ≡ false → false ≡ (j && (not o && t) && s)
+  face-elsewhere true true t s e = refl
+  face-elsewhere true false true s e = sym e
+  face-elsewhere true false false s e = refl
+  face-elsewhere false o t s e = refl
+
+  face-outside : (j o t s : Bool) → o ≡ true → false ≡ (j && (not o && t) && s)
+  face-outside true o t s e = rw e
+  face-outside false o t s e = refl
+
+  pub inner-third : {w : ℕ} → w ≡ third → (w ≡ c → ⊥) → false ≡ innerFace p a b c
+  inner-third e h = face-elsewhere (adjacent p a b) (outer (a, b)) (closes p (a, b)) (eqb third c) (ne-eqb third c (λ q. h (e ∙ q))) ∙ sym face-is
+
+  pub inner-outer : {o : Bool} → o ≡ outer (a, b) → o ≡ true → false ≡ innerFace p a b c
+  inner-outer e t = face-outside (adjacent p a b) (outer (a, b)) (closes p (a, b)) (eqb third c) (flag-yes e t) ∙ sym face-is
+
+  pub inner-apart : {j : Bool} → j ≡ adjacent p a b → not j ≡ true → false ≡ innerFace p a b c
+  inner-apart e t = sym (face-is ∙ rw (not-flag-yes e t))
+
+  pub inner-closes : {w : ℕ} {o j t : Bool} → w ≡ third → w ≡ c → o ≡ outer (a, b) → o ≡ false → j ≡ adjacent p a b → not j ≡ false → t ≡ closes p (a, b) → t ≡ innerFace p a b c
+  inner-closes third-is same outer-is inside near apart back = back ∙ sym (face-is ∙ rw (not-flag-no near apart, flag-no outer-is inside, eq-eqb third c (sym third-is ∙ same)) (and-true (closes p (a, b))))
+
+-- ---- a, b, c enclose: the tests in the order in which the code makes them
+abbrev Encloses : Bool → Bool → Bool → Bool → Bool → Bool
+Encloses ab ac bc f g = ab && ac && bc && not (f || g)
+
+no-ac : (ab ac bc f g : Bool) → ac ≡ false → false ≡ Encloses ab ac bc f g
+no-ac true ac bc f g e = rw e
+no-ac false ac bc f g e = refl
+
+no-bc : (ab ac bc f g : Bool) → bc ≡ false → false ≡ Encloses ab ac bc f g
+no-bc true true bc f g e = rw e
+no-bc true false bc f g e = refl
+no-bc false ac bc f g e = refl
+
+module _ (p : Plan) (a b c : ℕ) where
+  pub apart-ac : {t : Bool} → t ≡ adjacent p a c → not t ≡ true → false ≡ enclosing p (a, b, c)
+  unfolding enclosing
+  apart-ac e h = no-ac (adjacent p a b) (adjacent p a c) (adjacent p b c) (innerFace p a b c) (innerFace p a c b) (not-flag-yes e h)
+
+  pub apart-bc : {t : Bool} → t ≡ adjacent p b c → not t ≡ true → false ≡ enclosing p (a, b, c)
+  unfolding enclosing
+  apart-bc e h = no-bc (adjacent p a b) (adjacent p a c) (adjacent p b c) (innerFace p a b c) (innerFace p a c b) (not-flag-yes e h)
+
+  pub apart-ab : {t : Bool} → t ≡ adjacent p a b → not t ≡ true → false ≡ enclosing p (a, b, c)
+  unfolding enclosing
+  apart-ab e h = rw (not-flag-yes e h)
+
+  -- three mutual neighbours: x, y, z are the results of the three tests
+  module _ {x y z : Bool} (ac : x ≡ adjacent p a c) (ac-yes : not x ≡ false) (bc : y ≡ adjacent p b c) (bc-yes : not y ≡ false) (ab : z ≡ adjacent p a b) (ab-yes : not z ≡ false) where
+    pub face-abc : {t : Bool} → t ≡ innerFace p a b c → t ≡ true → false ≡ enclosing p (a, b, c)
+    unfolding enclosing
+    face-abc e h = rw (not-flag-no ab ab-yes, not-flag-no ac ac-yes, not-flag-no bc bc-yes, flag-yes e h)
+
+    pub face-acb : {s t : Bool} → s ≡ innerFace p a b c → s ≡ false → t ≡ innerFace p a c b → not t ≡ enclosing p (a, b, c)
+    unfolding enclosing
+    face-acb e h f = rw (not-flag-no ab ab-yes, not-flag-no ac ac-yes, not-flag-no bc bc-yes, flag-no e h) (ap not f)
+
+-- ---- let mut u = s; while u < n { if test(u) { return u; } u += 1; } u
+pub record Seeks (f : ℕ → Bool) (s n u : ℕ) : Type 0 where
+  pub same : firstFrom f s (n - s) ≡ firstFrom f u (n - u)
+
+pub seeks-start : {f : ℕ → Bool} {s n u : ℕ} → u ≡ s → Seeks f s n u
+seeks-start {f} {s} {n} {u} q = record { same = ap (λ (j : ℕ). firstFrom f j (n - j)) (sym q) }
+
+module _ {f : ℕ → Bool} {s n u : ℕ} (inv : Seeks f s n u) where
+  one-more : u < n → firstFrom f s (n - s) ≡ cond (f u) u (firstFrom f (suc u) (n - suc u))
+  unfolding firstFrom
+  one-more h = let k : n - u ≡ suc (n - suc u) = omega arith in inv .same ∙ ap (firstFrom f u) k
+
+  pub seeks-hit : u < n → f u ≡ true → u ≡ firstFrom f s (n - s)
+  seeks-hit h t = sym (one-more h ∙ rw t)
+
+  pub seeks-on : {u′ : ℕ} → u′ ≡ suc u → u < n → f u ≡ false → Seeks f s n u′
+  seeks-on q h t = record { same = rw q (one-more h ∙ rw t) }
+
+  pub seeks-end : n ≤ u → u ≡ firstFrom f s (n - s)
+  unfolding firstFrom
+  seeks-end h = let z : n - u ≡ 0 = omega arith in sym (inv .same ∙ ap (firstFrom f u) z)
+
+-- no c encloses with a and b that are no neighbours
+pub third-apart : (p : Plan) (n a b : ℕ) {t : Bool} → b < n → t ≡ adjacent p a b → not t ≡ true → n ≡ thirdFor p n a b
+unfolding thirdFor
+third-apart p n a b h near apart =
+    let whole : suc b + (n - suc b) ≡ n = omega arith in
+    sym (none-first (λ (c : ℕ). enclosing p (a, b, c)) (suc b) (n - suc b) (λ c l m. sym (apart-ab p a b c near apart)) ∙ whole)
+
+-- ---- the first triple of rows of triples is the first triple of the first row that has one
+module _ (p : Plan) where
+  abbrev found : Bool → Triple → Option Triple
+  found t x = cond t (some x) none
+
+  abbrev orElse : Option Triple → Option Triple → Option Triple
+  orElse none o = o
+  orElse (some x) o = some x
+
+  first-append : (l m : List Triple) → firstEnclosing p (l ++ m) ≡ orElse (firstEnclosing p l) (firstEnclosing p m)
+  unfolding firstEnclosing
+  first-append [] m = refl
+  first-append (x ∷ l) m = go (enclosing p x) (first-append l m)
+    where
+      go : (t : Bool) → firstEnclosing p (l ++ m) ≡ orElse (firstEnclosing p l) (firstEnclosing p m)
+          → cond t (some x) (firstEnclosing p (l ++ m)) ≡ orElse (cond t (some x) (firstEnclosing p l)) (firstEnclosing p m)
+      go true r = refl
+      go false r = r
+
+  module _ (row : ℕ → List Triple) (t : ℕ → Bool) (h : ℕ → Triple) where
+    first-row : (s k : ℕ) → ((b : ℕ) → s ≤ b → b < s + k → firstEnclosing p (row b) ≡ found (t b) (h b))
+        → firstEnclosing p (concat (map row (from s k))) ≡ found (ltb (firstFrom t s k) (s + k)) (h (firstFrom t s k))
+    unfolding firstEnclosing firstFrom
+    first-row s zero e = sym (rw (le-ltb s (s + 0) (omega arith)))
+    first-row s (suc k) e =
+        first-append (row s) (concat (map row (from (suc s) k)))
+        ∙ (λ i. orElse (e s (omega arith) (omega arith) i) (first-row (suc s) k (λ b l m. e b (omega arith) (omega arith)) i)) ∙ go (t s)
+      where
+        go : (v : Bool) → orElse (found v (h s)) (found (ltb (firstFrom t (suc s) k) (suc s + k)) (h (firstFrom t (suc s) k)))
+            ≡ found (ltb (cond v s (firstFrom t (suc s) k)) (s + suc k)) (h (cond v s (firstFrom t (suc s) k)))
+        go true = sym (rw (lt-ltb s (s + suc k) (omega arith)))
+        go false = ap (λ (j : ℕ). found (ltb (firstFrom t (suc s) k) j) (h (firstFrom t (suc s) k))) (omega arith)
+
+  singles : (f : ℕ → Triple) (l : List ℕ) → map f l ≡ concat (map (λ (c : ℕ). f c ∷ []) l)
+  singles f [] = refl
+  singles f (c ∷ l) = ap (λ (m : List Triple). f c ∷ m) (singles f l)
+
+  abbrev rowOf : ℕ → ℕ → List Triple
+  rowOf a b = map (λ (c : ℕ). (a, b, c)) (after p b)
+
+  abbrev thirdOf : ℕ → ℕ → Triple
+  thirdOf a b = (a, b, thirdFor p (count p) a b)
+
+  abbrev secondOf : ℕ → Triple
+  secondOf a = thirdOf a (secondFor p (count p) a)
+
+  by-third : (a b : ℕ) → b < count p → firstEnclosing p (rowOf a b) ≡ found (ltb (thirdFor p (count p) a b) (count p)) (thirdOf a b)
+  unfolding thirdFor after firstEnclosing
+  by-third a b h =
+      let whole : suc b + (count p - suc b) ≡ count p = omega arith in
+      ap (firstEnclosing p) (singles (triple a b) (from (suc b) (count p - suc b)))
+      ∙ first-row (λ (c : ℕ). triple a b c ∷ []) (λ (c : ℕ). enclosing p (a, b, c)) (triple a b) (suc b) (count p - suc b) (λ c l m. refl)
+      ∙ ap (λ (j : ℕ). found (ltb (thirdFor p (count p) a b) j) (thirdOf a b)) whole
+
+  by-second : (a : ℕ) → a < count p → firstEnclosing p (concat (map (rowOf a) (after p a))) ≡ found (ltb (secondFor p (count p) a) (count p)) (secondOf a)
+  unfolding secondFor after
+  by-second a h =
+      let whole : suc a + (count p - suc a) ≡ count p = omega arith in
+      first-row (rowOf a) (λ (b : ℕ). ltb (thirdFor p (count p) a b) (count p)) (thirdOf a) (suc a) (count p - suc a) (λ b l m. by-third a b (omega arith))
+      ∙ ap (λ (j : ℕ). found (ltb (secondFor p (count p) a) j) (secondOf a)) whole
+
+  by-first : scan p ≡ found (ltb (firstFor p (count p)) (count p)) (secondOf (firstFor p (count p)))
+  unfolding scan triples firstFor
+  by-first =
+      let whole : 0 + count p ≡ count p = omega arith in
+      first-row (λ (a : ℕ). concat (map (rowOf a) (after p a))) (λ (a : ℕ). ltb (secondFor p (count p) a) (count p)) secondOf 0 (count p) (λ a l m. by-second a (omega arith))
+      ∙ ap (λ (j : ℕ). found (ltb (firstFor p (count p)) j) (secondOf (firstFor p (count p)))) whole
+
+  -- ---- what the code finds, in a plan of n contexts
+  module _ (n a : ℕ) (size : count p ≡ n) (first : a ≡ firstFor p n) where
+    pub scan-none : n ≤ a → none ≡ scan p
+    scan-none h = sym (by-first ∙ rw (le-ltb (firstFor p (count p)) (count p) (let q = ap (firstFor p) size in omega arith)))
+
+    -- the second context lies below n
+    pub second-below : a < n → secondFor p n a < n
+    unfolding firstFor
+    second-below h =
+        let f : ℕ → Bool = λ (k : ℕ). ltb (secondFor p n k) n in
+        let hit = first-found f 0 n (omega arith) in
+        ltb-true (secondFor p n a) n (ap f first ∙ hit .passes)
+
+    pub scan-some : (b c : ℕ) → b ≡ secondFor p n a → c ≡ thirdFor p n a b → a < n → some (triple a b c) ≡ scan p
+    scan-some b c second third h =
+        let q = ap (firstFor p) size in
+        let e₀ : firstFor p (count p) ≡ a = q ∙ sym first in
+        let e₁ : secondFor p (count p) (firstFor p (count p)) ≡ b = (λ i. secondFor p (size i) (e₀ i)) ∙ sym second in
+        let e₂ : thirdFor p (count p) (firstFor p (count p)) (secondFor p (count p) (firstFor p (count p))) ≡ c = (λ i. thirdFor p (size i) (e₀ i) (e₁ i)) ∙ sym third in
+        sym (by-first ∙ rw (lt-ltb (firstFor p (count p)) (count p) (omega arith)) (λ i. some (triple (e₀ i) (e₁ i) (e₂ i))))

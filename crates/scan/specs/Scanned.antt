@@ -1,0 +1,28 @@
+-- What a scan says in 01's words, and the search for the smallest triple context by context.
+use Prim.Native.Nat.{ℕ, suc, _-_}
+use mathlib.Core.Bool.{Bool}
+use mathlib.Core.Option.{Option, none, some}
+use lib.Dec.{ltb}
+use Rattle.lists.specs.Ranges.{firstFrom, lowest}
+use Rattle.model.specs.Plan.{Plan}
+use Rattle.model.specs.Scan.{enclosing}
+use Rattle.model.specs.Scan as model
+use Rattle.scan.specs.declared.Scanned.{Scanned}
+use Rattle.scan.specs.declared.Scanned.the-variants.{Triple, Nothing}
+
+-- 01's value of each answer: the triple, or none
+unfoldable pub scannedAs : Scanned → Option model.Triple
+scannedAs (Triple a b c) = some (a, b, c)
+scannedAs Nothing = none
+
+-- the lowest c above b, below n, for which a, b, c enclose; n if there is none
+unfoldable pub thirdFor : Plan → ℕ → ℕ → ℕ → ℕ
+thirdFor p n a b = firstFrom (λ (c : ℕ). enclosing p (a, b, c)) (suc b) (n - suc b)
+
+-- the lowest b above a, below n, for which a, b and some c enclose; n if there is none
+unfoldable pub secondFor : Plan → ℕ → ℕ → ℕ
+secondFor p n a = firstFrom (λ (b : ℕ). ltb (thirdFor p n a b) n) (suc a) (n - suc a)
+
+-- the lowest a below n that encloses with some b and c; n if there is none
+unfoldable pub firstFor : Plan → ℕ → ℕ
+firstFor p n = lowest (λ (a : ℕ). ltb (secondFor p n a) n) n
