@@ -1,4 +1,4 @@
-// Labels of darts in a flat array: the label of a dart, the label rules, and changes of labels, each equal to a definition of the model.
+// Labels of darts in a flat array: the label of a dart, four runs and the label rules, each equal to a definition of the model.
 ghost use mathlib.Core.Path.{_≡_};
 ghost use Prim.Native.Nat.{min, _≤_, _<_, _^_};
 ghost use lib.ListN.{getD};
@@ -6,16 +6,8 @@ ghost use Rattle.model.specs.Labels.{unlabelled, labelOf, due};
 ghost use Rattle.rings.specs.Tables.{startsOf, table};
 ghost use Rattle.labels.specs.Held.{held};
 
-pub mod change;
 pub mod rules;
 pub mod runs;
-
-// The lesser of two numbers.
-fn lesser(a: usize, b: usize) -> usize
-    ensures { λ r. ⌜ r ≡ min a b ⌝ }
-{
-    if a < b { a } else { b }
-}
 
 // The label at i; past the last there is none, which is 5.
 pub fn label_at(labels: &[u8], i: usize) -> usize
@@ -77,5 +69,5 @@ pub fn label_of<'a>(
     ensures { λ r. ⌜ r < 2 ^ 8 ⌝ }
 {
     let starts = rings::starts_of(sizes);
-    label_in(&starts, sizes, entries, lesser(n, 200), labels, u, v)
+    label_in(&starts, sizes, entries, lists::lesser(n, 200), labels, u, v)
 }

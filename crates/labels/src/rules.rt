@@ -180,5 +180,5 @@ pub fn rules_place<'a>(sizes: &'a [u8], entries: &'a [u16], n: usize, labels: &'
     ensures { λ r. ⌜ r ≤ min n 200 ⌝ }
 {
     let starts = rings::starts_of(sizes);
-    place_in(&starts, sizes, entries, crate::lesser(n, 200), labels)
+    place_in(&starts, sizes, entries, lists::lesser(n, 200), labels)
 }

@@ -1,6 +1,6 @@
 // Lists: total accessors of lent arrays, where what lies outside reads as 0. The words and laws of lists that every other crate uses are in specs/ and proofs/.
 ghost use mathlib.Core.Path.{_≡_};
-ghost use Prim.Native.Nat.{_+_, _*_, _<_, _^_};
+ghost use Prim.Native.Nat.{_+_, _*_, _<_, _^_, min};
 ghost use lib.ListN.{getD};
 
 // A byte as a number.
@@ -45,4 +45,11 @@ pub fn word_at(a: &[u8], i: usize) -> usize
     } else {
         0
     }
+}
+
+// The lesser of two numbers.
+pub fn lesser(a: usize, b: usize) -> usize
+    ensures { λ r. ⌜ r ≡ min a b ⌝ }
+{
+    if a < b { a } else { b }
 }

@@ -18,12 +18,12 @@ use Rattle.model.proofs.Least.{least-length}
 use Rattle.model.proofs.Placements.{Placed, placed, chart-is, chart-11}
 use Rattle.rings.specs.Tables.{startOf, startsOf, rows, table}
 use Rattle.rings.proofs.Rows.{start-first, start-more, count-rows}
-use Rattle.placement.specs.declared.drawing.Drawn.{Drawn}
-use Rattle.placement.specs.declared.solver.Numbers.{Numbers}
-use Rattle.placement.specs.Constraints.{listedFrom, listed, constraintAt, solved, numbersOf, ties, compass, asked}
+use Rattle.placement.specs.declared.Drawn.{Drawn}
+use Rattle.solver.specs.declared.Numbers.{Numbers}
+use Rattle.solver.specs.Constraints.{listedFrom, listed, constraintAt, solved, numbersOf, ties, compass, asked}
 use Rattle.placement.specs.Drawing.{chartOn, inBounds, chartFor, drawnAs, drawnOf, drawnIf, standsAt, squared}
-use Rattle.placement.proofs.Arrays.{getD-padded, stretch-padded}
-use Rattle.placement.proofs.Asks.{starts-at, entries-total}
+use Rattle.solver.proofs.Arrays.{getD-padded, stretch-padded}
+use Rattle.placement.proofs.Asking.{starts-at, entries-total}
 
 -- ---- the bounds of a table
 pub bounds-large : (sizes : List ℕ) (n : ℕ) → 200 < n → false ≡ inBounds sizes n

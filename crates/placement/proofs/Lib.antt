@@ -1,5 +1,2 @@
-pub mod Arrays
-pub mod Relax
-pub mod Asks
+pub mod Asking
 pub mod Draw
-pub mod Areas

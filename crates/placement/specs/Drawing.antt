@@ -9,7 +9,7 @@ use Rattle.model.specs.Outcome.{Outcome, accepted, refused}
 use Rattle.model.specs.Plan.{north, east, south, west}
 use Rattle.model.specs.Chart.{Chart, leastPlacement, slope}
 use Rattle.rings.specs.Tables.{startOf, table}
-use Rattle.placement.specs.declared.drawing.Drawn.{Drawn}
+use Rattle.placement.specs.declared.Drawn.{Drawn}
 
 -- the chart of n contexts that numbers and arrays hold; what lies outside an array reads as 0
 unfoldable pub chartOn : ℕ → ℕ → ℕ → List ℕ → List ℕ → Chart

@@ -1,4 +1,1 @@
-pub mod Constraints
-pub mod Relaxing
 pub mod Drawing
-pub mod Corners

@@ -121,7 +121,7 @@ fn print_points<'a>(xs: &'a [u16], ys: &'a [u16], n: usize) {
 
 // The chart of the labels: its size and the point of each context.
 fn print_chart<'a>(sizes: &'a [u8], entries: &'a [u16], n: usize, labels: &'a [u8]) {
-    let drawn = placement::drawing::chart_of(sizes, entries, n, labels);
+    let drawn = placement::chart_of(sizes, entries, n, labels);
     if !drawn.found {
         io::write_all(1, b" chart none");
         return;
