@@ -1,3 +1,4 @@
+-- area_of meets its contract.
 use Rattle.areas.proofs.Areas.{corner-within, within-read, area-three}
 use lib.IntN.{ℤ}
 use mir.Syntax.{w64}

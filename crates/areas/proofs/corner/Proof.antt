@@ -1,3 +1,4 @@
+-- corner meets its contract.
 use Rattle.areas.proofs.Areas.{times-fits, corner-fits, corner-read, sign-positive, sign-zero, sign-negative}
 use Rattle.model.specs.Geometry.{positive, isZero}
 use Rattle.areas.specs.Corners.{negative}

@@ -1,3 +1,4 @@
+-- difference meets its contract.
 use Rattle.areas.proofs.Areas.{minus-fits, minus-read}
 use native.Mathlib.Omega.{arith}
 use borrow.Author.Needs.{needs}

@@ -1,3 +1,4 @@
+-- word meets its contract.
 use Rattle.lists.proofs.Spans.{past}
 use mathlib.Core.Path.{refl}
 use native.Mathlib.Omega.{arith}

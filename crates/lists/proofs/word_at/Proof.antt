@@ -1,3 +1,4 @@
+-- word_at meets its contract.
 use Rattle.lists.proofs.Spans.{past-word}
 use native.Mathlib.Omega.{arith}
 use borrow.Author.Needs.{needs}

@@ -1,3 +1,4 @@
+-- asks_of meets its contract.
 use Rattle.placement.proofs.Asking.{Asking, asking-start, asking-room, asking-dart, asking-next, asking-end, dart-at, neighbour-le}
 use Rattle.rings.specs.Tables.{sizeOf}
 use Rattle.lists.specs.Spans.{zeros}

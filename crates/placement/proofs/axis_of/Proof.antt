@@ -1,3 +1,4 @@
+-- axis_of meets its contract.
 use Rattle.placement.proofs.Draw.{axis-numbers, after-ties}
 use Rattle.solver.specs.declared.Numbers.{Numbers}
 use Rattle.lists.specs.Tests.{all}

@@ -1,3 +1,4 @@
+-- chart_from meets its contract.
 use Rattle.placement.proofs.Draw.{bounds-say, chart-out, chart-no-x, chart-no-y, chart-not-x, chart-not-y, chart-drawn}
 use borrow.Author.Tests.{not-true, not-false}
 use mathlib.Core.Path.{sym, _∙_}

@@ -1,3 +1,4 @@
+-- chart_of meets its contract.
 use Rattle.placement.proofs.Draw.{drawn-says}
 use Rattle.placement.specs.declared.Drawn.{Drawn}
 use Rattle.placement.specs.Drawing.{drawnAs}

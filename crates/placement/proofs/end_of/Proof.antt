@@ -1,3 +1,4 @@
+-- end_of meets its contract.
 use Rattle.solver.specs.Constraints.{endOf}
 use borrow.Author.Tests.{eq-eqb, ne-eqb}
 use native.Mathlib.Omega.{arith}

@@ -1,3 +1,4 @@
+-- gap_of meets its contract.
 use Rattle.solver.specs.Constraints.{gapOf}
 use Rattle.model.specs.Chart.{slope}
 use borrow.Author.Tests.{eq-eqb, ne-eqb}

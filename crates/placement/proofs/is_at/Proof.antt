@@ -1,3 +1,4 @@
+-- is_at meets its contract.
 use Rattle.placement.proofs.Draw.{stands-yes, stands-no}
 use Rattle.placement.specs.Drawing.{standsAt}
 use native.Mathlib.Omega.{arith}

@@ -1,3 +1,4 @@
+-- is_in_bounds meets its contract.
 use Rattle.placement.proofs.Draw.{bounds-large, bounds-none, bounds-last}
 use mathlib.Core.List.{List}
 use lib.ListN.{getD}

@@ -1,3 +1,4 @@
+-- is_squared meets its contract.
 use Rattle.placement.proofs.Draw.{squared-south, squared-west, squared-east}
 use borrow.Author.Tests.{not-true, not-false}
 use Rattle.placement.specs.Drawing.{squared}

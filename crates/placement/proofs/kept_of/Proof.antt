@@ -1,3 +1,4 @@
+-- kept_of meets its contract.
 use Rattle.solver.specs.Constraints.{keptOf}
 use borrow.Author.Tests.{lt-ltb, le-ltb}
 use native.Mathlib.Omega.{arith}

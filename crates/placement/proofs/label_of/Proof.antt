@@ -1,3 +1,4 @@
+-- label_of meets its contract.
 use Rattle.placement.proofs.Asking.{label-read, label-past}
 use Rattle.solver.proofs.Arrays.{getD-inside}
 use lib.ListN.{List·getD-eq-default}

@@ -1,3 +1,4 @@
+-- same_chart meets its contract.
 use Rattle.placement.proofs.Draw.{charts-w, charts-h, charts-x, charts-y}
 use borrow.Author.Tests.{not-true, not-false}
 use native.Mathlib.Omega.{arith}

@@ -1,3 +1,4 @@
+-- same_numbers meets its contract.
 use Rattle.placement.proofs.Draw.{Matches, matches-start, matches-hit, matches-on, matches-end}
 use Prim.Native.Nat.{_-_}
 use native.Mathlib.Omega.{arith}

@@ -1,3 +1,4 @@
+-- squared_off meets its contract.
 use Rattle.placement.proofs.Draw.{drawn-no, drawn-yes}
 use borrow.Author.Tests.{not-true, not-false}
 use mathlib.Core.Path.{refl, _∙_}

@@ -1,3 +1,4 @@
+-- tied_to meets its contract.
 use Rattle.solver.specs.Constraints.{tiedTo}
 use native.Mathlib.Omega.{arith}
 use borrow.Author.Needs.{needs}

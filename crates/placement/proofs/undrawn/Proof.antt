@@ -1,3 +1,4 @@
+-- undrawn meets its contract.
 use Rattle.placement.specs.Drawing.{drawnOf}
 use Rattle.lists.specs.Spans.{zeros}
 use mathlib.Core.Path.{refl}

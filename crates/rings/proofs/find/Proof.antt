@@ -1,3 +1,4 @@
+-- find meets its contract.
 use mathlib.Core.Path.{_≡_, refl, sym, ap, _∙_}
 use Prim.Native.Nat.{_-_}
 use Rattle.lists.proofs.Loops.{Finds, finds-start, finds-hit, finds-on, finds-end}

@@ -1,3 +1,4 @@
+-- index_of meets its contract.
 use mathlib.Core.Path.{_≡_, sym, ap, _∙_}
 use mathlib.Core.List.{map}
 use Prim.Native.Nat.{ℕ, _+_}

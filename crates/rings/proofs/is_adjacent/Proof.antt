@@ -1,3 +1,4 @@
+-- is_adjacent meets its contract.
 use mathlib.Core.Path.{sym, _∙_}
 use lib.Dec.{ltb}
 use Rattle.model.specs.Plan.{ring, adjacent}

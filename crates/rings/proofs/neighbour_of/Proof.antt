@@ -1,3 +1,4 @@
+-- neighbour_of meets its contract.
 use Rattle.model.specs.Plan.{neighbour}
 use native.Mathlib.Omega.{arith}
 use borrow.Author.Needs.{needs}

@@ -1,3 +1,4 @@
+-- next_of meets its contract.
 use mathlib.Core.Path.{sym, _∙_}
 use Rattle.model.specs.Plan.{ring}
 use Rattle.rings.specs.Tables.{rows}

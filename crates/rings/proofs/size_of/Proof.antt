@@ -1,3 +1,4 @@
+-- size_of meets its contract.
 use mathlib.Core.Path.{sym, _∙_}
 use Rattle.rings.proofs.Rows.{size-inside, size-outside}
 use native.Mathlib.Omega.{arith}

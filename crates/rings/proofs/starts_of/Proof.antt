@@ -1,3 +1,4 @@
+-- starts_of meets its contract.
 use mathlib.Core.Path.{_≡_, refl, sym, ap, _∙_}
 use Prim.Native.Nat.{ℕ, suc, _+_, _-_, _*_, _≤_}
 use Rattle.lists.proofs.Loops.{Fills, fills-start, fills-on, fills-end, fills-length}

@@ -1,3 +1,4 @@
+-- all_met meets its contract.
 use Rattle.solver.proofs.Relax.{Checks, checks-start, checks-hit, checks-on, checks-end}
 use Prim.Native.Nat.{ℕ, _-_}
 use mathlib.Core.Path.{ap, _∙_}

@@ -1,3 +1,4 @@
+-- due_at meets its contract.
 use Rattle.solver.proofs.Arrays.{due-level, due-up}
 use Rattle.solver.specs.Constraints.{rise}
 use lib.ListN.{getD}

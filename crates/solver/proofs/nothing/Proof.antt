@@ -1,3 +1,4 @@
+-- nothing meets its contract.
 use Rattle.solver.specs.Constraints.{numbersOf}
 use Rattle.lists.specs.Spans.{zeros}
 use mathlib.Core.Path.{refl}

@@ -1,3 +1,4 @@
+-- pass meets its contract.
 use mathlib.Core.Path.{refl, sym}
 use Rattle.solver.proofs.Relax.{passing-start, passing-on, passing-off, passing-met, passing-up, passing-over, passing-end}
 use Rattle.solver.specs.Relaxing.{Passing}

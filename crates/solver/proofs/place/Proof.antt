@@ -1,3 +1,4 @@
+-- place meets its contract.
 use Rattle.solver.specs.Relaxing.{placeOf}
 use native.Mathlib.Omega.{arith}
 use borrow.Author.Needs.{needs}

@@ -1,3 +1,4 @@
+-- solve meets its contract.
 use Rattle.solver.proofs.Relax.{raised-start, fewer, solved-large, solved-none, solved-found}
 use Rattle.solver.specs.Relaxing.{Raised}
 use Rattle.solver.specs.Constraints.{listed}
