@@ -15,7 +15,7 @@ ghost use Rattle.placement.specs.Drawing.{chartOn, inBounds, chartFor, d
 const SLOPE: u8 = 0;
 
 // Constraints in flat arrays, as many as count says.
-pub struct Asks {
+struct Asks {
     pub count: usize,
     pub lows: [u16; 1188],
     pub highs: [u16; 1188],
@@ -23,7 +23,7 @@ pub struct Asks {
 }
 
 // The least numbers of one coordinate, and whether they meet all its constraints.
-pub struct Axis {
+struct Axis {
     pub found: bool,
     pub kept: bool,
     pub at: [u16; 200],

@@ -15,7 +15,7 @@ pub struct Numbers {
 }
 
 // What a pass leaves: whether a number would pass n, whether one rose, and the numbers.
-pub struct Round {
+struct Round {
     pub over: bool,
     pub rose: bool,
     pub at: [u16; 200],
