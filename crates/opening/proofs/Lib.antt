@@ -1,0 +1,4 @@
+pub mod Judging
+pub mod Copies
+pub mod Opened
+pub mod RingParts

@@ -1,0 +1,391 @@
+-- A file that was framed, judged in parts and copied is opened as the model opens it.
+use Prim.Native.Nat.{ℕ, zero, suc, _+_, _-_, _*_, _≤_, _<_}
+use mathlib.Core.Path.{_≡_, refl, sym, ap, _∙_, subst}
+use mathlib.Core.List.{List, [], _∷_, _++_, map}
+use mathlib.Core.Bool.{Bool, true, false, cond, not, _&&_}
+use native.Mathlib.Omega.{arith}
+use lib.ListN.{length, getD, drop, replicate, length-append}
+use lib.Dec.{eqb, leb}
+use borrow.Author.Tests.{eqb-true, le-leb}
+use Rattle.lists.specs.Ranges.{from}
+use Rattle.lists.specs.Parts.{concat, pairs}
+use Rattle.lists.specs.Spans.{stretch, zeros, padded}
+use Rattle.lists.proofs.Spans.{length-zeros}
+use Rattle.lists.proofs.Loops.{padded-none}
+use Rattle.model.specs.Outcome.{Outcome, accepted, refused, passed, require, rule, _>>=_, _>>_}
+use Rattle.model.specs.Plan.{Plan, count, badEntry, badRepeat, unreturned, entryCount, dartCount, badBorder, badFace, planRules}
+use Rattle.model.specs.Labels.{labelRules}
+use Rattle.model.specs.Chart.{Chart, chart, leastPlacement, slope, sameChart}
+use Rattle.model.specs.File as file
+use Rattle.model.specs.File.{decode, chartIn}
+use Rattle.model.specs.Calls.{judge, openCall}
+use Rattle.model.proofs.Outcomes.{not-both, same-refusal, then-accepted, require-passed}
+use Rattle.model.proofs.FileWrite.{PlanFits, ChartFits, Fits}
+use Rattle.model.proofs.FileRead.{read-fits}
+use Rattle.rings.specs.Tables.{startOf, startsOf, table}
+use Rattle.rings.specs.Lent.{wordsAt, bodyAt, lent}
+use Rattle.lent.proofs.Rings.{wordOf, length-words-at, getD-words-at, count-lent}
+use Rattle.lent.proofs.Copied.{entry-count-lent}
+use Rattle.placement.specs.Drawing.{chartOn, inBounds, chartFor, drawnAs}
+use Rattle.placement.specs.declared.Drawn.{Drawn}
+use Rattle.framing.specs.Offsets.{wordAt}
+use Rattle.framing.specs.Layouts.{planIn, labelsIn, chartFrom, foundAs, sheetIn, tidyAs, tidied, Enough}
+use Rattle.framing.specs.declared.Found.{Found}
+use Rattle.framing.specs.declared.Found.the-variants as Found
+use Rattle.framing.specs.declared.Layout.{Layout}
+use Rattle.sheet.specs.declared.Sheet.{Sheet}
+use Rattle.sheet.specs.declared.Stage.{Stage}
+use Rattle.sheet.specs.declared.Stage.the-variants.{Empty, Open, Labelled, Charted}
+use Rattle.sheet.specs.Sheets.{heldCount, heldPlan, heldLabels, heldChart, pack, noChart, packed}
+use Rattle.sheet.specs.Answers.{after}
+use Rattle.opening.specs.Opening.{lentRules, flatRules, chartRules, lentOf, lentIn, labelChartRules, drawnRules, heldRules, Roomy, LaidOut, replaced, everyFour}
+use Rattle.sheet.proofs.Packed.{PlanHeld, ChartHeld, Held, count-packed, plan-packed, labels-packed, chart-packed}
+
+-- ---- the rules in parts are the rules
+in-parts : (a b c d e : Outcome (Unit {0})) → (a >> (b >> (c >> (d >> e)))) ≡ ((a >> (b >> (c >> d))) >> e)
+in-parts (accepted t) (accepted u) (accepted v) d e = refl
+in-parts (accepted t) (accepted u) (refused k at) d e = refl
+in-parts (accepted t) (refused k at) c d e = refl
+in-parts (refused k at) b c d e = refl
+
+then-then : {A : Type 0} (a b : Outcome (Unit {0})) (c : Outcome A) → (a >> b >> c) ≡ (a >> (b >> c))
+then-then (accepted t) b c = refl
+then-then (refused k at) b c = refl
+
+plan-parts : (p : Plan) → planRules p ≡ (lentRules (count p) p >> flatRules (count p) p)
+unfolding planRules lentRules flatRules
+plan-parts p =
+    let n = count p in
+    in-parts (rule 4 n (badEntry p)) (rule 5 n (badRepeat p)) (rule 6 n (unreturned p)) (require (eqb (entryCount p) (dartCount n)) 7 0) (rule 8 4 (badBorder p) >> rule 9 n (badFace p))
+
+-- 8 to 12 of a sheet
+unfoldable restOf : file.Sheet → Outcome (Unit {0})
+restOf file.fresh = passed
+restOf (file.opened p) = flatRules (count p) p
+restOf (file.labelled p ls) = flatRules (count p) p >> labelRules p ls
+restOf (file.charted p ls c) = flatRules (count p) p >> (labelRules p ls >> chartRules p ls c)
+
+judge-parts : (s : file.Sheet) → judge s ≡ (lentOf s >> restOf s)
+unfolding judge lentOf restOf chartRules
+judge-parts file.fresh = refl
+judge-parts (file.opened p) = plan-parts p
+judge-parts (file.labelled p ls) =
+    ap (λ (o : Outcome (Unit {0})). o >> labelRules p ls) (plan-parts p) ∙ then-then (lentRules (count p) p) (flatRules (count p) p) (labelRules p ls)
+judge-parts (file.charted p ls c) =
+    let l = lentRules (count p) p in
+    let f = flatRules (count p) p in
+    let k = chart p ls >>= λ (d : Chart). require (sameChart c d) 12 0 in
+    ap (λ (o : Outcome (Unit {0})). o >> labelRules p ls >> k) (plan-parts p)
+    ∙ ap (λ (o : Outcome (Unit {0})). o >> k) (then-then l f (labelRules p ls))
+    ∙ then-then l (f >> labelRules p ls) k
+    ∙ ap (λ (o : Outcome (Unit {0})). l >> o) (then-then f (labelRules p ls) k)
+
+-- ---- what 4 to 7 tell of the number of entries
+total-due : (n : ℕ) (p : Plan) → passed ≡ lentRules n p → entryCount p ≡ dartCount n
+unfolding lentRules
+total-due n p e =
+    let (t₁, e₁) = then-accepted (rule 4 n (badEntry p)) _ tt (sym e) in
+    let (t₂, e₂) = then-accepted (rule 5 n (badRepeat p)) _ tt e₁ in
+    let (t₃, e₃) = then-accepted (rule 6 n (unreturned p)) _ tt e₂ in
+    eqb-true (entryCount p) (dartCount n) (require-passed (eqb (entryCount p) (dartCount n)) 7 0 e₃)
+
+-- what was read and keeps 4 to 7 fits into a struct
+plan-held : (p : Plan) → PlanFits p → passed ≡ lentRules (count p) p → PlanHeld p
+plan-held p f e = let h = f .high in let t = total-due (count p) p e in record { few = h; room = omega arith }
+
+sheet-held : (s : file.Sheet) → Fits s → passed ≡ lentOf s → Held s
+unfolding lentOf
+sheet-held file.fresh f e = absurd f
+sheet-held (file.opened p) f e = plan-held p f e
+sheet-held (file.labelled p ls) f e = (plan-held p (f .0) e, f .1 ∙ sym (total-due (count p) p e))
+sheet-held (file.charted p ls c) f e = (plan-held p (f .0) e, f .1 ∙ sym (total-due (count p) p e), record { xs-each = f .2 .xs-each; ys-each = f .2 .ys-each })
+
+-- ---- the rules of a packed sheet are the sheet's
+n-packed : (g : Stage) (rs : List (List ℕ)) (ls : List ℕ) (c : Chart) → pack g rs ls c .n ≡ length rs
+unfolding pack
+n-packed g rs ls c = refl
+
+flat-packed : (g : Stage) (p : Plan) (ls : List ℕ) (c : Chart) → PlanHeld p → flatRules (pack g (p .rings) ls c .n) (heldPlan (pack g (p .rings) ls c)) ≡ flatRules (count p) p
+flat-packed g p ls c h = λ i. flatRules (n-packed g (p .rings) ls c i) (plan-packed g p ls c h i)
+
+then-passed : (a : Outcome (Unit {0})) → (a >> passed) ≡ a
+then-passed (accepted t) = refl
+then-passed (refused k at) = refl
+
+rules-packed : (s : file.Sheet) → Held s → Fits s → heldRules (packed s .stage) (packed s) ≡ restOf s
+unfolding packed restOf heldRules drawnRules labelChartRules pack
+rules-packed file.fresh h f = absurd f
+rules-packed (file.opened p) h f = then-passed (flatRules (count p) (heldPlan (pack Open (p .rings) [] noChart))) ∙ flat-packed Open p [] noChart h
+rules-packed (file.labelled p ls) h f =
+    let k = h .0 in
+    λ i. flat-packed Labelled p ls noChart k i >> labelRules (plan-packed Labelled p ls noChart k i) (labels-packed Labelled p ls noChart k (h .1) i)
+rules-packed (file.charted p ls c) h f =
+    let k = h .0 in
+    λ i.
+    flat-packed Charted p ls c k i
+    >> (labelRules (plan-packed Charted p ls c k i) (labels-packed Charted p ls c k (h .1) i)
+    >> chartRules (plan-packed Charted p ls c k i) (labels-packed Charted p ls c k (h .1) i) (chart-packed Charted p ls c k (h .2) i))
+
+length-padded : (k : ℕ) (l : List ℕ) → length l ≤ k → length (padded k l) ≡ k
+unfolding padded
+length-padded k l h = length-append l (zeros (k - length l)) ∙ (let z = length-zeros (k - length l) in omega arith)
+
+pack-roomy : (g : Stage) (p : Plan) (ls : List ℕ) (c : Chart) → PlanHeld p → 5 ≤ count p → length ls ≤ 1186 → Roomy (pack g (p .rings) ls c)
+pack-roomy g p ls c h low fit =
+    let m = h .few in
+    let k = h .room in
+    let e = n-packed g (p .rings) ls c in
+    let q = count-packed g p ls c h in
+    record { some = omega arith; few = omega arith; room = omega arith; long = labels-long }
+  where
+    labels-long : length (pack g (p .rings) ls c .labels) ≡ 1186
+    labels-long = unfold pack in length-padded 1186 ls fit
+
+roomy : (s : file.Sheet) → Held s → Fits s → Roomy (packed s)
+unfolding packed
+roomy file.fresh h f = absurd f
+roomy (file.opened p) h f = pack-roomy Open p [] noChart h (f .low) (omega arith)
+roomy (file.labelled p ls) h f = let e = h .1 in let m = h .0 .room in pack-roomy Labelled p ls noChart (h .0) (f .0 .low) (omega arith)
+roomy (file.charted p ls c) h f = let e = h .1 in let m = h .0 .room in pack-roomy Charted p ls c (h .0) (f .0 .low) (omega arith)
+
+-- a judgement, and the sheet it leaves
+as-answer : (j : Outcome (Unit {0})) (s : file.Sheet) → j ≡ (j >> accepted s >> passed)
+as-answer (accepted t) s = refl
+as-answer (refused k at) s = refl
+
+as-sheet : (j : Outcome (Unit {0})) (first : Sheet) (s : file.Sheet) → replaced j first (packed s) ≡ after first (j >> accepted s)
+unfolding replaced after
+as-sheet (accepted t) first s = refl
+as-sheet (refused k at) first s = refl
+
+-- ---- the whole call
+module _ (b : List ℕ) (o : Outcome file.Sheet) (is : o ≡ decode b) where
+  -- a refusal in the file
+  pub open-early : (k at : ℕ) → refused k at ≡ lentIn o → openCall b ≡ refused k at
+  unfolding openCall lentIn
+  open-early k at e = ap (λ (q : Outcome file.Sheet). q >>= λ (s : file.Sheet). judge s >> accepted s) (sym is) ∙ go o e
+    where
+      go : (q : Outcome file.Sheet) → refused k at ≡ (q >>= lentOf) → (q >>= λ (s : file.Sheet). judge s >> accepted s) ≡ refused k at
+      go (refused j t) f = let (m, n) = same-refusal (sym f) in λ i. refused (m i) (n i)
+      go (accepted s) f = rw (judge-parts s, ← f)
+
+  module _ (ok : passed ≡ lentIn o) (old copy : Sheet) (put : copy ≡ after old o) where
+    -- what was copied fits
+    pub copy-roomy : Roomy copy
+    unfolding lentIn after
+    copy-roomy = subst Roomy (sym put) (go o (sym is) ok)
+      where
+        go : (q : Outcome file.Sheet) → decode b ≡ q → passed ≡ (q >>= lentOf) → Roomy (after old q)
+        go (refused j t) d f = not-both (sym f)
+        go (accepted s) d f = let fit = read-fits b s d in roomy s (sheet-held s fit f) fit
+
+    abbrev Answers : Sheet → Type 0
+    Answers t = (heldRules (t .stage) t ≡ (openCall b >> passed)) × ((first : Sheet) → replaced (heldRules (t .stage) t) first t ≡ after first (openCall b))
+
+    -- 8 to 12 decide
+    pub open-late : Answers copy
+    unfolding openCall lentIn after replaced
+    open-late = subst Answers (sym put) (go o (sym is) ok)
+      where
+        go : (q : Outcome file.Sheet) → decode b ≡ q → passed ≡ (q >>= lentOf) → Answers (after old q)
+        go (refused j t) d f = not-both (sym f)
+        go (accepted s) d f =
+            let fit = read-fits b s d in
+            let rules : heldRules (packed s .stage) (packed s) ≡ judge s = rules-packed s (sheet-held s fit f) fit ∙ sym (judge-parts s ∙ ap (λ (l : Outcome (Unit {0})). l >> restOf s) (sym f)) in
+            let call : openCall b ≡ (judge s >> accepted s) = ap (λ (r : Outcome file.Sheet). r >>= λ (t : file.Sheet). judge t >> accepted t) d in (
+              rules ∙ as-answer (judge s) s ∙ ap (λ (r : Outcome file.Sheet). r >> passed) (sym call),
+              λ first. ap (λ (r : Outcome (Unit {0})). replaced r first (packed s)) rules ∙ as-sheet (judge s) first s ∙ ap (after first) (sym call),
+            )
+
+-- ---- what a layout says of its parts
+-- 4 to 7 kept: the entries fit
+pub room-in : (b : List ℕ) (l : Layout) → l .n ≤ 200 → passed ≡ lentIn (sheetIn b l) → startOf (l .sizes) (l .n) ≤ 1186
+unfolding sheetIn lentIn lentOf
+room-in b l few e = go (l .found) e
+  where
+    p : Plan
+    p = planIn b (l .sizes) (l .n)
+
+    kept : passed ≡ lentRules (count p) p → startOf (l .sizes) (l .n) ≤ 1186
+    kept f =
+        let t = total-due (count p) p f in
+        let c = count-lent (startsOf (l .sizes)) (l .sizes) b (l .n) in
+        let k = entry-count-lent (startsOf (l .sizes)) (l .sizes) b (l .n) in
+        omega arith
+
+    go : (g : Found) → passed ≡ (foundAs g p (labelsIn b (l .n) (l .labels)) (chartFrom b (l .n) (l .chart)) >>= lentOf) → startOf (l .sizes) (l .n) ≤ 1186
+    go Found.Opened f = kept f
+    go Found.Labelled f = kept f
+    go Found.Charted f = kept f
+    go (Found.Refused k at) f = not-both (sym f)
+
+-- 4 to 7 of the plan in the file, by what was found
+pub lent-found : (b : List ℕ) (l : Layout) (g : Found) → l .found ≡ g
+    → foundAs g (planIn b (l .sizes) (l .n)) (labelsIn b (l .n) (l .labels)) (chartFrom b (l .n) (l .chart)) ≡ sheetIn b l
+unfolding sheetIn
+lent-found b l g e = ap (λ (f : Found). foundAs f (planIn b (l .sizes) (l .n)) (labelsIn b (l .n) (l .labels)) (chartFrom b (l .n) (l .chart))) (sym e)
+
+pub lent-judged : (b : List ℕ) (sizes : List ℕ) (n : ℕ) → lentRules n (planIn b sizes n) ≡ lentRules (count (planIn b sizes n)) (planIn b sizes n)
+lent-judged b sizes n = ap (λ (k : ℕ). lentRules k (planIn b sizes n)) (sym (count-lent (startsOf sizes) sizes b n))
+
+-- what was found is no refusal
+abbrev pub There : Found → Type 0
+There Found.Opened = Unit {0}
+There Found.Labelled = Unit {0}
+There Found.Charted = Unit {0}
+There (Found.Refused k at) = ⊥
+
+pub sizes-found : (l : Layout) → l ≡ tidied l → (g : Found) → l .found ≡ g → There g → l .sizes ≡ padded 200 (stretch (l .sizes) 0 (l .n))
+unfolding tidied
+sizes-found l t g e h = ap (λ (k : Layout). k .sizes) t ∙ ap (λ (f : Found). tidyAs f (l .n) (l .sizes) (l .labels) (l .chart) .sizes) e ∙ go g h
+  where
+    go : (f : Found) → There f → tidyAs f (l .n) (l .sizes) (l .labels) (l .chart) .sizes ≡ padded 200 (stretch (l .sizes) 0 (l .n))
+    go Found.Opened h = refl
+    go Found.Labelled h = refl
+    go Found.Charted h = refl
+    go (Found.Refused k at) h = absurd h
+
+pub enough-found : (n : ℕ) (f g : Found) → f ≡ g → There g → Enough f n → 5 ≤ n
+enough-found n f g e h q = go g h (subst (λ (k : Found). Enough k n) e q)
+  where
+    go : (f : Found) → There f → Enough f n → 5 ≤ n
+    go Found.Opened h q = q
+    go Found.Labelled h q = q
+    go Found.Charted h q = q
+    go (Found.Refused k at) h q = absurd h
+
+-- ---- the sheet in a file, packed
+-- how long the rings in a file are
+sizes-from : (f : ℕ → List ℕ) (sizes : List ℕ) → ((u : ℕ) → length (f u) ≡ getD sizes u 0) → (a n : ℕ) → map length (map f (from a n)) ≡ stretch sizes a n
+unfolding stretch
+sizes-from f sizes h a zero = refl
+sizes-from f sizes h a (suc n) = λ i. h a i ∷ sizes-from f sizes h (suc a) n i
+
+sizes-lent : (b sizes : List ℕ) (n : ℕ) → map length (planIn b sizes n .rings) ≡ stretch sizes 0 n
+unfolding lent
+sizes-lent b sizes n = sizes-from (λ (u : ℕ). wordsAt b (bodyAt (startsOf sizes) u) (getD sizes u 0)) sizes (λ u. length-words-at b (bodyAt (startsOf sizes) u) (getD sizes u 0)) 0 n
+
+-- the coordinates, taken two by two
+first-numbers : (b : List ℕ) (at a n k : ℕ) → k ≡ 2 * n → map (λ (t : ℕ × ℕ). t .0) (pairs (wordsAt b (at + 4 * a) k)) ≡ map (λ (u : ℕ). wordAt b (at + 4 * u)) (from a n)
+unfolding wordsAt
+first-numbers b at a zero k e = let z : k ≡ 0 = omega arith in rw z
+first-numbers b at a (suc n) k e =
+    let two : k ≡ suc (suc (2 * n)) = omega arith in
+    let far : at + 4 * a + 2 + 2 ≡ at + 4 * suc a = omega arith in
+    ap (λ (j : ℕ). map (λ (t : ℕ × ℕ). t .0) (pairs (wordsAt b (at + 4 * a) j))) two
+    ∙ (λ i. wordAt b (at + 4 * a) ∷ (ap (λ (j : ℕ). map (λ (t : ℕ × ℕ). t .0) (pairs (wordsAt b j (2 * n)))) far ∙ first-numbers b at (suc a) n (2 * n) refl) i)
+
+second-numbers : (b : List ℕ) (at a n k : ℕ) → k ≡ 2 * n → map (λ (t : ℕ × ℕ). t .1) (pairs (wordsAt b (at + 4 * a) k)) ≡ map (λ (u : ℕ). wordAt b (at + 2 + 4 * u)) (from a n)
+unfolding wordsAt
+second-numbers b at a zero k e = let z : k ≡ 0 = omega arith in rw z
+second-numbers b at a (suc n) k e =
+    let two : k ≡ suc (suc (2 * n)) = omega arith in
+    let here : at + 4 * a + 2 ≡ at + 2 + 4 * a = omega arith in
+    let far : at + 4 * a + 2 + 2 ≡ at + 4 * suc a = omega arith in
+    ap (λ (j : ℕ). map (λ (t : ℕ × ℕ). t .1) (pairs (wordsAt b (at + 4 * a) j))) two
+    ∙ (λ i. wordAt b (here i) ∷ (ap (λ (j : ℕ). map (λ (t : ℕ × ℕ). t .1) (pairs (wordsAt b j (2 * n)))) far ∙ second-numbers b at (suc a) n (2 * n) refl) i)
+
+module _ (b : List ℕ) (at n : ℕ) where
+  abbrev Numbers : List ℕ
+  Numbers = wordsAt b at (2 + 2 * n)
+
+  numbers-after : drop 2 Numbers ≡ wordsAt b (at + 4 + 4 * 0) (2 * n)
+  unfolding wordsAt
+  numbers-after =
+      let two : 2 + 2 * n ≡ suc (suc (2 * n)) = omega arith in
+      let far : at + 2 + 2 ≡ at + 4 + 4 * 0 = omega arith in
+      ap (λ (j : ℕ). drop 2 (wordsAt b at j)) two ∙ ap (λ (j : ℕ). wordsAt b j (2 * n)) far
+
+  pub w-in : wordAt b at ≡ chartFrom b n at .w
+  unfolding chartIn
+  w-in = sym (getD-words-at b at (2 + 2 * n) 0 (omega arith) ∙ ap (wordAt b) (omega arith))
+
+  pub h-in : wordAt b (at + 2) ≡ chartFrom b n at .h
+  unfolding chartIn
+  h-in = sym (getD-words-at b at (2 + 2 * n) 1 (omega arith) ∙ ap (wordAt b) (omega arith))
+
+  pub xs-in : everyFour b (at + 4) n ≡ chartFrom b n at .xs
+  unfolding chartIn everyFour
+  xs-in = sym (ap (λ (l : List ℕ). map (λ (t : ℕ × ℕ). t .0) (pairs l)) numbers-after ∙ first-numbers b (at + 4) 0 n (2 * n) refl)
+
+  pub ys-in : everyFour b (at + 6) n ≡ chartFrom b n at .ys
+  unfolding chartIn everyFour
+  ys-in =
+      let far : at + 4 + 2 ≡ at + 6 = omega arith in
+      sym (ap (λ (l : List ℕ). map (λ (t : ℕ × ℕ). t .1) (pairs l)) numbers-after ∙ second-numbers b (at + 4) 0 n (2 * n) refl ∙ ap (λ (j : ℕ). map (λ (u : ℕ). wordAt b (j + 4 * u)) (from 0 n)) far)
+
+module _ (b sizes es : List ℕ) (n : ℕ) (whole : sizes ≡ padded 200 (stretch sizes 0 n)) (filled : es ≡ padded 1186 (concat (planIn b sizes n .rings))) where
+  abbrev plan : Plan
+  plan = planIn b sizes n
+
+  n-in : n ≡ count plan
+  n-in = sym (count-lent (startsOf sizes) sizes b n)
+
+  sizes-in : sizes ≡ padded 200 (map length (plan .rings))
+  sizes-in = whole ∙ ap (padded 200) (sym (sizes-lent b sizes n))
+
+  none : (k : ℕ) → replicate k 0 ≡ padded k []
+  unfolding zeros
+  none k = sym (padded-none k)
+
+  pub opened-packed :
+      record { stage = Open; n = n; sizes = sizes; entries = es; labels = replicate 1186 0; w = 0; h = 0; xs = replicate 200 0; ys = replicate 200 0 } ≡ packed (file.opened plan)
+  unfolding packed pack noChart
+  opened-packed = λ i. record { stage = Open; n = n-in i; sizes = sizes-in i; entries = filled i; labels = none 1186 i; w = 0; h = 0; xs = none 200 i; ys = none 200 i }
+
+  pub labelled-packed : {lb : List ℕ} (ls : List ℕ) → lb ≡ padded 1186 ls
+      → record { stage = Labelled; n = n; sizes = sizes; entries = es; labels = lb; w = 0; h = 0; xs = replicate 200 0; ys = replicate 200 0 } ≡ packed (file.labelled plan ls)
+  unfolding packed pack noChart
+  labelled-packed ls e = λ i. record { stage = Labelled; n = n-in i; sizes = sizes-in i; entries = filled i; labels = e i; w = 0; h = 0; xs = none 200 i; ys = none 200 i }
+
+  pub charted-packed : {lb xs ys : List ℕ} (ls : List ℕ) (at : ℕ) {w h : ℕ} → lb ≡ padded 1186 ls → w ≡ wordAt b at → h ≡ wordAt b (at + 2) → xs ≡ padded 200 (everyFour b (at + 4) n) → ys ≡ padded 200 (everyFour b (at + 6) n)
+      → record { stage = Charted; n = n; sizes = sizes; entries = es; labels = lb; w = w; h = h; xs = xs; ys = ys } ≡ packed (file.charted plan ls (chartFrom b n at))
+  unfolding packed pack
+  charted-packed ls at e f g x y = λ i. record {
+    stage = Charted;
+    n = n-in i;
+    sizes = sizes-in i;
+    entries = filled i;
+    labels = e i;
+    w = (f ∙ w-in b at n) i;
+    h = (g ∙ h-in b at n) i;
+    xs = (x ∙ ap (padded 200) (xs-in b at n)) i;
+    ys = (y ∙ ap (padded 200) (ys-in b at n)) i;
+  }
+
+-- ---- 11 and 12
+not-yes : (a : Bool) → not a ≡ true → a ≡ false
+not-yes true e = sym e
+not-yes false e = refl
+
+not-no : (a : Bool) → not a ≡ false → a ≡ true
+not-no true e = refl
+not-no false e = sym e
+
+module _ (sizes es : List ℕ) (n : ℕ) (ls : List ℕ) (few : n ≤ 200) (room : startOf sizes n ≤ 1186) where
+  chart-for : chartFor sizes es n ls ≡ chart (table sizes es n) ls
+  unfolding chartFor inBounds chart
+  chart-for = rw (le-leb n 200 few, le-leb (startOf sizes n) 1186 room)
+
+  module _ (r : Drawn) (is : drawnAs r n ≡ chartFor sizes es n ls) (c : Chart) where
+    abbrev Drew : Chart
+    Drew = chartOn n (r .w) (r .h) (r .xs) (r .ys)
+
+    told : (t : Bool) → r .found ≡ t → cond t (accepted Drew) (refused 11 0) ≡ chart (table sizes es n) ls
+    unfolding drawnAs
+    told t e = ap (λ (q : Bool). cond q (accepted Drew) (refused 11 0)) (sym e) ∙ is ∙ chart-for
+
+    abbrev Compare : Outcome Chart → Outcome (Unit {0})
+    Compare o = o >>= λ (d : Chart). require (sameChart c d) 12 0
+
+    pub eleven-refused : not (r .found) ≡ true → refused 11 0 ≡ chartRules (table sizes es n) ls c
+    unfolding chartRules
+    eleven-refused e = ap Compare (told false (not-yes (r .found) e))
+
+    pub twelve-refused : not (r .found) ≡ false → {t : Bool} → t ≡ sameChart c Drew → t ≡ false → refused 12 0 ≡ chartRules (table sizes es n) ls c
+    unfolding chartRules
+    twelve-refused e q f = ap (λ (t : Bool). require t 12 0) (sym f ∙ q) ∙ ap Compare (told true (not-no (r .found) e))
+
+    pub chart-kept : not (r .found) ≡ false → {t : Bool} → t ≡ sameChart c Drew → t ≡ true → passed ≡ chartRules (table sizes es n) ls c
+    unfolding chartRules
+    chart-kept e q f = ap (λ (t : Bool). require t 12 0) (sym f ∙ q) ∙ ap Compare (told true (not-no (r .found) e))

@@ -1,0 +1,78 @@
+-- label_part meets its contract.
+use Rattle.opening.proofs.Judging.{front-labels}
+use Rattle.model.specs.Labels.{labelRules}
+use mathlib.Core.Path.{_≡_, refl, sym, ap, _∙_}
+use mathlib.Core.List.{List}
+use Rattle.sheet.specs.Sheets.{heldPlan, heldLabels, heldCount}
+use native.Mathlib.Omega.{arith}
+use borrow.Author.Needs.{needs}
+use Rattle.opening.proofs.label_part.Statement.{statement}
+use Rattle.opening.proofs.label_part.Tie as tie
+use Rattle.opening.proofs.label_part.Reads as reads
+use Rattle.opening.proofs.label_part.Lts as lts
+use Rattle.opening.proofs.count_of.Reads as count-of-reads
+use Rattle.opening.proofs.label_rule.Reads as label-rule-reads
+
+-- src/lib.rt:207:13
+cast-n : tie.Need-cast-n
+cast-n c = search needs
+
+-- src/lib.rt:211:26
+slice-aggregate-count-of : tie.Need-slice-aggregate-count-of
+slice-aggregate-count-of c = search needs
+
+-- src/lib.rt:211:9
+count-of-requires : tie.Need-count-of-requires
+count-of-requires c κs = search needs
+
+-- src/lib.rt:212:16
+slice-aggregate-label-rule : tie.Need-slice-aggregate-label-rule
+slice-aggregate-label-rule c = search needs
+
+-- src/lib.rt:212:24
+slice-aggregate-label-rule-2 : tie.Need-slice-aggregate-label-rule-2
+slice-aggregate-label-rule-2 c = search needs
+
+-- src/lib.rt:212:37
+sub-label-rule : tie.Need-sub-label-rule
+sub-label-rule c = search needs
+
+-- src/lib.rt:212:37
+part-label-rule-start : tie.Need-part-label-rule-start
+part-label-rule-start c = search needs
+
+-- src/lib.rt:212:37
+part-label-rule-end : tie.Need-part-label-rule-end
+unfolding heldCount
+part-label-rule-end c =
+    let q = c .before .before .before .before .before .before .before .before .before .pre in
+    let e = c .before .before .before .count-of .ensures in
+    let r = q .room in
+    let l = q .long in
+    omega arith
+
+-- src/lib.rt:212:5
+label-rule-requires : tie.Need-label-rule-requires
+label-rule-requires c κs = search needs
+
+-- src/lib.rt:203:1
+returns : tie.Need-returns
+unfolding heldPlan
+returns c =
+    let s = c .before .before .before .before .before .before .before .before .before .before .before .args .sheet in
+    c .label-rule .ensures ∙ ap (labelRules (heldPlan s)) (front-labels s (c .before .before .before .before .before .before .before .before .before .before .before .pre .room) (c .before .before .before .before .before .before .before .before .before .before .before .pre .long) (c .before .before .before .before .before .count-of .ensures))
+
+pub label-part-spec : {M : Type 1} → statement M
+label-part-spec =
+    tie.close
+    (tie.spec
+    cast-n
+    slice-aggregate-count-of
+    count-of-requires
+    slice-aggregate-label-rule
+    slice-aggregate-label-rule-2
+    sub-label-rule
+    part-label-rule-start
+    part-label-rule-end
+    label-rule-requires
+    returns)

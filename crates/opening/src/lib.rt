@@ -1,0 +1,463 @@
+// Open: a file is judged part by part, and what it holds replaces the sheet. Ring: the part of a file that is one ring's body.
+use sheet::Answer;
+use sheet::Outcome;
+use sheet::RingAnswer;
+use sheet::Sheet;
+use sheet::Stage;
+ghost use mathlib.Core.Path.{_≡_};
+ghost use Prim.Native.Nat.{_<_, _≤_, _^_};
+ghost use lib.ListN.{length};
+ghost use Rattle.lists.specs.Parts.{concat};
+ghost use Rattle.lists.specs.Spans.{stretch, padded};
+ghost use Rattle.model.specs.Labels.{labelRules};
+ghost use Rattle.model.specs.Outcome.{refused};
+ghost use Rattle.placement.specs.Drawing.{chartOn};
+ghost use Rattle.model.specs.File.{fresh, opened, labelled, charted};
+ghost use Rattle.model.specs.Calls.{openCall, ringCall, ringPart};
+ghost use Rattle.rings.specs.Tables.{startOf, startsOf, table};
+ghost use Rattle.framing.specs.Layouts.{planIn, labelsIn, chartFrom, sheetIn};
+ghost use Rattle.sheet.specs.Sheets.{heldCount, heldPlan, heldLabels, heldChart, packed};
+ghost use Rattle.sheet.specs.Answers.{answerAs, ringAnswerAs, after};
+ghost use Rattle.opening.specs.Opening.{judgedAs, lentRules, flatRules, chartRules, said, lentIn, labelChartRules, drawnRules, heldRules, Roomy, LaidOut, replaced, everyFour, heldRing};
+
+// What rules say: they are kept, or the refusal's number and place.
+enum Judged {
+    Passed,
+    Refused(u8, usize),
+}
+
+// How many entries the rings of n contexts have together.
+fn total_of<'a>(starts: &'a [u16], sizes: &'a [u8], n: usize) -> usize
+    requires { ⌜ 0 < n ⌝ }
+    requires { ⌜ n ≤ 200 ⌝ }
+    requires { ⌜ now starts ≡ startsOf (now sizes) ⌝ }
+    ensures { λ r. ⌜ r ≡ startOf (now (sizes .entry)) n ⌝ }
+{
+    lists::num(starts, n - 1) + lists::byte(sizes, n - 1)
+}
+
+// 4 to 7, where the rings stand in the file and begin at these starts.
+fn lent_rules<'a>(file: &'a [u8], starts: &'a [u16], sizes: &'a [u8], n: usize) -> Judged
+    requires { ⌜ 5 ≤ n ⌝ }
+    requires { ⌜ n ≤ 200 ⌝ }
+    requires { ⌜ now starts ≡ startsOf (now sizes) ⌝ }
+    ensures { λ r. ⌜ judgedAs r ≡ lentRules n (planIn (now (file .entry)) (now (sizes .entry)) n) ⌝ }
+{
+    let four = lent::rule4_place(file, starts, sizes, n);
+    if four < n {
+        return Judged::Refused(4, four);
+    }
+    let five = lent::rule5_place(file, starts, sizes, n);
+    if five < n {
+        return Judged::Refused(5, five);
+    }
+    let six = lent::rule6_place(file, starts, sizes, n);
+    if six < n {
+        return Judged::Refused(6, six);
+    }
+    if total_of(starts, sizes, n) != 6 * n - 14 {
+        return Judged::Refused(7, 0);
+    }
+    Judged::Passed
+}
+
+// 4 to 7, where the rings stand in the file.
+fn ring_rules<'a>(file: &'a [u8], sizes: &'a [u8], n: usize) -> Judged
+    requires { ⌜ 5 ≤ n ⌝ }
+    requires { ⌜ n ≤ 200 ⌝ }
+    ensures { λ r. ⌜ judgedAs r ≡ lentRules n (planIn (now (file .entry)) (now (sizes .entry)) n) ⌝ }
+{
+    let starts = rings::starts_of(sizes);
+    lent_rules(file, &starts, sizes, n)
+}
+
+// 8 and 9 in flat arrays, where the rings begin at these starts.
+fn flat_rules<'a>(starts: &'a [u16], sizes: &'a [u8], entries: &'a [u16], n: usize) -> Judged
+    requires { ⌜ now starts ≡ startsOf (now sizes) ⌝ }
+    ensures { λ r. ⌜ judgedAs r ≡ flatRules n (table (now (sizes .entry)) (now (entries .entry)) n) ⌝ }
+{
+    let eight = faces::rule8_place(starts, sizes, entries, n);
+    if eight < 4 {
+        return Judged::Refused(8, eight);
+    }
+    let nine = faces::rule9_place(starts, sizes, entries, n);
+    if nine < n {
+        return Judged::Refused(9, nine);
+    }
+    Judged::Passed
+}
+
+// 10 in flat arrays.
+fn label_rule<'a>(sizes: &'a [u8], entries: &'a [u16], n: usize, labels: &'a [u8]) -> Judged
+    requires { ⌜ n ≤ 200 ⌝ }
+    ensures { λ r. ⌜ judgedAs r ≡ labelRules (table (now (sizes .entry)) (now (entries .entry)) n) (now (labels .entry)) ⌝ }
+{
+    let ten = labels::rules::rules_place(sizes, entries, n, labels);
+    if ten < n {
+        return Judged::Refused(10, ten);
+    }
+    Judged::Passed
+}
+
+// The entries of all rings, in context order.
+fn copy_entries<'a>(file: &'a [u8], sizes: &'a [u8], n: usize) -> [u16; 1186]
+    requires { ⌜ n ≤ 200 ⌝ }
+    requires { ⌜ startOf (now sizes) n ≤ 1186 ⌝ }
+    ensures { λ r. ⌜ r ≡ padded 1186 (concat (planIn (now (file .entry)) (now (sizes .entry)) n .rings)) ⌝ }
+{
+    let mut entries = [0u16; 1186];
+    let mut u = 0;
+    let mut i = 0;
+    let mut at = 0;
+    while u < n {
+        if i < lists::byte(sizes, u) {
+            entries[at] = lists::word_at(file, 10 + 4 * u + 2 * at) as u16;
+            at += 1;
+            i += 1;
+        } else {
+            u += 1;
+            i = 0;
+        }
+    }
+    entries
+}
+
+// The label bytes, as many as count says, from an offset on.
+fn copy_labels(file: &[u8], at: usize, count: usize) -> [u8; 1186]
+    requires { ⌜ at < 2 ^ 17 ⌝ }
+    requires { ⌜ count ≤ 1186 ⌝ }
+    ensures { λ r. ⌜ r ≡ padded 1186 (stretch (now (file .entry)) at count) ⌝ }
+{
+    let mut labels = [0u8; 1186];
+    let mut i = 0;
+    while i < count {
+        labels[i] = lists::byte(file, at + i) as u8;
+        i += 1;
+    }
+    labels
+}
+
+// One coordinate of n points from an offset on: a number of two bytes every four bytes.
+fn copy_chart(file: &[u8], at: usize, n: usize) -> [u16; 200]
+    requires { ⌜ at < 2 ^ 18 ⌝ }
+    requires { ⌜ n ≤ 200 ⌝ }
+    ensures { λ r. ⌜ r ≡ padded 200 (everyFour (now (file .entry)) at n) ⌝ }
+{
+    let mut points = [0u16; 200];
+    let mut u = 0;
+    while u < n {
+        points[u] = lists::word_at(file, at + 4 * u) as u16;
+        u += 1;
+    }
+    points
+}
+
+// 11 and 12 in flat arrays: the chart given is the plan's chart.
+fn chart_rule<'a>(
+    sizes: &'a [u8],
+    entries: &'a [u16],
+    n: usize,
+    labels: &'a [u8],
+    w: u16,
+    h: u16,
+    xs: &'a [u16],
+    ys: &'a [u16],
+) -> Judged
+    requires { ⌜ n ≤ 200 ⌝ }
+    requires { ⌜ startOf (now sizes) n ≤ 1186 ⌝ }
+    ensures { λ r. ⌜ judgedAs r ≡ chartRules (table (now (sizes .entry)) (now (entries .entry)) n) (now (labels .entry)) (chartOn n w h (now (xs .entry)) (now (ys .entry))) ⌝ }
+{
+    let drawn = placement::chart_of(sizes, entries, n, labels);
+    if !drawn.found {
+        return Judged::Refused(11, 0);
+    }
+    let dx = drawn.xs;
+    let dy = drawn.ys;
+    if placement::same_chart(n, w, h, xs, ys, drawn.w, drawn.h, &dx, &dy) {
+        return Judged::Passed;
+    }
+    Judged::Refused(12, 0)
+}
+
+// How many entries the rings of n contexts have together.
+fn count_of(sizes: &[u8], n: usize) -> usize
+    requires { ⌜ 0 < n ⌝ }
+    requires { ⌜ n ≤ 200 ⌝ }
+    ensures { λ r. ⌜ r ≡ startOf (now (sizes .entry)) n ⌝ }
+{
+    let starts = rings::starts_of(sizes);
+    total_of(&starts, sizes, n)
+}
+
+// 8 and 9 of a sheet.
+fn flat_part(sheet: Sheet) -> Judged
+    ensures { λ r. ⌜ judgedAs r ≡ flatRules (sheet .n) (heldPlan sheet) ⌝ }
+{
+    let sizes = sheet.sizes;
+    let entries = sheet.entries;
+    let starts = rings::starts_of(&sizes);
+    flat_rules(&starts, &sizes, &entries, sheet.n as usize)
+}
+
+// 10 of a sheet.
+fn label_part(sheet: Sheet) -> Judged
+    requires { ⌜ Roomy sheet ⌝ }
+    ensures { λ r. ⌜ judgedAs r ≡ labelRules (heldPlan sheet) (heldLabels sheet) ⌝ }
+{
+    let n = sheet.n as usize;
+    let sizes = sheet.sizes;
+    let entries = sheet.entries;
+    let labels = sheet.labels;
+    let count = count_of(&sizes, n);
+    label_rule(&sizes, &entries, n, &labels[0..count])
+}
+
+// 11 and 12 of a sheet.
+fn chart_part(sheet: Sheet) -> Judged
+    requires { ⌜ Roomy sheet ⌝ }
+    ensures { λ r. ⌜ judgedAs r ≡ chartRules (heldPlan sheet) (heldLabels sheet) (heldChart sheet) ⌝ }
+{
+    let n = sheet.n as usize;
+    let sizes = sheet.sizes;
+    let entries = sheet.entries;
+    let labels = sheet.labels;
+    let xs = sheet.xs;
+    let ys = sheet.ys;
+    let count = count_of(&sizes, n);
+    chart_rule(
+        &sizes,
+        &entries,
+        n,
+        &labels[0..count],
+        sheet.w,
+        sheet.h,
+        &xs,
+        &ys,
+    )
+}
+
+// 10 of a sheet, then 11 and 12.
+fn charted_part(sheet: Sheet) -> Judged
+    requires { ⌜ Roomy sheet ⌝ }
+    ensures { λ r. ⌜ judgedAs r ≡ labelChartRules sheet ⌝ }
+{
+    let judged = label_part(sheet);
+    match judged {
+        Judged::Refused(number, place) => Judged::Refused(number, place),
+        Judged::Passed => chart_part(sheet),
+    }
+}
+
+// 10 to 12 of a sheet, as far as its stage has come.
+fn drawn_part(sheet: Sheet) -> Judged
+    requires { ⌜ Roomy sheet ⌝ }
+    ensures { λ r. ⌜ judgedAs r ≡ drawnRules (sheet .stage) sheet ⌝ }
+{
+    let stage = sheet.stage;
+    match stage {
+        Stage::Empty => Judged::Passed,
+        Stage::Open => Judged::Passed,
+        Stage::Labelled => label_part(sheet),
+        Stage::Charted => charted_part(sheet),
+    }
+}
+
+// 8 to 12 of a sheet, as far as its stage has come.
+fn held_rules(sheet: Sheet) -> Judged
+    requires { ⌜ Roomy sheet ⌝ }
+    ensures { λ r. ⌜ judgedAs r ≡ heldRules (sheet .stage) sheet ⌝ }
+{
+    let judged = flat_part(sheet);
+    match judged {
+        Judged::Refused(number, place) => Judged::Refused(number, place),
+        Judged::Passed => drawn_part(sheet),
+    }
+}
+
+// The sheet at stage OPEN that a file holds.
+fn opened_sheet(file: &[u8], n: usize, sizes: [u8; 200]) -> Sheet
+    requires { ⌜ n ≤ 200 ⌝ }
+    requires { ⌜ startOf sizes n ≤ 1186 ⌝ }
+    requires { ⌜ sizes ≡ padded 200 (stretch sizes 0 n) ⌝ }
+    ensures { λ r. ⌜ r ≡ packed (opened (planIn (now (file .entry)) sizes n)) ⌝ }
+{
+    let entries = copy_entries(file, &sizes, n);
+    Sheet {
+        stage: Stage::Open,
+        n: n as u16,
+        sizes,
+        entries,
+        labels: [0u8; 1186],
+        w: 0,
+        h: 0,
+        xs: [0u16; 200],
+        ys: [0u16; 200],
+    }
+}
+
+// The sheet at stage LABELLED that a file holds, its labels from an offset on.
+fn labelled_sheet(file: &[u8], n: usize, sizes: [u8; 200], at: usize) -> Sheet
+    requires { ⌜ 5 ≤ n ⌝ }
+    requires { ⌜ n ≤ 200 ⌝ }
+    requires { ⌜ at < 2 ^ 17 ⌝ }
+    requires { ⌜ startOf sizes n ≤ 1186 ⌝ }
+    requires { ⌜ sizes ≡ padded 200 (stretch sizes 0 n) ⌝ }
+    ensures { λ r. ⌜ r ≡ packed (labelled (planIn (now (file .entry)) sizes n) (labelsIn (now (file .entry)) n at)) ⌝ }
+{
+    let entries = copy_entries(file, &sizes, n);
+    let labels = copy_labels(file, at, 6 * n - 14);
+    Sheet {
+        stage: Stage::Labelled,
+        n: n as u16,
+        sizes,
+        entries,
+        labels,
+        w: 0,
+        h: 0,
+        xs: [0u16; 200],
+        ys: [0u16; 200],
+    }
+}
+
+// The sheet at stage CHARTED that a file holds, its labels and its chart's numbers each from an offset on.
+fn charted_sheet(file: &[u8], n: usize, sizes: [u8; 200], at: usize, chart: usize) -> Sheet
+    requires { ⌜ 5 ≤ n ⌝ }
+    requires { ⌜ n ≤ 200 ⌝ }
+    requires { ⌜ at < 2 ^ 17 ⌝ }
+    requires { ⌜ chart < 2 ^ 17 ⌝ }
+    requires { ⌜ startOf sizes n ≤ 1186 ⌝ }
+    requires { ⌜ sizes ≡ padded 200 (stretch sizes 0 n) ⌝ }
+    ensures { λ r. ⌜ r ≡ packed (charted (planIn (now (file .entry)) sizes n) (labelsIn (now (file .entry)) n at) (chartFrom (now (file .entry)) n chart)) ⌝ }
+{
+    let entries = copy_entries(file, &sizes, n);
+    let labels = copy_labels(file, at, 6 * n - 14);
+    let xs = copy_chart(file, chart + 4, n);
+    let ys = copy_chart(file, chart + 6, n);
+    let w = lists::word_at(file, chart) as u16;
+    let h = lists::word_at(file, chart + 2) as u16;
+    Sheet {
+        stage: Stage::Charted,
+        n: n as u16,
+        sizes,
+        entries,
+        labels,
+        w,
+        h,
+        xs,
+        ys,
+    }
+}
+
+// The sheet that a file holds by its layout; a fresh one where there is none.
+fn copy_sheet(file: &[u8], layout: framing::Layout) -> Sheet
+    requires { ⌜ LaidOut layout ⌝ }
+    requires { ⌜ startOf (layout .sizes) (layout .n) ≤ 1186 ⌝ }
+    ensures { λ r. ⌜ r ≡ after (packed fresh) (sheetIn (now (file .entry)) layout) ⌝ }
+{
+    let found = layout.found;
+    let n = layout.n;
+    let sizes = layout.sizes;
+    match found {
+        framing::Found::Opened => opened_sheet(file, n, sizes),
+        framing::Found::Labelled => labelled_sheet(file, n, sizes, layout.labels),
+        framing::Found::Charted => charted_sheet(file, n, sizes, layout.labels, layout.chart),
+        framing::Found::Refused(_, _) => sheet::fresh_sheet(),
+    }
+}
+
+// What framing refuses, then 4 to 7, where the rings stand in the file.
+fn lent_part(file: &[u8], layout: framing::Layout) -> Judged
+    requires { ⌜ LaidOut layout ⌝ }
+    ensures { λ r. ⌜ judgedAs r ≡ lentIn (sheetIn (now (file .entry)) layout) ⌝ }
+{
+    let found = layout.found;
+    let n = layout.n;
+    let sizes = layout.sizes;
+    match found {
+        framing::Found::Opened => ring_rules(file, &sizes, n),
+        framing::Found::Labelled => ring_rules(file, &sizes, n),
+        framing::Found::Charted => ring_rules(file, &sizes, n),
+        framing::Found::Refused(number, place) => Judged::Refused(number, place),
+    }
+}
+
+// A refusal leaves the sheet as it is.
+fn refuse(number: u8, place: usize, sheet: Sheet) -> Outcome
+    ensures { λ r. ⌜ answerAs (r .answer) ≡ refused number place ⌝ }
+    ensures { λ r. ⌜ r .sheet ≡ sheet ⌝ }
+{
+    Outcome {
+        answer: Answer::Refused(number, place),
+        sheet,
+    }
+}
+
+// The new sheet in place of the old one, if it keeps 8 to 12.
+fn replace(old: Sheet, new: Sheet) -> Outcome
+    requires { ⌜ Roomy new ⌝ }
+    ensures { λ r. ⌜ answerAs (r .answer) ≡ heldRules (new .stage) new ⌝ }
+    ensures { λ r. ⌜ r .sheet ≡ replaced (heldRules (new .stage) new) old new ⌝ }
+{
+    let judged = held_rules(new);
+    match judged {
+        Judged::Refused(number, place) => refuse(number, place, old),
+        Judged::Passed => Outcome {
+            answer: Answer::Accepted,
+            sheet: new,
+        },
+    }
+}
+
+// Open, at any stage: the file's contents replace everything; a refusal leaves the sheet as it is.
+pub fn open_file(sheet: Sheet, file: &[u8]) -> Outcome
+    ensures { λ r. ⌜ answerAs (r .answer) ≡ said (openCall (now (file .entry))) ⌝ }
+    ensures { λ r. ⌜ r .sheet ≡ after sheet (openCall (now (file .entry))) ⌝ }
+{
+    let layout = framing::frame_file(file);
+    let judged = lent_part(file, layout);
+    match judged {
+        Judged::Refused(number, place) => refuse(number, place, sheet),
+        Judged::Passed => replace(sheet, copy_sheet(file, layout)),
+    }
+}
+
+// Where the body of a context's ring stands in the file that a sheet was opened from; 17 where there is no such context.
+fn ring_of(sheet: Sheet, context: usize) -> RingAnswer
+    ensures { λ r. ⌜ ringAnswerAs r ≡ heldRing sheet context ⌝ }
+{
+    let n = sheet.n as usize;
+    if n <= context {
+        return RingAnswer::Refused(17, n);
+    }
+    let sizes = sheet.sizes;
+    let size = lists::byte(&sizes, context);
+    let starts = rings::starts_of(&sizes);
+    RingAnswer::Part(
+        10 + 4 * context + 2 * lists::num(&starts, context),
+        2 * size,
+    )
+}
+
+// Ring: the offset and the length of a context's ring in a file, or the refusal.
+pub fn ring_answer(file: &[u8], context: usize) -> RingAnswer
+    ensures { λ r. ⌜ ringAnswerAs r ≡ ringCall (now (file .entry)) context ⌝ }
+{
+    let outcome = open_file(sheet::fresh_sheet(), file);
+    let answer = outcome.answer;
+    let sheet = outcome.sheet;
+    match answer {
+        Answer::Refused(number, place) => RingAnswer::Refused(number, place),
+        Answer::Accepted => ring_of(sheet, context),
+    }
+}
+
+// Ring: the part of a file that is a context's ring; an empty part on a refusal.
+pub fn ring<'a>(file: &'a [u8], context: usize) -> &'a [u8]
+    ensures { λ r. ⌜ now r ≡ ringPart (now (file .entry)) (ringCall (now (file .entry)) context) ⌝ }
+{
+    let answer = ring_answer(file, context);
+    match answer {
+        RingAnswer::Refused(_, _) => &file[0..0],
+        RingAnswer::Part(at, size) => framing::ring_part(file, at, size),
+    }
+}
