@@ -1,9 +1,9 @@
 -- Parts of a lent file copied into arrays: what the loops keep, and that the arrays hold what the file holds.
 use Prim.Native.Nat.{ℕ, zero, suc, _+_, _-_, _*_, _≤_, _<_}
 use mathlib.Core.Path.{_≡_, refl, sym, ap, _∙_}
-use mathlib.Core.List.{List, [], _∷_, _++_, map, append-nil}
+use mathlib.Core.List.{List, [], _++_, map, append-nil}
 use native.Mathlib.Omega.{arith}
-use lib.ListN.{length, getD, take, set, replicate, length-append, List·getD-append}
+use lib.ListN.{length, getD, take, set, replicate}
 use lib.Seq.{ext-getD}
 use Rattle.lists.specs.Ranges.{from}
 use Rattle.lists.specs.Parts.{concat}

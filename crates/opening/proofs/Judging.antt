@@ -1,16 +1,15 @@
 -- Refusals in the order in which a file is judged: what each place of a rule that was looked for says of the rules.
 use Prim.Native.Nat.{ℕ, suc, _+_, _-_, _≤_, _<_, min}
-use mathlib.Core.Path.{_≡_, refl, sym, ap, _∙_, subst}
+use mathlib.Core.Path.{_≡_, sym, ap, _∙_}
 use mathlib.Core.List.{List}
 use mathlib.Core.Bool.{Bool}
 use native.Mathlib.Omega.{arith}
 use lib.ListN.{length, getD, take, drop}
-use lib.Dec.{eqb, leb}
 use borrow.Author.Tests.{le-leb, lt-leb, eq-eqb, ne-eqb}
 use Rattle.lists.specs.Ranges.{lowest}
 use Rattle.lists.proofs.Ranges.{getD-map-from}
-use Rattle.model.specs.Outcome.{Outcome, accepted, refused, passed, require, rule, _>>=_, _>>_}
-use Rattle.model.specs.Plan.{Plan, count, badEntry, badRepeat, unreturned, entryCount, dartCount, badBorder, badFace, planRules}
+use Rattle.model.specs.Outcome.{Outcome, refused, passed, rule, _>>_}
+use Rattle.model.specs.Plan.{Plan, count, badEntry, badRepeat, unreturned, entryCount, dartCount, badBorder, badFace}
 use Rattle.model.specs.Labels.{breaks, labelRules}
 use Rattle.rings.specs.Tables.{startOf, startsOf, table}
 use Rattle.rings.proofs.Rows.{start-more, count-rows}

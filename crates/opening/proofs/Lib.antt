@@ -2,3 +2,4 @@ pub mod Judging
 pub mod Copies
 pub mod Opened
 pub mod RingParts
+pub mod Rewritten

@@ -1,11 +1,11 @@
 -- A file that was framed, judged in parts and copied is opened as the model opens it.
-use Prim.Native.Nat.{ℕ, zero, suc, _+_, _-_, _*_, _≤_, _<_}
+use Prim.Native.Nat.{ℕ, zero, suc, _+_, _-_, _*_, _≤_}
 use mathlib.Core.Path.{_≡_, refl, sym, ap, _∙_, subst}
-use mathlib.Core.List.{List, [], _∷_, _++_, map}
-use mathlib.Core.Bool.{Bool, true, false, cond, not, _&&_}
+use mathlib.Core.List.{List, [], _∷_, map}
+use mathlib.Core.Bool.{Bool, true, false, cond, not}
 use native.Mathlib.Omega.{arith}
 use lib.ListN.{length, getD, drop, replicate, length-append}
-use lib.Dec.{eqb, leb}
+use lib.Dec.{eqb}
 use borrow.Author.Tests.{eqb-true, le-leb}
 use Rattle.lists.specs.Ranges.{from}
 use Rattle.lists.specs.Parts.{concat, pairs}
@@ -15,16 +15,16 @@ use Rattle.lists.proofs.Loops.{padded-none}
 use Rattle.model.specs.Outcome.{Outcome, accepted, refused, passed, require, rule, _>>=_, _>>_}
 use Rattle.model.specs.Plan.{Plan, count, badEntry, badRepeat, unreturned, entryCount, dartCount, badBorder, badFace, planRules}
 use Rattle.model.specs.Labels.{labelRules}
-use Rattle.model.specs.Chart.{Chart, chart, leastPlacement, slope, sameChart}
+use Rattle.model.specs.Chart.{Chart, chart, sameChart}
 use Rattle.model.specs.File as file
 use Rattle.model.specs.File.{decode, chartIn}
 use Rattle.model.specs.Calls.{judge, openCall}
 use Rattle.model.proofs.Outcomes.{not-both, same-refusal, then-accepted, require-passed}
-use Rattle.model.proofs.FileWrite.{PlanFits, ChartFits, Fits}
+use Rattle.model.proofs.FileWrite.{PlanFits, Fits}
 use Rattle.model.proofs.FileRead.{read-fits}
 use Rattle.rings.specs.Tables.{startOf, startsOf, table}
 use Rattle.rings.specs.Lent.{wordsAt, bodyAt, lent}
-use Rattle.lent.proofs.Rings.{wordOf, length-words-at, getD-words-at, count-lent}
+use Rattle.lent.proofs.Rings.{length-words-at, getD-words-at, count-lent}
 use Rattle.lent.proofs.Copied.{entry-count-lent}
 use Rattle.placement.specs.Drawing.{chartOn, inBounds, chartFor, drawnAs}
 use Rattle.placement.specs.declared.Drawn.{Drawn}
@@ -35,11 +35,11 @@ use Rattle.framing.specs.declared.Found.the-variants as Found
 use Rattle.framing.specs.declared.Layout.{Layout}
 use Rattle.sheet.specs.declared.Sheet.{Sheet}
 use Rattle.sheet.specs.declared.Stage.{Stage}
-use Rattle.sheet.specs.declared.Stage.the-variants.{Empty, Open, Labelled, Charted}
-use Rattle.sheet.specs.Sheets.{heldCount, heldPlan, heldLabels, heldChart, pack, noChart, packed}
-use Rattle.sheet.specs.Answers.{after}
-use Rattle.opening.specs.Opening.{lentRules, flatRules, chartRules, lentOf, lentIn, labelChartRules, drawnRules, heldRules, Roomy, LaidOut, replaced, everyFour}
-use Rattle.sheet.proofs.Packed.{PlanHeld, ChartHeld, Held, count-packed, plan-packed, labels-packed, chart-packed}
+use Rattle.sheet.specs.declared.Stage.the-variants.{Open, Labelled, Charted}
+use Rattle.sheet.specs.Sheets.{heldPlan, pack, noChart, packed}
+use Rattle.sheet.specs.Answers.{answerOf, after}
+use Rattle.opening.specs.Opening.{lentRules, flatRules, chartRules, lentOf, lentIn, labelChartRules, drawnRules, heldRules, Roomy, replaced, everyFour}
+use Rattle.sheet.proofs.Packed.{PlanHeld, Held, count-packed, plan-packed, labels-packed, chart-packed}
 
 -- ---- the rules in parts are the rules
 in-parts : (a b c d e : Outcome (Unit {0})) → (a >> (b >> (c >> (d >> e)))) ≡ ((a >> (b >> (c >> d))) >> e)
@@ -59,13 +59,13 @@ plan-parts p =
     in-parts (rule 4 n (badEntry p)) (rule 5 n (badRepeat p)) (rule 6 n (unreturned p)) (require (eqb (entryCount p) (dartCount n)) 7 0) (rule 8 4 (badBorder p) >> rule 9 n (badFace p))
 
 -- 8 to 12 of a sheet
-unfoldable restOf : file.Sheet → Outcome (Unit {0})
+unfoldable pub restOf : file.Sheet → Outcome (Unit {0})
 restOf file.fresh = passed
 restOf (file.opened p) = flatRules (count p) p
 restOf (file.labelled p ls) = flatRules (count p) p >> labelRules p ls
 restOf (file.charted p ls c) = flatRules (count p) p >> (labelRules p ls >> chartRules p ls c)
 
-judge-parts : (s : file.Sheet) → judge s ≡ (lentOf s >> restOf s)
+pub judge-parts : (s : file.Sheet) → judge s ≡ (lentOf s >> restOf s)
 unfolding judge lentOf restOf chartRules
 judge-parts file.fresh = refl
 judge-parts (file.opened p) = plan-parts p
@@ -93,7 +93,7 @@ total-due n p e =
 plan-held : (p : Plan) → PlanFits p → passed ≡ lentRules (count p) p → PlanHeld p
 plan-held p f e = let h = f .high in let t = total-due (count p) p e in record { few = h; room = omega arith }
 
-sheet-held : (s : file.Sheet) → Fits s → passed ≡ lentOf s → Held s
+pub sheet-held : (s : file.Sheet) → Fits s → passed ≡ lentOf s → Held s
 unfolding lentOf
 sheet-held file.fresh f e = absurd f
 sheet-held (file.opened p) f e = plan-held p f e
@@ -149,7 +149,8 @@ roomy (file.labelled p ls) h f = let e = h .1 in let m = h .0 .room in pack-room
 roomy (file.charted p ls c) h f = let e = h .1 in let m = h .0 .room in pack-roomy Charted p ls c (h .0) (f .0 .low) (omega arith)
 
 -- a judgement, and the sheet it leaves
-as-answer : (j : Outcome (Unit {0})) (s : file.Sheet) → j ≡ (j >> accepted s >> passed)
+as-answer : (j : Outcome (Unit {0})) (s : file.Sheet) → j ≡ answerOf (j >> accepted s)
+unfolding answerOf
 as-answer (accepted t) s = refl
 as-answer (refused k at) s = refl
 
@@ -180,7 +181,7 @@ module _ (b : List ℕ) (o : Outcome file.Sheet) (is : o ≡ decode b) where
         go (accepted s) d f = let fit = read-fits b s d in roomy s (sheet-held s fit f) fit
 
     abbrev Answers : Sheet → Type 0
-    Answers t = (heldRules (t .stage) t ≡ (openCall b >> passed)) × ((first : Sheet) → replaced (heldRules (t .stage) t) first t ≡ after first (openCall b))
+    Answers t = (heldRules (t .stage) t ≡ answerOf (openCall b)) × ((first : Sheet) → replaced (heldRules (t .stage) t) first t ≡ after first (openCall b))
 
     -- 8 to 12 decide
     pub open-late : Answers copy
@@ -193,7 +194,7 @@ module _ (b : List ℕ) (o : Outcome file.Sheet) (is : o ≡ decode b) where
             let fit = read-fits b s d in
             let rules : heldRules (packed s .stage) (packed s) ≡ judge s = rules-packed s (sheet-held s fit f) fit ∙ sym (judge-parts s ∙ ap (λ (l : Outcome (Unit {0})). l >> restOf s) (sym f)) in
             let call : openCall b ≡ (judge s >> accepted s) = ap (λ (r : Outcome file.Sheet). r >>= λ (t : file.Sheet). judge t >> accepted t) d in (
-              rules ∙ as-answer (judge s) s ∙ ap (λ (r : Outcome file.Sheet). r >> passed) (sym call),
+              rules ∙ as-answer (judge s) s ∙ ap answerOf (sym call),
               λ first. ap (λ (r : Outcome (Unit {0})). replaced r first (packed s)) rules ∙ as-sheet (judge s) first s ∙ ap (after first) (sym call),
             )
 

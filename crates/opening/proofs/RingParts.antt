@@ -1,7 +1,7 @@
 -- The ring call on the sheet that a file was opened to, and the part of the file that it hands back.
 use Prim.Native.Nat.{ℕ, suc, _+_, _*_, _≤_, _<_}
-use mathlib.Core.Path.{_≡_, refl, sym, ap, _∙_, subst}
-use mathlib.Core.List.{List, [], _∷_, map, List·Memᴰ, List·Memᴰ·head, List·Memᴰ·tail}
+use mathlib.Core.Path.{_≡_, refl, sym, ap, _∙_}
+use mathlib.Core.List.{List, [], _∷_, map, List·Memᴰ·head, List·Memᴰ·tail}
 use mathlib.Core.Bool.{Bool, true, false}
 use native.Mathlib.Omega.{arith}
 use lib.ListN.{length, getD, take, drop}
@@ -21,14 +21,14 @@ use Rattle.model.proofs.Outcomes.{not-both, same-refusal}
 use Rattle.model.proofs.FileWrite.{PlanFits, Fits}
 use Rattle.model.proofs.FileRead.{read-fits}
 use Rattle.model.proofs.RingPart.{open-accepted, ring-accepted, opened-part}
-use Rattle.rings.specs.Tables.{startOf, startsOf}
+use Rattle.rings.specs.Tables.{startsOf}
 use Rattle.framing.specs.Offsets.{partAt}
 use Rattle.framing.proofs.Offsets.{part-whole}
 use Rattle.sheet.specs.declared.Sheet.{Sheet}
 use Rattle.sheet.specs.declared.Stage.{Stage}
 use Rattle.sheet.specs.declared.Stage.the-variants.{Open, Labelled, Charted}
 use Rattle.sheet.specs.Sheets.{pack, noChart, packed}
-use Rattle.sheet.specs.Answers.{after}
+use Rattle.sheet.specs.Answers.{answerOf, after}
 use Rattle.opening.specs.Opening.{heldRing}
 use Rattle.sheet.proofs.Packed.{start-packed, starts-at, size-at}
 
@@ -70,11 +70,11 @@ pack-ring g p ls c u fit = go (ltb u (count p)) refl
         here q = unfold ringStart start in omega arith
 
 -- ---- the ring call after an open call
-pub ring-early : (b : List ℕ) (u k at : ℕ) → refused k at ≡ (openCall b >> passed) → refused k at ≡ ringCall b u
-unfolding ringCall
+pub ring-early : (b : List ℕ) (u k at : ℕ) → refused k at ≡ answerOf (openCall b) → refused k at ≡ ringCall b u
+unfolding ringCall answerOf
 ring-early b u k at e = go (openCall b) e
   where
-    go : (q : Outcome file.Sheet) → refused k at ≡ (q >> passed) → refused k at ≡ (q >>= λ (s : file.Sheet). planOf s >>= λ (p : Plan). Named p u)
+    go : (q : Outcome file.Sheet) → refused k at ≡ answerOf q → refused k at ≡ (q >>= λ (s : file.Sheet). planOf s >>= λ (p : Plan). Named p u)
     go (accepted s) f = not-both f
     go (refused j t) f = let (m, n) = same-refusal f in λ i. refused (m i) (n i)
 
@@ -85,11 +85,11 @@ sheet-ring (file.opened p) u f = pack-ring Open p [] noChart u f
 sheet-ring (file.labelled p ls) u f = pack-ring Labelled p ls noChart u (f .0)
 sheet-ring (file.charted p ls c) u f = pack-ring Charted p ls c u (f .0)
 
-pub ring-late : (b : List ℕ) (u : ℕ) (first t : Sheet) → passed ≡ (openCall b >> passed) → t ≡ after first (openCall b) → heldRing t u ≡ ringCall b u
-unfolding ringCall after
+pub ring-late : (b : List ℕ) (u : ℕ) (first t : Sheet) → passed ≡ answerOf (openCall b) → t ≡ after first (openCall b) → heldRing t u ≡ ringCall b u
+unfolding ringCall answerOf after
 ring-late b u first t e f = ap (λ (r : Sheet). heldRing r u) f ∙ go (openCall b) refl e
   where
-    go : (q : Outcome file.Sheet) → openCall b ≡ q → passed ≡ (q >> passed) → heldRing (after first q) u ≡ (q >>= λ (s : file.Sheet). planOf s >>= λ (p : Plan). Named p u)
+    go : (q : Outcome file.Sheet) → openCall b ≡ q → passed ≡ answerOf q → heldRing (after first q) u ≡ (q >>= λ (s : file.Sheet). planOf s >>= λ (p : Plan). Named p u)
     go (accepted s) d g = sheet-ring s u (read-fits b s (open-accepted b s d .0))
     go (refused k at) d g = not-both (sym g)
 

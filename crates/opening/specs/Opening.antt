@@ -1,10 +1,10 @@
 -- Opening a file: the rules in the parts in which they are judged, first where the rings stand in the file, then on the sheet that is copied from it.
 use Prim.Native.Nat.{ℕ, _+_, _*_, _^_, _≤_, _<_}
 use mathlib.Core.Path.{_≡_}
-use mathlib.Core.List.{List, map}
+use mathlib.Core.List.{List, _++_, map}
 use mathlib.Core.Bool.{Bool}
-use lib.ListN.{length, getD}
-use lib.Dec.{eqb, ltb}
+use lib.ListN.{length, getD, drop}
+use lib.Dec.{eqb, ltb, leb}
 use Rattle.lists.specs.Ranges.{from}
 use Rattle.model.specs.Outcome as model
 use Rattle.model.specs.Outcome.{passed, require, rule, _>>=_, _>>_}
@@ -12,6 +12,7 @@ use Rattle.model.specs.Plan.{Plan, count, badEntry, badRepeat, unreturned, entr
 use Rattle.model.specs.Labels.{labelRules}
 use Rattle.model.specs.Chart.{Chart, chart, sameChart}
 use Rattle.model.specs.File as file
+use Rattle.model.specs.Calls.{openCall}
 use Rattle.rings.specs.Tables.{startsOf}
 use Rattle.framing.specs.Offsets.{wordAt}
 use Rattle.framing.specs.Layouts.{tidied, Enough}
@@ -27,10 +28,6 @@ use Rattle.sheet.specs.Sheets.{heldCount, heldPlan, heldLabels, heldChart}
 unfoldable pub judgedAs : judged.Judged → model.Outcome (Unit {0})
 judgedAs Judged.Passed = passed
 judgedAs (Judged.Refused k at) = model.refused k at
-
--- what a call says of its outcome where an accepted call says only so
-abbrev pub said : {A : Type 0} → model.Outcome A → model.Outcome (Unit {0})
-said o = o >> passed
 
 -- 4 to 7, which are judged in the file
 unfoldable pub lentRules : ℕ → Plan → model.Outcome (Unit {0})
@@ -105,3 +102,13 @@ unfoldable pub heldRing : Sheet → ℕ → model.Outcome (ℕ × ℕ)
 heldRing t u = do
   require (ltb u (t .n)) 17 (t .n)
   model.accepted (10 + 4 * u + 2 * getD (startsOf (t .sizes)) u 0, 2 * getD (t .sizes) u 0)
+
+-- a file of its own length at the front of a buffer, whose later bytes stay; 16 where the buffer is short
+abbrev pub copied : List ℕ → List ℕ → model.Outcome (ℕ × List ℕ)
+copied b buffer = do
+  require (leb (length b) (length buffer)) 16 (length b)
+  model.accepted (length b, b ++ drop (length b) buffer)
+
+-- A file that is opened and written again: the very file
+unfoldable pub copiedBack : List ℕ → List ℕ → model.Outcome (ℕ × List ℕ)
+copiedBack b buffer = openCall b >>= λ (s : file.Sheet). copied b buffer

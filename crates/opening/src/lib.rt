@@ -1,12 +1,12 @@
-// Open: a file is judged part by part, and what it holds replaces the sheet. Ring: the part of a file that is one ring's body.
+// Open: a file is judged part by part, and what it holds replaces the sheet. Ring: the part of a file that is one ring's body. Open and write: the same file again.
 use sheet::Answer;
 use sheet::Outcome;
 use sheet::RingAnswer;
 use sheet::Sheet;
 use sheet::Stage;
+use sheet::Written;
 ghost use mathlib.Core.Path.{_≡_};
 ghost use Prim.Native.Nat.{_<_, _≤_, _^_};
-ghost use lib.ListN.{length};
 ghost use Rattle.lists.specs.Parts.{concat};
 ghost use Rattle.lists.specs.Spans.{stretch, padded};
 ghost use Rattle.model.specs.Labels.{labelRules};
@@ -16,9 +16,10 @@ ghost use Rattle.model.specs.File.{fresh, opened, labelled, charted};
 ghost use Rattle.model.specs.Calls.{openCall, ringCall, ringPart};
 ghost use Rattle.rings.specs.Tables.{startOf, startsOf, table};
 ghost use Rattle.framing.specs.Layouts.{planIn, labelsIn, chartFrom, sheetIn};
-ghost use Rattle.sheet.specs.Sheets.{heldCount, heldPlan, heldLabels, heldChart, packed};
-ghost use Rattle.sheet.specs.Answers.{answerAs, ringAnswerAs, after};
-ghost use Rattle.opening.specs.Opening.{judgedAs, lentRules, flatRules, chartRules, said, lentIn, labelChartRules, drawnRules, heldRules, Roomy, LaidOut, replaced, everyFour, heldRing};
+ghost use Rattle.writing.specs.Files.{bufferAfter};
+ghost use Rattle.sheet.specs.Sheets.{heldPlan, heldLabels, heldChart, packed};
+ghost use Rattle.sheet.specs.Answers.{answerAs, writtenAs, ringAnswerAs, lengthOf, answerOf, after};
+ghost use Rattle.opening.specs.Opening.{judgedAs, lentRules, flatRules, chartRules, lentIn, labelChartRules, drawnRules, heldRules, Roomy, LaidOut, replaced, everyFour, heldRing, copiedBack};
 
 // What rules say: they are kept, or the refusal's number and place.
 enum Judged {
@@ -26,7 +27,7 @@ enum Judged {
     Refused(u8, usize),
 }
 
-// How many entries the rings of n contexts have together.
+// How many entries the rings of n contexts have together, where they begin at these starts.
 fn total_of<'a>(starts: &'a [u16], sizes: &'a [u8], n: usize) -> usize
     requires { ⌜ 0 < n ⌝ }
     requires { ⌜ n ≤ 200 ⌝ }
@@ -410,7 +411,7 @@ fn replace(old: Sheet, new: Sheet) -> Outcome
 
 // Open, at any stage: the file's contents replace everything; a refusal leaves the sheet as it is.
 pub fn open_file(sheet: Sheet, file: &[u8]) -> Outcome
-    ensures { λ r. ⌜ answerAs (r .answer) ≡ said (openCall (now (file .entry))) ⌝ }
+    ensures { λ r. ⌜ answerAs (r .answer) ≡ answerOf (openCall (now (file .entry))) ⌝ }
     ensures { λ r. ⌜ r .sheet ≡ after sheet (openCall (now (file .entry))) ⌝ }
 {
     let layout = framing::frame_file(file);
@@ -459,5 +460,19 @@ pub fn ring<'a>(file: &'a [u8], context: usize) -> &'a [u8]
     match answer {
         RingAnswer::Refused(_, _) => &file[0..0],
         RingAnswer::Part(at, size) => framing::ring_part(file, at, size),
+    }
+}
+
+// Opens a file and writes it again: the buffer then begins with the file's bytes, and its later bytes stay. A refusal leaves the buffer as it is.
+pub fn open_write(file: &[u8], out: &mut [u8]) -> Written
+    ensures { λ r. ⌜ writtenAs r ≡ lengthOf (copiedBack (now (file .entry)) (now (out .entry))) ⌝ }
+    ensures { λ r. ⌜ now (out .exit) ≡ bufferAfter (copiedBack (now (file .entry)) (now (out .entry))) (now (out .entry)) ⌝ }
+{
+    let outcome = open_file(sheet::fresh_sheet(), file);
+    let answer = outcome.answer;
+    let sheet = outcome.sheet;
+    match answer {
+        Answer::Refused(number, place) => Written::Refused(number, place),
+        Answer::Accepted => calls::write(sheet, out),
     }
 }

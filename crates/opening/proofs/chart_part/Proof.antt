@@ -15,35 +15,27 @@ use Rattle.opening.proofs.chart_part.Lts as lts
 use Rattle.opening.proofs.chart_rule.Reads as chart-rule-reads
 use Rattle.opening.proofs.count_of.Reads as count-of-reads
 
--- src/lib.rt:220:13
 cast-n : tie.Need-cast-n
 cast-n c = search needs
 
--- src/lib.rt:226:26
 slice-aggregate-count-of : tie.Need-slice-aggregate-count-of
 slice-aggregate-count-of c = search needs
 
--- src/lib.rt:226:9
 count-of-requires : tie.Need-count-of-requires
 count-of-requires c κs = search needs
 
--- src/lib.rt:227:16
 slice-aggregate-chart-rule : tie.Need-slice-aggregate-chart-rule
 slice-aggregate-chart-rule c = search needs
 
--- src/lib.rt:227:24
 slice-aggregate-chart-rule-2 : tie.Need-slice-aggregate-chart-rule-2
 slice-aggregate-chart-rule-2 c = search needs
 
--- src/lib.rt:227:37
 sub-chart-rule : tie.Need-sub-chart-rule
 sub-chart-rule c = search needs
 
--- src/lib.rt:227:37
 part-chart-rule-start : tie.Need-part-chart-rule-start
 part-chart-rule-start c = search needs
 
--- src/lib.rt:227:37
 part-chart-rule-end : tie.Need-part-chart-rule-end
 unfolding heldCount
 part-chart-rule-end c =
@@ -53,20 +45,16 @@ part-chart-rule-end c =
     let l = q .long in
     omega arith
 
--- src/lib.rt:227:74
 slice-aggregate-chart-rule-3 : tie.Need-slice-aggregate-chart-rule-3
 slice-aggregate-chart-rule-3 c = search needs
 
--- src/lib.rt:227:79
 slice-aggregate-chart-rule-4 : tie.Need-slice-aggregate-chart-rule-4
 slice-aggregate-chart-rule-4 c = search needs
 
--- src/lib.rt:227:5
 chart-rule-requires : tie.Need-chart-rule-requires
 unfolding heldCount
 chart-rule-requires c κs = let q = c .before .before .before .before .before .before .before .before .before .before .before .before .before .before .pre in (q .few, q .room)
 
--- src/lib.rt:216:1
 returns : tie.Need-returns
 unfolding heldPlan heldChart chartOn
 returns c =

@@ -11,11 +11,9 @@ use Rattle.opening.proofs.chart_rule.Lts as lts
 use Rattle.placement.proofs.chart_of.Reads as chart-of-reads
 use Rattle.placement.proofs.same_chart.Reads as same-chart-reads
 
--- src/lib.rt:170:9
 chart-of-requires : tie.Need-chart-of-requires
 chart-of-requires c κs = search needs
 
--- src/lib.rt:172:9
 returns : tie.Need-returns
 unfolding judgedAs
 returns c =
@@ -24,19 +22,15 @@ returns c =
     let k = chartOn (a .n) (a .w) (a .h) (a .xs .now) (a .ys .now) in
     eleven-refused (a .sizes .now) (a .entries .now) (a .n) (a .labels .now) (c .before .before .before .before .before .before .before .before .pre .0) (c .before .before .before .before .before .before .before .before .pre .1) (r .result) (r .ensures .0) k (c .if1 .taken)
 
--- src/lib.rt:176:74
 slice-aggregate-same-chart : tie.Need-slice-aggregate-same-chart
 slice-aggregate-same-chart c = search needs
 
--- src/lib.rt:176:79
 slice-aggregate-same-chart-2 : tie.Need-slice-aggregate-same-chart-2
 slice-aggregate-same-chart-2 c = search needs
 
--- src/lib.rt:176:8
 same-chart-requires : tie.Need-same-chart-requires
 same-chart-requires c κs = search needs
 
--- src/lib.rt:177:9
 returns-2 : tie.Need-returns-2
 unfolding judgedAs
 returns-2 c =
@@ -45,7 +39,6 @@ returns-2 c =
     let k = chartOn (a .n) (a .w) (a .h) (a .xs .now) (a .ys .now) in
     chart-kept (a .sizes .now) (a .entries .now) (a .n) (a .labels .now) (c .before .before .before .before .before .before .before .before .before .before .before .before .before .before .pre .0) (c .before .before .before .before .before .before .before .before .before .before .before .before .before .before .pre .1) (r .result) (r .ensures .0) k (c .before .before .before .before .before .before .if1 .left) (c .before .same-chart .ensures) (c .if2 .taken)
 
--- src/lib.rt:156:1
 returns-3 : tie.Need-returns-3
 unfolding judgedAs
 returns-3 c =

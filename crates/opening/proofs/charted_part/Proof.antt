@@ -13,28 +13,22 @@ use Rattle.opening.proofs.charted_part.Lts as lts
 use Rattle.opening.proofs.chart_part.Reads as chart-part-reads
 use Rattle.opening.proofs.label_part.Reads as label-part-reads
 
--- src/lib.rt:235:9
 label-part-requires : tie.Need-label-part-requires
 label-part-requires c κs = search needs
 
--- src/lib.rt:237:25
 enum-known-judged : tie.Need-enum-known-judged
 enum-known-judged c = search needs
 
--- src/lib.rt:238:27
 enum-told : tie.Need-enum-told
 enum-told c = search needs
 
--- src/lib.rt:238:27
 chart-part-requires : tie.Need-chart-part-requires
 chart-part-requires c κs = search needs
 
--- src/lib.rt:231:1
 returns : tie.Need-returns
 unfolding judgedAs labelChartRules
 returns c = let s = c .before .before .before .before .args .sheet in first-refused (labelRules (heldPlan s) (heldLabels s)) (chartRules (heldPlan s) (heldLabels s) (heldChart s)) (sym (ap judgedAs (c .before .judged .given .1)) ∙ c .before .before .before .label-part .ensures)
 
--- src/lib.rt:231:1
 returns-2 : tie.Need-returns-2
 unfolding judgedAs labelChartRules
 returns-2 c = let s = c .before .before .before .before .args .sheet in first-passed (labelRules (heldPlan s) (heldLabels s)) (chartRules (heldPlan s) (heldLabels s) (heldChart s)) (sym (ap judgedAs (c .before .enum-told .given .1)) ∙ c .before .before .before .label-part .ensures) (c .chart-part .ensures)

@@ -12,67 +12,51 @@ use Rattle.opening.proofs.copy_chart.Reads as copy-chart-reads
 use Rattle.opening.proofs.copy_entries.Reads as copy-entries-reads
 use Rattle.opening.proofs.copy_labels.Reads as copy-labels-reads
 
--- src/lib.rt:323:38
 slice-aggregate-copy-entries : tie.Need-slice-aggregate-copy-entries
 slice-aggregate-copy-entries c = search needs
 
--- src/lib.rt:323:9
 copy-entries-requires : tie.Need-copy-entries-requires
 copy-entries-requires c κs = search needs
 
--- src/lib.rt:324:40
 mul-copy-labels : tie.Need-mul-copy-labels
 mul-copy-labels c = search needs
 
--- src/lib.rt:324:40
 sub-copy-labels : tie.Need-sub-copy-labels
 sub-copy-labels c = search needs
 
--- src/lib.rt:324:9
 copy-labels-requires : tie.Need-copy-labels-requires
 copy-labels-requires c κs = search needs
 
--- src/lib.rt:325:31
 add-copy-chart : tie.Need-add-copy-chart
 add-copy-chart c = search needs
 
--- src/lib.rt:325:9
 copy-chart-requires : tie.Need-copy-chart-requires
 copy-chart-requires c κs = search needs
 
--- src/lib.rt:326:31
 add-copy-chart-2 : tie.Need-add-copy-chart-2
 add-copy-chart-2 c = search needs
 
--- src/lib.rt:326:9
 copy-chart-requires-2 : tie.Need-copy-chart-requires-2
 copy-chart-requires-2 c κs = search needs
 
--- src/lib.rt:327:13
 word-at-requires : tie.Need-word-at-requires
 word-at-requires c κs = search needs
 
--- src/lib.rt:327:13
 cast-w : tie.Need-cast-w
 cast-w c = search needs
 
--- src/lib.rt:328:34
 add-word-at : tie.Need-add-word-at
 add-word-at c = search needs
 
--- src/lib.rt:328:13
 word-at-requires-2 : tie.Need-word-at-requires-2
 word-at-requires-2 c κs = search needs
 
--- src/lib.rt:328:13
 cast-h : tie.Need-cast-h
 cast-h c = search needs
 
--- src/lib.rt:331:12
 cast-t18 : tie.Need-cast-t18
 cast-t18 c = search needs
 
--- src/lib.rt:314:1
 returns : tie.Need-returns
 returns c = let a = c .before .before .before .before .before .before .before .before .args in charted-packed (a .file .now) (a .t3) _ (a .n) (c .before .before .before .before .before .before .before .before .pre .1 .1 .1 .1 .1) (c .before .before .before .before .before .copy-entries .ensures) (labelsIn (a .file .now) (a .n) (a .at)) (a .chart) (c .before .before .before .before .copy-labels .ensures) (c .before .word-at .ensures .0) (c .word-at2 .ensures .0) (c .before .before .before .copy-chart .ensures) (c .before .before .copy-chart2 .ensures)
 

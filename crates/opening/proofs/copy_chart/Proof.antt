@@ -18,47 +18,36 @@ Inv-loop file at n points₀ u₀ points u = (u ≤ n) × Fills 200 (λ (t : ℕ
 abbrev μ-loop : tie.MeasureT-loop
 μ-loop file at n points₀ u₀ points u = n - u
 
--- src/lib.rt:148:5
 loop-holds : tie.Need-loop-holds Inv-loop μ-loop
 loop-holds c = (omega arith, fills-start refl)
 
--- src/lib.rt:149:47
 mul-word-at : tie.Need-mul-word-at Inv-loop μ-loop
 mul-word-at c = search needs
 
--- src/lib.rt:149:42
 add-word-at : tie.Need-add-word-at Inv-loop μ-loop
 add-word-at c = search needs
 
--- src/lib.rt:149:21
 word-at-requires : tie.Need-word-at-requires Inv-loop μ-loop
 word-at-requires c κs = search needs
 
--- src/lib.rt:149:21
 cast-points : tie.Need-cast-points Inv-loop μ-loop
 cast-points c = search needs
 
--- src/lib.rt:149:9
 mul-points : tie.Need-mul-points Inv-loop μ-loop
 mul-points c = search needs
 
--- src/lib.rt:149:9
 array-write-points : tie.Need-array-write-points Inv-loop μ-loop
 array-write-points c = search needs
 
--- src/lib.rt:150:9
 add-u : tie.Need-add-u Inv-loop μ-loop
 add-u c = search needs
 
--- src/lib.rt:148:5
 loop-less : tie.Need-loop-less Inv-loop μ-loop
 loop-less c = search needs
 
--- src/lib.rt:148:5
 loop-again : tie.Need-loop-again Inv-loop μ-loop
 loop-again c = (omega arith, fills-on (c .before .before .loop .inv .1) (omega arith) (omega arith) (c .word-at .ensures .0) refl)
 
--- src/lib.rt:141:1
 returns : tie.Need-returns Inv-loop μ-loop
 returns c = points-copied (c .before .before .before .args .file .now) (c .before .before .before .args .at) (c .before .loop .inv .1) (omega arith)
 

@@ -17,75 +17,57 @@ Inv-loop file sizes n entries₀ u₀ i₀ at₀ entries u i at = Copies file si
 abbrev μ-loop : tie.MeasureT-loop
 μ-loop file sizes n entries₀ u₀ i₀ at₀ entries u i at = (1186 - at) + (n - u)
 
--- src/lib.rt:112:5
 loop-holds : tie.Need-loop-holds Inv-loop μ-loop
 loop-holds c = copies-start refl
 
--- src/lib.rt:113:16
 byte-requires : tie.Need-byte-requires Inv-loop μ-loop
 byte-requires c κs = search needs
 
--- src/lib.rt:114:53
 mul-word-at : tie.Need-mul-word-at Inv-loop μ-loop
 mul-word-at c = let r = copies-room (c .before .before .before .loop .inv) (c .before .before .before .before .before .before .pre .1) (c .before .before .loop-test .taken) (c .before .byte .ensures .0) (c .if1 .taken) in omega arith
 
--- src/lib.rt:114:48
 add-word-at : tie.Need-add-word-at Inv-loop μ-loop
 add-word-at c = let r = copies-room (c .before .before .before .loop .inv) (c .before .before .before .before .before .before .pre .1) (c .before .before .loop-test .taken) (c .before .byte .ensures .0) (c .if1 .taken) in omega arith
 
--- src/lib.rt:114:61
 mul-word-at-2 : tie.Need-mul-word-at-2 Inv-loop μ-loop
 mul-word-at-2 c = let r = copies-room (c .before .before .before .loop .inv) (c .before .before .before .before .before .before .pre .1) (c .before .before .loop-test .taken) (c .before .byte .ensures .0) (c .if1 .taken) in omega arith
 
--- src/lib.rt:114:48
 add-word-at-2 : tie.Need-add-word-at-2 Inv-loop μ-loop
 add-word-at-2 c = let r = copies-room (c .before .before .before .loop .inv) (c .before .before .before .before .before .before .pre .1) (c .before .before .loop-test .taken) (c .before .byte .ensures .0) (c .if1 .taken) in omega arith
 
--- src/lib.rt:114:27
 word-at-requires : tie.Need-word-at-requires Inv-loop μ-loop
 word-at-requires c κs = search needs
 
--- src/lib.rt:114:27
 cast-entries : tie.Need-cast-entries Inv-loop μ-loop
 cast-entries c = search needs
 
--- src/lib.rt:114:13
 mul-entries : tie.Need-mul-entries Inv-loop μ-loop
 mul-entries c = let r = copies-room (c .before .before .before .before .loop .inv) (c .before .before .before .before .before .before .before .pre .1) (c .before .before .before .loop-test .taken) (c .before .before .byte .ensures .0) (c .before .if1 .taken) in omega arith
 
--- src/lib.rt:114:13
 array-write-entries : tie.Need-array-write-entries Inv-loop μ-loop
 array-write-entries c = let r = copies-room (c .before .before .before .before .loop .inv) (c .before .before .before .before .before .before .before .pre .1) (c .before .before .before .loop-test .taken) (c .before .before .byte .ensures .0) (c .before .if1 .taken) in omega arith
 
--- src/lib.rt:115:13
 add-at : tie.Need-add-at Inv-loop μ-loop
 add-at c = let r = copies-room (c .before .before .before .before .loop .inv) (c .before .before .before .before .before .before .before .pre .1) (c .before .before .before .loop-test .taken) (c .before .before .byte .ensures .0) (c .before .if1 .taken) in omega arith
 
--- src/lib.rt:116:13
 add-i : tie.Need-add-i Inv-loop μ-loop
 add-i c = let m = c .before .before .byte .ensures in omega arith
 
--- src/lib.rt:112:5
 loop-less : tie.Need-loop-less Inv-loop μ-loop
 loop-less c = let r = copies-room (c .before .before .before .before .loop .inv) (c .before .before .before .before .before .before .before .pre .1) (c .before .before .before .loop-test .taken) (c .before .before .byte .ensures .0) (c .before .if1 .taken) in omega arith
 
--- src/lib.rt:112:5
 loop-again : tie.Need-loop-again Inv-loop μ-loop
 loop-again c = copies-entry (c .before .before .before .before .loop .inv) (c .before .before .before .before .before .before .before .pre .1) (c .before .before .before .before .before .before .before .pre .0) (c .before .before .before .loop-test .taken) (c .before .before .byte .ensures .0) (c .before .if1 .taken) (c .word-at .ensures .0) refl (omega arith) (omega arith)
 
--- src/lib.rt:118:13
 add-u : tie.Need-add-u Inv-loop μ-loop
 add-u c = search needs
 
--- src/lib.rt:112:5
 loop-less-2 : tie.Need-loop-less-2 Inv-loop μ-loop
 loop-less-2 c = search needs
 
--- src/lib.rt:112:5
 loop-again-2 : tie.Need-loop-again-2 Inv-loop μ-loop
 loop-again-2 c = copies-ring (c .before .before .before .loop .inv) (c .before .before .loop-test .taken) (c .before .byte .ensures .0) (c .if1 .left) (omega arith)
 
--- src/lib.rt:103:1
 returns : tie.Need-returns Inv-loop μ-loop
 returns c = copies-end (c .before .loop .inv) (c .loop-test .left)
 

@@ -18,39 +18,30 @@ Inv-loop file at count labels₀ i₀ labels i = (i ≤ count) × Fills 1186 (λ
 abbrev μ-loop : tie.MeasureT-loop
 μ-loop file at count labels₀ i₀ labels i = count - i
 
--- src/lib.rt:133:5
 loop-holds : tie.Need-loop-holds Inv-loop μ-loop
 loop-holds c = (omega arith, fills-start refl)
 
--- src/lib.rt:134:39
 add-byte : tie.Need-add-byte Inv-loop μ-loop
 add-byte c = search needs
 
--- src/lib.rt:134:21
 byte-requires : tie.Need-byte-requires Inv-loop μ-loop
 byte-requires c κs = search needs
 
--- src/lib.rt:134:21
 cast-labels : tie.Need-cast-labels Inv-loop μ-loop
 cast-labels c = search needs
 
--- src/lib.rt:134:9
 array-write-labels : tie.Need-array-write-labels Inv-loop μ-loop
 array-write-labels c = search needs
 
--- src/lib.rt:135:9
 add-i : tie.Need-add-i Inv-loop μ-loop
 add-i c = search needs
 
--- src/lib.rt:133:5
 loop-less : tie.Need-loop-less Inv-loop μ-loop
 loop-less c = search needs
 
--- src/lib.rt:133:5
 loop-again : tie.Need-loop-again Inv-loop μ-loop
 loop-again c = (omega arith, fills-on (c .before .before .loop .inv .1) (omega arith) (omega arith) (c .byte .ensures .0) refl)
 
--- src/lib.rt:126:1
 returns : tie.Need-returns Inv-loop μ-loop
 returns c = labels-copied (c .before .before .before .args .file .now) (c .before .before .before .args .at) (c .before .loop .inv .1) (omega arith)
 

@@ -11,46 +11,36 @@ use Rattle.opening.proofs.drawn_part.Lts as lts
 use Rattle.opening.proofs.charted_part.Reads as charted-part-reads
 use Rattle.opening.proofs.label_part.Reads as label-part-reads
 
--- src/lib.rt:249:25
 enum-told : tie.Need-enum-told
 enum-told c = search needs
 
--- src/lib.rt:250:24
 enum-told-2 : tie.Need-enum-told-2
 enum-told-2 c = search needs
 
--- src/lib.rt:251:28
 enum-told-3 : tie.Need-enum-told-3
 enum-told-3 c = search needs
 
--- src/lib.rt:251:28
 label-part-requires : tie.Need-label-part-requires
 label-part-requires c κs = search needs
 
--- src/lib.rt:252:27
 enum-told-4 : tie.Need-enum-told-4
 enum-told-4 c = search needs
 
--- src/lib.rt:252:27
 charted-part-requires : tie.Need-charted-part-requires
 charted-part-requires c κs = search needs
 
--- src/lib.rt:243:1
 returns : tie.Need-returns
 unfolding judgedAs drawnRules
 returns c = ap (λ (g : Stage). drawnRules g (c .before .before .args .sheet)) (sym (c .enum-told .given .1))
 
--- src/lib.rt:243:1
 returns-2 : tie.Need-returns-2
 unfolding judgedAs drawnRules
 returns-2 c = ap (λ (g : Stage). drawnRules g (c .before .before .args .sheet)) (sym (c .enum-told2 .given .1))
 
--- src/lib.rt:243:1
 returns-3 : tie.Need-returns-3
 unfolding judgedAs drawnRules
 returns-3 c = c .label-part .ensures ∙ ap (λ (g : Stage). drawnRules g (c .before .before .before .args .sheet)) (sym (c .before .enum-told3 .given .1))
 
--- src/lib.rt:243:1
 returns-4 : tie.Need-returns-4
 unfolding judgedAs drawnRules
 returns-4 c = c .charted-part .ensures ∙ ap (λ (g : Stage). drawnRules g (c .before .before .before .args .sheet)) (sym (c .before .enum-told4 .given .1))

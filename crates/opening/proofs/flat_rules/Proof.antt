@@ -16,11 +16,9 @@ use Rattle.opening.proofs.flat_rules.Lts as lts
 use Rattle.faces.proofs.rule8_place.Reads as rule8-place-reads
 use Rattle.faces.proofs.rule9_place.Reads as rule9-place-reads
 
--- src/lib.rt:79:9
 rule8-place-requires : tie.Need-rule8-place-requires
 rule8-place-requires c κs = search needs
 
--- src/lib.rt:81:9
 returns : tie.Need-returns
 unfolding judgedAs table
 returns c =
@@ -29,11 +27,9 @@ returns c =
     let p = table (a .sizes .now) (a .entries .now) (a .n) in
     eight-refused (a .n) p (c .before .rule8-place .ensures ∙ ap (λ (l : List ℕ). lowest (badBorder (rows l (a .sizes .now) (a .entries .now) (a .n))) 4) s) (c .if1 .taken)
 
--- src/lib.rt:83:9
 rule9-place-requires : tie.Need-rule9-place-requires
 rule9-place-requires c κs = search needs
 
--- src/lib.rt:85:9
 returns-2 : tie.Need-returns-2
 unfolding judgedAs table
 returns-2 c =
@@ -42,7 +38,6 @@ returns-2 c =
     let p = table (a .sizes .now) (a .entries .now) (a .n) in
     nine-refused (a .n) p (c .before .before .before .rule8-place .ensures ∙ ap (λ (l : List ℕ). lowest (badBorder (rows l (a .sizes .now) (a .entries .now) (a .n))) 4) s) (c .before .before .if1 .left) (c .before .rule9-place .ensures ∙ ap (λ (l : List ℕ). lowest (badFace (rows l (a .sizes .now) (a .entries .now) (a .n))) (a .n)) s) (c .if2 .taken)
 
--- src/lib.rt:75:1
 returns-3 : tie.Need-returns-3
 unfolding judgedAs table
 returns-3 c =

@@ -12,28 +12,22 @@ use Rattle.opening.proofs.held_rules.Lts as lts
 use Rattle.opening.proofs.drawn_part.Reads as drawn-part-reads
 use Rattle.opening.proofs.flat_part.Reads as flat-part-reads
 
--- src/lib.rt:261:9
 flat-part-requires : tie.Need-flat-part-requires
 flat-part-requires c κs = search needs
 
--- src/lib.rt:263:25
 enum-known-judged : tie.Need-enum-known-judged
 enum-known-judged c = search needs
 
--- src/lib.rt:264:27
 enum-told : tie.Need-enum-told
 enum-told c = search needs
 
--- src/lib.rt:264:27
 drawn-part-requires : tie.Need-drawn-part-requires
 drawn-part-requires c κs = search needs
 
--- src/lib.rt:257:1
 returns : tie.Need-returns
 unfolding judgedAs heldRules
 returns c = let s = c .before .before .before .before .args .sheet in first-refused (flatRules (s .n) (heldPlan s)) (drawnRules (s .stage) s) (sym (ap judgedAs (c .before .judged .given .1)) ∙ c .before .before .before .flat-part .ensures)
 
--- src/lib.rt:257:1
 returns-2 : tie.Need-returns-2
 unfolding judgedAs heldRules
 returns-2 c = let s = c .before .before .before .before .args .sheet in first-passed (flatRules (s .n) (heldPlan s)) (drawnRules (s .stage) s) (sym (ap judgedAs (c .before .enum-told .given .1)) ∙ c .before .before .before .flat-part .ensures) (c .drawn-part .ensures)

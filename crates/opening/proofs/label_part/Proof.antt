@@ -13,35 +13,27 @@ use Rattle.opening.proofs.label_part.Lts as lts
 use Rattle.opening.proofs.count_of.Reads as count-of-reads
 use Rattle.opening.proofs.label_rule.Reads as label-rule-reads
 
--- src/lib.rt:207:13
 cast-n : tie.Need-cast-n
 cast-n c = search needs
 
--- src/lib.rt:211:26
 slice-aggregate-count-of : tie.Need-slice-aggregate-count-of
 slice-aggregate-count-of c = search needs
 
--- src/lib.rt:211:9
 count-of-requires : tie.Need-count-of-requires
 count-of-requires c κs = search needs
 
--- src/lib.rt:212:16
 slice-aggregate-label-rule : tie.Need-slice-aggregate-label-rule
 slice-aggregate-label-rule c = search needs
 
--- src/lib.rt:212:24
 slice-aggregate-label-rule-2 : tie.Need-slice-aggregate-label-rule-2
 slice-aggregate-label-rule-2 c = search needs
 
--- src/lib.rt:212:37
 sub-label-rule : tie.Need-sub-label-rule
 sub-label-rule c = search needs
 
--- src/lib.rt:212:37
 part-label-rule-start : tie.Need-part-label-rule-start
 part-label-rule-start c = search needs
 
--- src/lib.rt:212:37
 part-label-rule-end : tie.Need-part-label-rule-end
 unfolding heldCount
 part-label-rule-end c =
@@ -51,11 +43,9 @@ part-label-rule-end c =
     let l = q .long in
     omega arith
 
--- src/lib.rt:212:5
 label-rule-requires : tie.Need-label-rule-requires
 label-rule-requires c κs = search needs
 
--- src/lib.rt:203:1
 returns : tie.Need-returns
 unfolding heldPlan
 returns c =

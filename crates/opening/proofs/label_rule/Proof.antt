@@ -9,16 +9,13 @@ use Rattle.opening.proofs.label_rule.Reads as reads
 use Rattle.opening.proofs.label_rule.Lts as lts
 use Rattle.labels.proofs.rules.rules_place.Reads as rules-place-reads
 
--- src/lib.rt:95:9
 rules-place-requires : tie.Need-rules-place-requires
 rules-place-requires c κs = search needs
 
--- src/lib.rt:97:9
 returns : tie.Need-returns
 unfolding judgedAs
 returns c = let a = c .before .before .before .before .before .args in ten-refused (a .sizes .now) (a .entries .now) (a .n) (a .labels .now) (c .before .before .before .before .before .pre) (c .before .rules-place .ensures .0) (c .if1 .taken)
 
--- src/lib.rt:91:1
 returns-2 : tie.Need-returns-2
 unfolding judgedAs
 returns-2 c = let a = c .before .before .before .before .before .args in ten-passed (a .sizes .now) (a .entries .now) (a .n) (a .labels .now) (c .before .before .before .before .before .pre) (c .before .rules-place .ensures .0) (c .if1 .left)

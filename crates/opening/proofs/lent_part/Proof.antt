@@ -11,68 +11,54 @@ use Rattle.opening.proofs.lent_part.Reads as reads
 use Rattle.opening.proofs.lent_part.Lts as lts
 use Rattle.opening.proofs.ring_rules.Reads as ring-rules-reads
 
--- src/lib.rt:368:52
 enum-told : tie.Need-enum-told
 enum-told c = search needs
 
--- src/lib.rt:368:52
 slice-aggregate-ring-rules : tie.Need-slice-aggregate-ring-rules
 slice-aggregate-ring-rules c = search needs
 
--- src/lib.rt:368:35
 ring-rules-requires : tie.Need-ring-rules-requires
 ring-rules-requires c κs = (enough-found (c .before .before .before .before .before .args .layout .n) (c .before .before .before .before .before .args .layout .found) Opened (c .before .enum-told .given .1) tt (c .before .before .before .before .before .pre .enough), c .before .before .before .before .before .pre .few)
 
--- src/lib.rt:369:54
 enum-told-2 : tie.Need-enum-told-2
 enum-told-2 c = search needs
 
--- src/lib.rt:369:54
 slice-aggregate-ring-rules-2 : tie.Need-slice-aggregate-ring-rules-2
 slice-aggregate-ring-rules-2 c = search needs
 
--- src/lib.rt:369:37
 ring-rules-requires-2 : tie.Need-ring-rules-requires-2
 ring-rules-requires-2 c κs = (enough-found (c .before .before .before .before .before .args .layout .n) (c .before .before .before .before .before .args .layout .found) Labelled (c .before .enum-told2 .given .1) tt (c .before .before .before .before .before .pre .enough), c .before .before .before .before .before .pre .few)
 
--- src/lib.rt:370:53
 enum-told-3 : tie.Need-enum-told-3
 enum-told-3 c = search needs
 
--- src/lib.rt:370:53
 slice-aggregate-ring-rules-3 : tie.Need-slice-aggregate-ring-rules-3
 slice-aggregate-ring-rules-3 c = search needs
 
--- src/lib.rt:370:36
 ring-rules-requires-3 : tie.Need-ring-rules-requires-3
 ring-rules-requires-3 c κs = (enough-found (c .before .before .before .before .before .args .layout .n) (c .before .before .before .before .before .args .layout .found) Charted (c .before .enum-told3 .given .1) tt (c .before .before .before .before .before .pre .enough), c .before .before .before .before .before .pre .few)
 
--- src/lib.rt:371:33
 enum-known-found : tie.Need-enum-known-found
 enum-known-found c = search needs
 
--- src/lib.rt:360:1
 returns : tie.Need-returns
 unfolding judgedAs lentOf lentIn
 returns c =
     let a = c .before .before .before .before .before .before .args in
     c .ring-rules .ensures ∙ lent-judged (a .file .now) (a .layout .sizes) (a .layout .n) ∙ ap lentIn (lent-found (a .file .now) (a .layout) Opened (c .before .before .enum-told .given .1))
 
--- src/lib.rt:360:1
 returns-2 : tie.Need-returns-2
 unfolding judgedAs lentOf lentIn
 returns-2 c =
     let a = c .before .before .before .before .before .before .args in
     c .ring-rules2 .ensures ∙ lent-judged (a .file .now) (a .layout .sizes) (a .layout .n) ∙ ap lentIn (lent-found (a .file .now) (a .layout) Labelled (c .before .before .enum-told2 .given .1))
 
--- src/lib.rt:360:1
 returns-3 : tie.Need-returns-3
 unfolding judgedAs lentOf lentIn
 returns-3 c =
     let a = c .before .before .before .before .before .before .args in
     c .ring-rules3 .ensures ∙ lent-judged (a .file .now) (a .layout .sizes) (a .layout .n) ∙ ap lentIn (lent-found (a .file .now) (a .layout) Charted (c .before .before .enum-told3 .given .1))
 
--- src/lib.rt:360:1
 returns-4 : tie.Need-returns-4
 unfolding judgedAs lentOf lentIn
 returns-4 c =

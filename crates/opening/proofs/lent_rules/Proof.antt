@@ -21,11 +21,9 @@ use Rattle.lent.proofs.rule5_place.Reads as rule5-place-reads
 use Rattle.lent.proofs.rule6_place.Reads as rule6-place-reads
 use Rattle.opening.proofs.total_of.Reads as total-of-reads
 
--- src/lib.rt:46:9
 rule4-place-requires : tie.Need-rule4-place-requires
 rule4-place-requires c κs = search needs
 
--- src/lib.rt:48:9
 returns : tie.Need-returns
 unfolding judgedAs
 returns c =
@@ -34,11 +32,9 @@ returns c =
     let p = planIn (a .file .now) (a .sizes .now) (a .n) in
     four-refused (a .n) p (c .before .rule4-place .ensures ∙ ap (λ (l : List ℕ). lowest (badEntry (lent l (a .sizes .now) (a .file .now) (a .n))) (a .n)) s) (c .if1 .taken)
 
--- src/lib.rt:50:9
 rule5-place-requires : tie.Need-rule5-place-requires
 rule5-place-requires c κs = search needs
 
--- src/lib.rt:52:9
 returns-2 : tie.Need-returns-2
 unfolding judgedAs
 returns-2 c =
@@ -47,11 +43,9 @@ returns-2 c =
     let p = planIn (a .file .now) (a .sizes .now) (a .n) in
     five-refused (a .n) p (c .before .before .before .rule4-place .ensures ∙ ap (λ (l : List ℕ). lowest (badEntry (lent l (a .sizes .now) (a .file .now) (a .n))) (a .n)) s) (c .before .before .if1 .left) (c .before .rule5-place .ensures ∙ ap (λ (l : List ℕ). lowest (badRepeat (lent l (a .sizes .now) (a .file .now) (a .n))) (a .n)) s) (c .if2 .taken)
 
--- src/lib.rt:54:9
 rule6-place-requires : tie.Need-rule6-place-requires
 rule6-place-requires c κs = search needs
 
--- src/lib.rt:56:9
 returns-3 : tie.Need-returns-3
 unfolding judgedAs
 returns-3 c =
@@ -60,19 +54,15 @@ returns-3 c =
     let p = planIn (a .file .now) (a .sizes .now) (a .n) in
     six-refused (a .n) p (c .before .before .before .before .before .rule4-place .ensures ∙ ap (λ (l : List ℕ). lowest (badEntry (lent l (a .sizes .now) (a .file .now) (a .n))) (a .n)) s) (c .before .before .before .before .if1 .left) (c .before .before .before .rule5-place .ensures ∙ ap (λ (l : List ℕ). lowest (badRepeat (lent l (a .sizes .now) (a .file .now) (a .n))) (a .n)) s) (c .before .before .if2 .left) (c .before .rule6-place .ensures ∙ ap (λ (l : List ℕ). lowest (unreturned (lent l (a .sizes .now) (a .file .now) (a .n))) (a .n)) s) (c .if3 .taken)
 
--- src/lib.rt:58:8
 total-of-requires : tie.Need-total-of-requires
 total-of-requires c κs = search needs
 
--- src/lib.rt:58:38
 mul-if4 : tie.Need-mul-if4
 mul-if4 c = search needs
 
--- src/lib.rt:58:38
 sub-if4 : tie.Need-sub-if4
 sub-if4 c = search needs
 
--- src/lib.rt:59:9
 returns-4 : tie.Need-returns-4
 unfolding judgedAs
 returns-4 c =
@@ -81,7 +71,6 @@ returns-4 c =
     let p = planIn (a .file .now) (a .sizes .now) (a .n) in
     seven-refused (a .n) p (c .before .before .before .before .before .before .before .rule4-place .ensures ∙ ap (λ (l : List ℕ). lowest (badEntry (lent l (a .sizes .now) (a .file .now) (a .n))) (a .n)) s) (c .before .before .before .before .before .before .if1 .left) (c .before .before .before .before .before .rule5-place .ensures ∙ ap (λ (l : List ℕ). lowest (badRepeat (lent l (a .sizes .now) (a .file .now) (a .n))) (a .n)) s) (c .before .before .before .before .if2 .left) (c .before .before .before .rule6-place .ensures ∙ ap (λ (l : List ℕ). lowest (unreturned (lent l (a .sizes .now) (a .file .now) (a .n))) (a .n)) s) (c .before .before .if3 .left) (entry-count-lent (startsOf (a .sizes .now)) (a .sizes .now) (a .file .now) (a .n) ∙ sym (c .before .total-of .ensures)) (c .if4 .taken)
 
--- src/lib.rt:40:1
 returns-5 : tie.Need-returns-5
 unfolding judgedAs
 returns-5 c =

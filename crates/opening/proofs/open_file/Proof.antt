@@ -1,10 +1,9 @@
 -- open_file meets its contract.
+use Rattle.model.specs.File.{fresh}
+use Rattle.sheet.specs.Answers.{answerOf, after}
 use mathlib.Core.Path.{_≡_, refl, sym, ap, _∙_}
-use Rattle.model.specs.Outcome.{Outcome, passed, _>>_}
-use Rattle.model.specs.File.{Sheet, fresh}
 use Rattle.framing.specs.Layouts.{sheetIn}
 use Rattle.sheet.specs.Sheets.{packed}
-use Rattle.sheet.specs.Answers.{after}
 use Rattle.opening.specs.Opening.{judgedAs}
 use Rattle.opening.proofs.Opened.{open-early, open-late, copy-roomy, room-in}
 use native.Mathlib.Omega.{arith}
@@ -19,29 +18,23 @@ use Rattle.opening.proofs.lent_part.Reads as lent-part-reads
 use Rattle.opening.proofs.refuse.Reads as refuse-reads
 use Rattle.opening.proofs.replace.Reads as replace-reads
 
--- src/lib.rt:407:9
 frame-file-requires : tie.Need-frame-file-requires
 frame-file-requires c κs = search needs
 
--- src/lib.rt:408:9
 lent-part-requires : tie.Need-lent-part-requires
 lent-part-requires c κs =
     let e = c .frame-file .ensures in
     record { tidy = e .1 .0; enough = e .1 .1 .0; few = e .1 .1 .1 .0; labels-near = e .1 .1 .1 .1 .0; chart-near = e .1 .1 .1 .1 .1 }
 
--- src/lib.rt:410:25
 enum-known-judged : tie.Need-enum-known-judged
 enum-known-judged c = search needs
 
--- src/lib.rt:410:43
 refuse-requires : tie.Need-refuse-requires
 refuse-requires c κs = search needs
 
--- src/lib.rt:411:42
 enum-told : tie.Need-enum-told
 enum-told c = search needs
 
--- src/lib.rt:411:42
 copy-sheet-requires : tie.Need-copy-sheet-requires
 unfolding judgedAs
 copy-sheet-requires c κs =
@@ -51,7 +44,6 @@ copy-sheet-requires c κs =
       room-in f (c .before .before .before .frame-file .result) (e .1 .1 .1 .0) (sym (ap judgedAs (c .enum-told .given .1)) ∙ c .before .before .lent-part .ensures),
     )
 
--- src/lib.rt:411:27
 replace-requires : tie.Need-replace-requires
 unfolding judgedAs
 replace-requires c κs =
@@ -59,18 +51,16 @@ replace-requires c κs =
     let l = c .before .before .before .before .frame-file in
     copy-roomy f (sheetIn f (l .result)) (l .ensures .0) (sym (ap judgedAs (c .before .enum-told .given .1)) ∙ c .before .before .before .lent-part .ensures) (packed fresh) (c .copy-sheet .result) (c .copy-sheet .ensures)
 
--- src/lib.rt:403:1
 returns : tie.Need-returns
-unfolding judgedAs after
+unfolding judgedAs answerOf after
 returns c =
     let f = c .before .before .before .before .before .before .before .args .file .now in
     let l = c .before .before .before .before .before .frame-file in
     let e = open-early f (sheetIn f (l .result)) (l .ensures .0) _ _ (sym (ap judgedAs (c .before .before .judged .given .1)) ∙ c .before .before .before .before .lent-part .ensures) in
-    (c .refuse .ensures .0 ∙ ap (λ (o : Outcome Sheet). o >> passed) (sym e), c .refuse .ensures .1 ∙ ap (after (c .before .before .before .before .before .before .before .args .sheet)) (sym e))
+    (c .refuse .ensures .0 ∙ ap answerOf (sym e), c .refuse .ensures .1 ∙ ap (after (c .before .before .before .before .before .before .before .args .sheet)) (sym e))
 
--- src/lib.rt:403:1
 returns-2 : tie.Need-returns-2
-unfolding judgedAs after
+unfolding judgedAs answerOf after
 returns-2 c =
     let f = c .before .before .before .before .before .before .before .args .file .now in
     let l = c .before .before .before .before .before .frame-file in

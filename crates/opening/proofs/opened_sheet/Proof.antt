@@ -8,19 +8,15 @@ use Rattle.opening.proofs.opened_sheet.Reads as reads
 use Rattle.opening.proofs.opened_sheet.Lts as lts
 use Rattle.opening.proofs.copy_entries.Reads as copy-entries-reads
 
--- src/lib.rt:275:38
 slice-aggregate-copy-entries : tie.Need-slice-aggregate-copy-entries
 slice-aggregate-copy-entries c = search needs
 
--- src/lib.rt:275:9
 copy-entries-requires : tie.Need-copy-entries-requires
 copy-entries-requires c κs = search needs
 
--- src/lib.rt:278:12
 cast-t9 : tie.Need-cast-t9
 cast-t9 c = search needs
 
--- src/lib.rt:269:1
 returns : tie.Need-returns
 returns c = let a = c .before .before .before .args in opened-packed (a .file .now) (a .t3) _ (a .n) (c .before .before .before .pre .1 .1) (c .copy-entries .ensures)
 

@@ -8,7 +8,6 @@ use Rattle.opening.proofs.refuse.Tie as tie
 use Rattle.opening.proofs.refuse.Reads as reads
 use Rattle.opening.proofs.refuse.Lts as lts
 
--- src/lib.rt:376:1
 returns : tie.Need-returns
 unfolding answerAs
 returns c = (refl, refl)

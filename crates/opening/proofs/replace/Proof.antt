@@ -12,23 +12,18 @@ use Rattle.opening.proofs.replace.Lts as lts
 use Rattle.opening.proofs.held_rules.Reads as held-rules-reads
 use Rattle.opening.proofs.refuse.Reads as refuse-reads
 
--- src/lib.rt:392:9
 held-rules-requires : tie.Need-held-rules-requires
 held-rules-requires c κs = search needs
 
--- src/lib.rt:394:25
 enum-known-judged : tie.Need-enum-known-judged
 enum-known-judged c = search needs
 
--- src/lib.rt:394:43
 refuse-requires : tie.Need-refuse-requires
 refuse-requires c κs = search needs
 
--- src/lib.rt:396:21
 enum-told : tie.Need-enum-told
 enum-told c = search needs
 
--- src/lib.rt:387:1
 returns : tie.Need-returns
 unfolding judgedAs answerAs replaced
 returns c =
@@ -36,7 +31,6 @@ returns c =
     let e = sym (ap judgedAs (c .before .before .judged .given .1)) ∙ c .before .before .before .before .held-rules .ensures in
     (c .refuse .ensures .0 ∙ e, c .refuse .ensures .1 ∙ ap (λ (o : Outcome (Unit {0})). replaced o (a .old) (a .new)) e)
 
--- src/lib.rt:387:1
 returns-2 : tie.Need-returns-2
 unfolding judgedAs answerAs replaced
 returns-2 c =

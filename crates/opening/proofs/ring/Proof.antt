@@ -12,40 +12,31 @@ use Rattle.opening.proofs.ring.Lts as lts
 use Rattle.framing.proofs.ring_part.Reads as ring-part-reads
 use Rattle.opening.proofs.ring_answer.Reads as ring-answer-reads
 
--- src/lib.rt:455:9
 ring-answer-requires : tie.Need-ring-answer-requires
 ring-answer-requires c κs = search needs
 
--- src/lib.rt:457:38
 enum-told : tie.Need-enum-told
 enum-told c = search needs
 
--- src/lib.rt:457:38
 sub-result : tie.Need-sub-result
 sub-result c = search needs
 
--- src/lib.rt:457:38
 part-result-start : tie.Need-part-result-start
 part-result-start c = search needs
 
--- src/lib.rt:457:38
 part-result-end : tie.Need-part-result-end
 part-result-end c = search needs
 
--- src/lib.rt:458:26
 enum-known-answer : tie.Need-enum-known-answer
 enum-known-answer c = search needs
 
--- src/lib.rt:458:39
 ring-part-requires : tie.Need-ring-part-requires
 ring-part-requires c κs = search needs
 
--- src/lib.rt:452:1
 returns : tie.Need-returns
 unfolding ringPart ringAnswerAs
 returns c = let f = c .before .before .before .before .before .args .file .now in ap (ringPart f) (sym (ap ringAnswerAs (c .before .enum-told .given .1)) ∙ c .before .before .before .ring-answer .ensures)
 
--- src/lib.rt:452:1
 returns-2 : tie.Need-returns-2
 unfolding ringPart ringAnswerAs
 returns-2 c =

@@ -12,32 +12,25 @@ use Rattle.sheet.proofs.fresh_sheet.Reads as fresh-sheet-reads
 use Rattle.opening.proofs.open_file.Reads as open-file-reads
 use Rattle.opening.proofs.ring_of.Reads as ring-of-reads
 
--- src/lib.rt:442:29
 fresh-sheet-requires : tie.Need-fresh-sheet-requires
 fresh-sheet-requires c κs = search needs
 
--- src/lib.rt:442:9
 open-file-requires : tie.Need-open-file-requires
 open-file-requires c κs = search needs
 
--- src/lib.rt:446:25
 enum-known-answer : tie.Need-enum-known-answer
 enum-known-answer c = search needs
 
--- src/lib.rt:447:29
 enum-told : tie.Need-enum-told
 enum-told c = search needs
 
--- src/lib.rt:447:29
 ring-of-requires : tie.Need-ring-of-requires
 ring-of-requires c κs = search needs
 
--- src/lib.rt:439:1
 returns : tie.Need-returns
 unfolding answerAs ringAnswerAs
 returns c = let a = c .before .before .before .before .before .before .before .args in ring-early (a .file .now) (a .context) _ _ (sym (ap answerAs (c .before .answer .given .1)) ∙ c .before .before .before .before .open-file .ensures .0)
 
--- src/lib.rt:439:1
 returns-2 : tie.Need-returns-2
 unfolding answerAs ringAnswerAs
 returns-2 c =

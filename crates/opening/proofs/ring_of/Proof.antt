@@ -15,60 +15,46 @@ use Rattle.lists.proofs.byte.Reads as byte-reads
 use Rattle.lists.proofs.num.Reads as num-reads
 use Rattle.rings.proofs.starts_of.Reads as starts-of-reads
 
--- src/lib.rt:428:13
 cast-n : tie.Need-cast-n
 cast-n c = search needs
 
--- src/lib.rt:430:9
 returns : tie.Need-returns
 unfolding ringAnswerAs
 returns c = let a = c .before .before .args in ring-none (a .sheet) (a .context) (c .if1 .taken)
 
--- src/lib.rt:433:28
 slice-aggregate-byte : tie.Need-slice-aggregate-byte
 slice-aggregate-byte c = search needs
 
--- src/lib.rt:433:9
 byte-requires : tie.Need-byte-requires
 byte-requires c κs = search needs
 
--- src/lib.rt:434:35
 slice-aggregate-starts-of : tie.Need-slice-aggregate-starts-of
 slice-aggregate-starts-of c = search needs
 
--- src/lib.rt:434:18
 starts-of-requires : tie.Need-starts-of-requires
 starts-of-requires c κs = search needs
 
--- src/lib.rt:435:27
 mul-t13 : tie.Need-mul-t13
 mul-t13 c = search needs
 
--- src/lib.rt:435:22
 add-t14 : tie.Need-add-t14
 add-t14 c = search needs
 
--- src/lib.rt:435:56
 slice-aggregate-num : tie.Need-slice-aggregate-num
 slice-aggregate-num c = search needs
 
--- src/lib.rt:435:45
 num-requires : tie.Need-num-requires
 num-requires c κs = search needs
 
--- src/lib.rt:435:41
 mul-t18 : tie.Need-mul-t18
 mul-t18 c = search needs
 
--- src/lib.rt:435:22
 add-t19 : tie.Need-add-t19
 add-t19 c = search needs
 
--- src/lib.rt:435:75
 mul-t20 : tie.Need-mul-t20
 mul-t20 c = search needs
 
--- src/lib.rt:425:1
 returns-2 : tie.Need-returns-2
 unfolding ringAnswerAs
 returns-2 c =

@@ -13,27 +13,21 @@ use Rattle.opening.proofs.total_of.Lts as lts
 use Rattle.lists.proofs.byte.Reads as byte-reads
 use Rattle.lists.proofs.num.Reads as num-reads
 
--- src/lib.rt:36:24
 sub-num : tie.Need-sub-num
 sub-num c = search needs
 
--- src/lib.rt:36:5
 num-requires : tie.Need-num-requires
 num-requires c κs = search needs
 
--- src/lib.rt:36:52
 sub-byte : tie.Need-sub-byte
 sub-byte c = search needs
 
--- src/lib.rt:36:33
 byte-requires : tie.Need-byte-requires
 byte-requires c κs = search needs
 
--- src/lib.rt:36:5
 add-result : tie.Need-add-result
 add-result c = search needs
 
--- src/lib.rt:30:1
 returns : tie.Need-returns
 returns c =
     let a = c .before .before .before .before .args in
