@@ -1,0 +1,10 @@
+-- choose::made meets its contract.
+use mathlib.Core.Path.{refl}
+use Rattle.frontier.proofs.choose.made.Statement.{statement}
+use Rattle.frontier.proofs.choose.made.Tie as tie
+
+returns : tie.Need-returns
+returns c = refl
+
+pub made-spec : {M : Type 1} → statement M
+made-spec = tie.close (tie.spec returns)

@@ -1,0 +1,4 @@
+pub mod Folds
+pub mod Run
+pub mod Front
+pub mod Search

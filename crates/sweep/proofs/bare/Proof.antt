@@ -1,0 +1,13 @@
+-- bare meets its contract.
+use mathlib.Core.Path.{refl}
+use Rattle.lists.specs.Spans.{zeros}
+use Rattle.sweep.specs.Run as run
+use Rattle.sweep.proofs.bare.Statement.{statement}
+use Rattle.sweep.proofs.bare.Tie as tie
+
+returns : tie.Need-returns
+unfolding run.bare zeros
+returns c = refl
+
+pub bare-spec : {M : Type 1} → statement M
+bare-spec = tie.close (tie.spec returns)

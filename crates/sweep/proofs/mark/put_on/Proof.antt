@@ -1,0 +1,35 @@
+-- mark::put_on meets its contract.
+use mathlib.Core.Path.{refl, _∙_}
+use native.Mathlib.Omega.{arith}
+use borrow.Author.Needs.{needs}
+use Rattle.sweep.proofs.Draws.{put-in, put-out}
+use Rattle.sweep.proofs.mark.put_on.Statement.{statement}
+use Rattle.sweep.proofs.mark.put_on.Tie as tie
+
+index-of-requires : tie.Need-index-of-requires
+index-of-requires c κs = search needs
+
+size-of-requires : tie.Need-size-of-requires
+size-of-requires c κs = search needs
+
+num-requires : tie.Need-num-requires
+num-requires c κs = search needs
+
+add-store : tie.Need-add-store
+add-store c = search needs
+
+store-requires : tie.Need-store-requires
+store-requires c κs = search needs
+
+returns : tie.Need-returns
+returns c =
+    let a = c .before .before .before .before .before .before .before .before .args in
+    c .store .ensures ∙ put-in (a .starts .now) (a .sizes .now) (a .entries .now) (a .n) (c .before .before .before .before .before .before .before .before .pre .0) (c .before .before .before .before .before .before .before .before .pre .1) (a .u) (a .v) (c .before .num .ensures .0) (c .before .before .before .before .index-of .ensures .0) (c .before .before .before .size-of .ensures .0) (a .labels) (a .l) (omega arith)
+
+returns-2 : tie.Need-returns-2
+returns-2 c =
+    let a = c .before .before .before .before .before .before .args in
+    put-out (a .starts .now) (a .sizes .now) (a .entries .now) (a .n) (c .before .before .before .before .before .before .pre .0) (c .before .before .before .before .before .before .pre .1) (a .u) (a .v) refl (c .before .before .index-of .ensures .0) (c .before .size-of .ensures .0) (a .labels) (a .l) (omega arith)
+
+pub put-on-spec : {M : Type 1} → statement M
+put-on-spec = tie.close (tie.spec index-of-requires size-of-requires num-requires add-store store-requires returns returns-2)

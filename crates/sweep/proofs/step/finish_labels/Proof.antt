@@ -1,0 +1,37 @@
+-- step::finish_labels meets its contract.
+use mathlib.Core.Path.{ap, _∙_}
+use Prim.Native.Nat.{ℕ}
+use borrow.Author.Needs.{needs}
+use Rattle.lists.specs.Spans.{span}
+use Rattle.lists.specs.Parts.{steps}
+use Rattle.model.specs.Labels.{up, right}
+use Rattle.model.specs.Sweep.{labelEdges}
+use Rattle.rings.specs.Tables.{rows}
+use Rattle.sweep.specs.Run as run
+use Rattle.sweep.proofs.step.finish_labels.Statement.{statement}
+use Rattle.sweep.proofs.step.finish_labels.Tie as tie
+
+slice-aggregate-from-one : tie.Need-slice-aggregate-from-one
+slice-aggregate-from-one c = search needs
+
+minus-requires : tie.Need-minus-requires
+minus-requires c κs = search needs
+
+from-one-requires : tie.Need-from-one-requires
+from-one-requires c κs = c .before .before .before .before .before .before .pre
+
+slice-aggregate-along : tie.Need-slice-aggregate-along
+slice-aggregate-along c = search needs
+
+along-requires : tie.Need-along-requires
+along-requires c κs = c .before .before .before .before .before .before .before .before .pre
+
+returns : tie.Need-returns
+unfolding run.finishLabels
+returns c =
+    let a = c .before .before .before .before .before .before .before .before .before .args in
+    let p = rows (a .starts .now) (a .sizes .now) (a .entries .now) (a .n) in
+    c .along .ensures ∙ ap (labelEdges p right (steps (span (a .v .at) 0 (a .v .len)))) (c .before .before .from-one .ensures ∙ ap (λ (e : ℕ). labelEdges p up (run.fan 2 (span (a .v .at) 1 e)) (a .labels)) (c .before .before .before .minus .ensures))
+
+pub finish-labels-spec : {M : Type 1} → statement M
+finish-labels-spec = tie.close (tie.spec slice-aggregate-from-one minus-requires from-one-requires slice-aggregate-along along-requires returns)

@@ -1,0 +1,42 @@
+-- step::step_labels meets its contract.
+use mathlib.Core.Path.{ap, _∙_}
+use Prim.Native.Nat.{_+_}
+use borrow.Author.Needs.{needs}
+use Rattle.lists.specs.Spans.{span}
+use Rattle.lists.specs.Parts.{steps}
+use Rattle.model.specs.Labels.{right}
+use Rattle.model.specs.Sweep.{labelEdges}
+use Rattle.rings.specs.Tables.{rows}
+use Rattle.sweep.specs.Run as run
+use Rattle.sweep.proofs.step.step_labels.Statement.{statement}
+use Rattle.sweep.proofs.step.step_labels.Tie as tie
+
+slice-aggregate-from-all : tie.Need-slice-aggregate-from-all
+slice-aggregate-from-all c = search needs
+
+slice-aggregate-from-all-2 : tie.Need-slice-aggregate-from-all-2
+slice-aggregate-from-all-2 c = search needs
+
+add-from-all : tie.Need-add-from-all
+add-from-all c = search needs
+
+from-all-requires : tie.Need-from-all-requires
+from-all-requires c κs = (c .before .before .before .before .before .before .before .pre .0, c .before .before .before .before .before .before .before .pre .1 .0)
+
+slice-aggregate-along : tie.Need-slice-aggregate-along
+slice-aggregate-along c = search needs
+
+add-along : tie.Need-add-along
+add-along c = search needs
+
+along-requires : tie.Need-along-requires
+along-requires c κs = (c .before .before .before .before .before .before .before .before .before .pre .0, c .before .before .before .before .before .before .before .before .before .pre .1 .0)
+
+returns : tie.Need-returns
+unfolding run.stepLabels
+returns c =
+    let a = c .before .before .before .before .before .before .before .before .before .before .args in
+    c .along .ensures ∙ ap (labelEdges (rows (a .starts .now) (a .sizes .now) (a .entries .now) (a .n)) right (steps (span (a .v .at) (a .i) (a .j + 1)))) (c .before .before .from-all .ensures)
+
+pub step-labels-spec : {M : Type 1} → statement M
+step-labels-spec = tie.close (tie.spec slice-aggregate-from-all slice-aggregate-from-all-2 add-from-all from-all-requires slice-aggregate-along add-along along-requires returns)

@@ -1,0 +1,13 @@
+-- step::stuck meets its contract.
+use mathlib.Core.Path.{refl}
+use Rattle.lists.specs.Spans.{zeros}
+use Rattle.sweep.specs.Run as run
+use Rattle.sweep.proofs.step.stuck.Statement.{statement}
+use Rattle.sweep.proofs.step.stuck.Tie as tie
+
+returns : tie.Need-returns
+unfolding run.stuck zeros
+returns c = refl
+
+pub stuck-spec : {M : Type 1} → statement M
+stuck-spec = tie.close (tie.spec returns)

@@ -1,0 +1,113 @@
+// The first frontier and the first labels.
+ghost use mathlib.Core.Path.{_≡_};
+ghost use Prim.Native.Nat.{ℕ, _+_, _≤_, _<_};
+ghost use Rattle.lists.specs.Spans.{padded};
+ghost use Rattle.model.specs.Plan.{entryCount};
+ghost use Rattle.model.specs.Sweep.{bareLabels};
+ghost use Rattle.rings.specs.Tables.{rows};
+ghost use Rattle.sweep.specs.Run as run;
+use frontier::Line;
+
+// West, North's inner neighbours from West's side to East's, East.
+fn front<'a>(starts: &'a [u16], sizes: &'a [u8], entries: &'a [u16], n: usize) -> Line
+    ensures { λ r. ⌜ r ≡ run.front (rows (now (starts .entry)) (now (sizes .entry)) (now (entries .entry)) n) ⌝ }
+{
+    let mut v = frontier::list::push(frontier::list::fresh([0u8; 256]), 3);
+    let mut t = frontier::minus(rings::size_of(sizes, n, 0), 2);
+    while t > 0 {
+        v = frontier::list::push(v, frontier::entry_at(starts, sizes, entries, n, 0, t));
+        t -= 1;
+    }
+    frontier::list::push(v, 1)
+}
+
+// A mark for each of the first m contexts.
+fn marked(f: &[u16], m: usize) -> [u8; 256]
+    ensures { λ r. ⌜ r ≡ run.marked (now (f .entry)) m ⌝ }
+{
+    let mut marks = [0u8; 256];
+    let mut k = 0;
+    while k < m {
+        let c = lists::num(f, k);
+        k += 1;
+        if c < 256 {
+            marks[c] = 1;
+        }
+    }
+    marks
+}
+
+// The first frontier, all its contexts marked.
+pub fn first_line<'a>(starts: &'a [u16], sizes: &'a [u8], entries: &'a [u16], n: usize) -> Line
+    ensures { λ r. ⌜ r ≡ run.firstLine (rows (now (starts .entry)) (now (sizes .entry)) (now (entries .entry)) n) ⌝ }
+{
+    let v = front(starts, sizes, entries, n);
+    let at = v.at;
+    let marks = marked(&at, v.len);
+    Line {
+        ok: v.ok,
+        len: v.len,
+        at,
+        marks,
+    }
+}
+
+// 4 between border contexts, 5 elsewhere: no label yet.
+fn bare_label(u: usize, v: usize) -> u8
+    ensures { λ r. ⌜ r ≡ run.bareLabel u v ⌝ }
+{
+    if u < 4 {
+        if v < 4 {
+            return 4;
+        }
+        return 5;
+    }
+    5
+}
+
+// The labels with those of u's ring put at k and after.
+fn bare_ring<'a>(
+    starts: &'a [u16],
+    sizes: &'a [u8],
+    entries: &'a [u16],
+    n: usize,
+    labels: [u8; 1186],
+    k: usize,
+    u: usize,
+) -> [u8; 1186]
+    requires { ⌜ k ≤ 1186 ⌝ }
+    ensures { λ r. ⌜ run.Adds (rows (now (starts .entry)) (now (sizes .entry)) (now (entries .entry)) n) k u labels r ⌝ }
+{
+    let q = rings::size_of(sizes, n, u);
+    let mut b = labels;
+    let mut t = 0;
+    while t < q {
+        let l = bare_label(u, rings::neighbour_at(starts, sizes, entries, n, u, t));
+        let d = crate::mark::store(b, k + t, l);
+        b = d;
+        t += 1;
+    }
+    b
+}
+
+// The labels before the sweep.
+pub fn bare_labels<'a>(
+    starts: &'a [u16],
+    sizes: &'a [u8],
+    entries: &'a [u16],
+    n: usize,
+) -> [u8; 1186]
+    requires { ⌜ entryCount (rows (now starts) (now sizes) (now entries) n) ≤ 1186 ⌝ }
+    ensures { λ r. ⌜ r ≡ padded 1186 (bareLabels (rows (now (starts .entry)) (now (sizes .entry)) (now (entries .entry)) n)) ⌝ }
+{
+    let mut b = [0u8; 1186];
+    let mut k = 0;
+    let mut u = 0;
+    while u < n {
+        let d = bare_ring(starts, sizes, entries, n, b, k, u);
+        b = d;
+        k += rings::size_of(sizes, n, u);
+        u += 1;
+    }
+    b
+}

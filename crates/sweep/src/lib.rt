@@ -1,0 +1,67 @@
+// The sweep: labels worked out from North down to South, equal to the model's on every plan that fits the arrays.
+ghost use mathlib.Core.Path.{_≡_};
+ghost use mathlib.Core.List.{[]};
+ghost use Rattle.lists.specs.Spans.{padded};
+ghost use Rattle.model.specs.Outcome.{taken};
+ghost use Rattle.rings.specs.Tables.{table};
+ghost use Rattle.sweep.specs.Run as run;
+ghost use Rattle.sweep.specs.Swept.{outcomeOf, sweepOf};
+
+mod first;
+mod fit;
+mod mark;
+mod step;
+
+// What a sweep answers: labels, stuck (14), the lowest context that breaks the label rules (10), or a plan that does not fit the arrays (13).
+pub enum SweepAnswer {
+    Labelled,
+    Stuck,
+    Broken(usize),
+    Unfit,
+}
+
+// The answer, and the labels; they are zero where there are none.
+pub struct Swept {
+    pub answer: SweepAnswer,
+    pub labels: [u8; 1186],
+}
+
+// The steps ended: finished, with labels, or stuck.
+pub struct Ended {
+    pub finished: bool,
+    pub labels: [u8; 1186],
+}
+
+// An answer with no labels.
+fn bare(answer: SweepAnswer) -> Swept
+    ensures { λ r. ⌜ r ≡ run.bare answer ⌝ }
+{
+    Swept {
+        answer,
+        labels: [0u8; 1186],
+    }
+}
+
+// The labels that the sweep gives for the plan, after the label rules are tested.
+pub fn sweep_labels<'a>(sizes: &'a [u8], entries: &'a [u16], n: usize) -> Swept
+    ensures answer { λ r. ⌜ outcomeOf (r .answer) (taken [] (sweepOf (table (now (sizes .entry)) (now (entries .entry)) n))) ≡ sweepOf (table (now (sizes .entry)) (now (entries .entry)) n) ⌝ }
+    ensures labels { λ r. ⌜ r .labels ≡ padded 1186 (taken [] (sweepOf (table (now (sizes .entry)) (now (entries .entry)) n))) ⌝ }
+{
+    let starts = rings::starts_of(sizes);
+    if !fit::is_fit(&starts, sizes, entries, n) {
+        return bare(SweepAnswer::Unfit);
+    }
+    let ended = step::run(&starts, sizes, entries, n);
+    let labels = ended.labels;
+    if !ended.finished {
+        return bare(SweepAnswer::Stuck);
+    }
+    let place = labels::rules::rules_place(sizes, entries, n, &labels);
+    if place < n {
+        return bare(SweepAnswer::Broken(place));
+    }
+    Swept {
+        answer: SweepAnswer::Labelled,
+        labels,
+    }
+}
