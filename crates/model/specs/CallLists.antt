@@ -47,6 +47,7 @@ ledgerPlan neither = refused 13 0
 ledgerPlan (plan-only p) = accepted p
 ledgerPlan (both p ls) = accepted p
 
+-- the ledger's plan and labels
 unfoldable pub ledgerLabels : Ledger → Outcome (Plan × List ℕ)
 ledgerLabels neither = refused 13 0
 ledgerLabels (plan-only p) = refused 13 0

@@ -14,9 +14,11 @@ use Rattle.model.specs.Turn.{turn}
 use Rattle.model.specs.Scan.{Triple, scan}
 use Rattle.model.specs.File.{Sheet, fresh, opened, labelled, charted, decode, encode}
 
+-- Each sheet has a stage
 pub data Stage : Type 0 where
   EMPTY OPEN LABELLED CHARTED : Stage
 
+-- the stage of a sheet
 unfoldable pub stage : Sheet → Stage
 stage fresh = EMPTY
 stage (opened p) = OPEN
@@ -72,12 +74,14 @@ offerCall s ls = do
   ms ← offered p ls
   accepted (labelled p ms)
 
+-- sweep works out labels
 unfoldable pub sweepCall : Sheet → Outcome Sheet
 sweepCall s = do
   p ← planOf s
   ms ← sweep p
   accepted (labelled p ms)
 
+-- turn changes the labels of named edges
 unfoldable pub turnCall : Sheet → List ℕ → ℕ → Outcome Sheet
 turnCall s items direction = do
   (p, ls) ← labelsOf s
@@ -100,6 +104,7 @@ writeCall s buffer =
       require (leb (length b) (length buffer)) 16 (length b)
       accepted (length b, b ++ drop (length b) buffer)
 
+-- scan names the smallest triple, or says that there is none
 unfoldable pub scanCall : Sheet → Outcome (Option Triple)
 scanCall s = do
   p ← planOf s

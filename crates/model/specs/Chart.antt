@@ -19,9 +19,11 @@ pub record Chart : Type 0 where
   pub xs : List ℕ
   pub ys : List ℕ
 
+-- the x of a context
 abbrev pub x : Chart → ℕ → ℕ
 x c u = getD (c .xs) u 0
 
+-- the y of a context
 abbrev pub y : Chart → ℕ → ℕ
 y c u = getD (c .ys) u 0
 
@@ -31,26 +33,33 @@ pub record Constraint : Type 0 where
   pub high : ℕ
   pub gap : ℕ
 
+-- the numbers meet the constraint
 unfoldable pub meets : List ℕ → Constraint → Bool
 meets ks d = leb (getD ks (d .low) 0 + d .gap) (getD ks (d .high) 0)
 
--- The compass rules, with the slope s that a line must at least have (0: it may be upright or level).
--- Along an up dart from u to v, x does not fall (rises by s) and y rises; along a right dart x rises and y does not rise (falls by s).
+-- v's number is at least u's plus g
 abbrev pub constraint : ℕ → ℕ → ℕ → Constraint
 constraint u v g = record { low = u; high = v; gap = g }
 
+-- The compass rules, with the slope s that a line must at least have (0: it may be upright or level).
+-- Along an up dart from u to v, x does not fall (rises by s) and y rises; along a right dart x rises and y does not rise (falls by s).
+-- what a dart with label l asks of x
 unfoldable pub xConstraint : ℕ → ℕ → Dart → List Constraint
 xConstraint s l d = cond (eqb l up) (constraint (d .0) (d .1) s ∷ []) (cond (eqb l right) (constraint (d .0) (d .1) 1 ∷ []) [])
 
+-- what a dart with label l asks of y
 unfoldable pub yConstraint : ℕ → ℕ → Dart → List Constraint
 yConstraint s l d = cond (eqb l up) (constraint (d .0) (d .1) 1 ∷ []) (cond (eqb l right) (constraint (d .1) (d .0) s ∷ []) [])
 
+-- what all darts ask of x
 unfoldable pub xConstraints : ℕ → Plan → List ℕ → List Constraint
 xConstraints s p ls = concat (map (λ (d : Dart). xConstraint s (labelOf p ls (d .0) (d .1)) d) (darts p))
 
+-- what all darts ask of y
 unfoldable pub yConstraints : ℕ → Plan → List ℕ → List Constraint
 yConstraints s p ls = concat (map (λ (d : Dart). yConstraint s (labelOf p ls (d .0) (d .1)) d) (darts p))
 
+-- the context u stands at (a, b)
 unfoldable pub isAt : Chart → ℕ → ℕ → ℕ → Bool
 isAt c u a b = eqb (x c u) a && eqb (y c u) b
 
@@ -68,6 +77,7 @@ pub record AtMost (n : ℕ) (c d : Chart) : Type 0 where
   pub x-least : (u : ℕ) → u < n → x c u ≤ x d u
   pub y-least : (u : ℕ) → u < n → y c u ≤ y d u
 
+-- c is a placement, and every number of it is at most that of every placement
 pub record IsChart (s : ℕ) (p : Plan) (ls : List ℕ) (c : Chart) : Type 0 where
   pub keeps : isPlacement s p ls c ≡ true
   pub least : (d : Chart) → isPlacement s p ls d ≡ true → AtMost (count p) c d
@@ -76,10 +86,12 @@ pub record IsChart (s : ℕ) (p : Plan) (ls : List ℕ) (c : Chart) : Type 0 whe
 unfoldable pub raise : Constraint → List ℕ → List ℕ
 raise d ks = set ks (d .high) (max (getD ks (d .high) 0) (getD ks (d .low) 0 + d .gap))
 
+-- each constraint in turn
 unfoldable pub pass : List Constraint → List ℕ → List ℕ
 pass [] ks = ks
 pass (d ∷ ds) ks = pass ds (raise d ks)
 
+-- passes until nothing rises; 11 where the numbers still rise after so many passes
 unfoldable pub settle : List Constraint → ℕ → List ℕ → Outcome (List ℕ)
 settle ds zero ks = refused 11 0
 settle ds (suc fuel) ks = let more = settle ds fuel (pass ds ks) in cond (sameList (pass ds ks) ks) (accepted ks) more
@@ -104,6 +116,7 @@ leastPlacement s p ls = do
 unfoldable pub slope : ℕ
 slope = 0
 
+-- The chart of a labelled plan
 unfoldable pub chart : Plan → List ℕ → Outcome Chart
 chart p ls = leastPlacement slope p ls
 

@@ -65,6 +65,7 @@ frameRest ((kind, size) ∷ due) c =
 unfoldable pub optional : ℕ → List (ℕ × ℕ)
 optional n = (3, dartCount n) ∷ (4, 4 + 4 * n) ∷ []
 
+-- the chart that a list of numbers holds: w, h, then x and y per context
 unfoldable pub chartIn : List ℕ → Chart
 chartIn l = record { w = getD l 0 0; h = getD l 1 0; xs = map (λ (t : ℕ × ℕ). t .0) (pairs (drop 2 l)); ys = map (λ (t : ℕ × ℕ). t .1) (pairs (drop 2 l)) }
 
@@ -97,9 +98,11 @@ points (a ∷ xs) (b ∷ ys) = a ∷ b ∷ points xs ys
 unfoldable pub chartOut : Chart → List ℕ
 chartOut c = c .w ∷ c .h ∷ points (c .xs) (c .ys)
 
+-- a kind 2 record for each ring
 unfoldable pub ringsOut : List (List ℕ) → List ℕ
 ringsOut rs = concat (map (λ (r : List ℕ). entry 2 (bytes r)) rs)
 
+-- the kind 1 record, then the rings
 unfoldable pub planOut : Plan → List ℕ
 planOut p = entry 1 (bytes (count p ∷ [])) ++ ringsOut (p .rings)
 

@@ -9,12 +9,13 @@ use Rattle.lists.specs.Parts.{cycle}
 use Rattle.model.specs.Plan.{Plan, Dart, Face, darts}
 use Rattle.model.specs.Chart.{Chart, x, y}
 
--- the signed number is above 0; it is 0
+-- the signed number is above 0
 abbrev pub positive : ℤ → Bool
 positive (pos zero) = false
 positive (pos (suc k)) = true
 positive (negsuc k) = false
 
+-- the signed number is 0
 abbrev pub isZero : ℤ → Bool
 isZero (pos zero) = true
 isZero (pos (suc k)) = false
@@ -67,6 +68,7 @@ onLine k t e =
     isZero (side k t e)
     && spans (x k (e .0) * t .d) (x k (e .1) * t .d) (t .p) && spans (y k (e .0) * t .d) (y k (e .1) * t .d) (t .q)
 
+-- the point is on some line of the plan
 unfoldable pub onSomeLine : Chart → Plan → Point → Bool
 onSomeLine k p t = any (onLine k t) (darts p)
 

@@ -10,15 +10,19 @@ use Rattle.lists.specs.Parts.{concat, indexOf, squeeze, rotations}
 use Rattle.model.specs.Outcome.{Outcome, rule}
 use Rattle.model.specs.Plan.{Plan, entries, ring, count, border, adjacent}
 
+-- the label up
 abbrev pub up : ℕ
 up = 0
 
+-- the label right
 abbrev pub right : ℕ
 right = 1
 
+-- the label down
 abbrev pub down : ℕ
 down = 2
 
+-- the label left
 abbrev pub left : ℕ
 left = 3
 
@@ -30,10 +34,11 @@ borderLabel = 4
 abbrev pub unlabelled : ℕ
 unlabelled = 5
 
--- The labels of all darts stand in one list, all rings in context order: where u's part begins, and that part
+-- The labels of all darts stand in one list, all rings in context order: where u's part begins
 unfoldable pub start : Plan → ℕ → ℕ
 start p u = length (concat (take u (p .rings)))
 
+-- the labels of the darts that leave u, in ring order
 unfoldable pub labelsAround : Plan → List ℕ → ℕ → List ℕ
 labelsAround p ls u = take (length (entries p u)) (drop (start p u) ls)
 
@@ -59,6 +64,7 @@ fourRuns r = any (λ (t : List ℕ). sameList (squeeze t) (up ∷ right ∷ down
 unfoldable pub due : ℕ → ℕ
 due u = getD (down ∷ left ∷ up ∷ right ∷ []) u unlabelled
 
+-- an inner dart that leaves the border context u has another label than is due
 unfoldable pub notDue : Plan → List ℕ → ℕ → ℕ → Bool
 notDue p ls u v = not (border v || eqb (labelOf p ls u v) (due u))
 
@@ -70,6 +76,7 @@ badRing p ls u = cond (border u) (any (notDue p ls u) (ring p u)) (not (fourRuns
 unfoldable pub breaks : Plan → List ℕ → ℕ → Bool
 breaks p ls u = any (badDart p ls u) (ring p u) || badRing p ls u
 
+-- The label rules: 10 at the lowest context that breaks them
 unfoldable pub labelRules : Plan → List ℕ → Outcome (Unit {0})
 labelRules p ls = rule 10 (count p) (breaks p ls)
 

@@ -12,10 +12,12 @@ pub data Outcome (A : Type 0) : Type 0 where
 -- do blocks: the first refusal ends the block
 infixl 10 _>>=_
 infixl 10 _>>_
+-- the result handed on to the next step
 abbrev pub _>>=_ : {A B : Type 0} → Outcome A → (A → Outcome B) → Outcome B
 accepted a >>= f = f a
 refused k at >>= f = refused k at
 
+-- the next step, which needs no result
 abbrev pub _>>_ : {A B : Type 0} → Outcome A → Outcome B → Outcome B
 accepted a >> b = b
 refused k at >> b = refused k at

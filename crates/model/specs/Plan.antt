@@ -22,19 +22,23 @@ count p = length (p .rings)
 abbrev pub contexts : Plan → List ℕ
 contexts p = from 0 (count p)
 
--- the border contexts
+-- the border contexts: North
 abbrev pub north : ℕ
 north = 0
 
+-- East
 abbrev pub east : ℕ
 east = 1
 
+-- South
 abbrev pub south : ℕ
 south = 2
 
+-- West
 abbrev pub west : ℕ
 west = 3
 
+-- u is a border context
 abbrev pub border : ℕ → Bool
 border u = ltb u 4
 
@@ -58,12 +62,15 @@ adjacent p u v = member v (ring p u)
 abbrev pub Dart : Type 0
 Dart = ℕ × ℕ
 
+-- the darts that leave u, clockwise
 unfoldable pub dartsFrom : Plan → ℕ → List Dart
 dartsFrom p u = map (λ (v : ℕ). (u, v)) (ring p u)
 
+-- all darts, in context order
 unfoldable pub darts : Plan → List Dart
 darts p = concat (map (dartsFrom p) (contexts p))
 
+-- the two darts are one
 abbrev pub sameDart : Dart → Dart → Bool
 sameDart d e = eqb (d .0) (e .0) && eqb (d .1) (e .1)
 
@@ -103,10 +110,11 @@ badRepeat p u = repeats (ring p u)
 unfoldable pub unreturned : Plan → ℕ → Bool
 unreturned p u = any (λ (v : ℕ). not (adjacent p v u)) (ring p u)
 
--- 7: how many entries all rings together have, and should have
+-- 7: how many entries all rings together have
 unfoldable pub entryCount : Plan → ℕ
 entryCount p = length (concat (p .rings))
 
+-- how many entries a plan of n contexts has
 abbrev pub dartCount : ℕ → ℕ
 dartCount n = 6 * n - 14
 
@@ -142,10 +150,11 @@ walk p d = d .0 ∷ d .1 ∷ step p d .1 ∷ []
 unfoldable pub onInnerFace : Plan → Dart → Bool
 onInnerFace p d = not (outer d) && closes p d
 
--- the inner faces, each once, walked from its lowest context
+-- the inner faces whose lowest context is a, each once, walked from it
 unfoldable pub facesFrom : Plan → ℕ → List Face
 facesFrom p a = concat (map (λ (d : Dart). cond (onInnerFace p d && ltb a (d .1) && ltb a (step p d .1)) (walk p d ∷ []) []) (dartsFrom p a))
 
+-- all inner faces
 unfoldable pub faces : Plan → List Face
 faces p = concat (map (facesFrom p) (contexts p))
 

@@ -9,6 +9,7 @@ use Rattle.lists.specs.Ranges.{from}
 use Rattle.lists.specs.Parts.{concat}
 use Rattle.model.specs.Plan.{Plan, count, contexts, adjacent, onInnerFace, walk}
 
+-- three contexts
 abbrev pub Triple : Type 0
 Triple = ℕ × ℕ × ℕ
 
@@ -35,6 +36,7 @@ unfoldable pub firstEnclosing : Plan → List Triple → Option Triple
 firstEnclosing p [] = none
 firstEnclosing p (t ∷ ts) = let later = firstEnclosing p ts in cond (enclosing p t) (some t) later
 
+-- The scan: the first such triple, or none
 unfoldable pub scan : Plan → Option Triple
 scan p = firstEnclosing p (triples p)
 

@@ -14,25 +14,31 @@ use Rattle.model.specs.Sweep.{sweep}
 use Rattle.model.specs.Turn.{turn}
 use Rattle.model.specs.Scan.{scan}
 
+-- the rings of trench A
 abbrev pub ringsA : List (List ℕ)
 ringsA = (1 ∷ 4 ∷ 3 ∷ []) ∷ (2 ∷ 4 ∷ 0 ∷ []) ∷ (3 ∷ 4 ∷ 1 ∷ []) ∷ (0 ∷ 4 ∷ 2 ∷ []) ∷ (0 ∷ 1 ∷ 2 ∷ 3 ∷ []) ∷ []
 
+-- trench A
 abbrev pub A : Plan
 A = record { rings = ringsA }
 
+-- trench B
 abbrev pub B : Plan
 B = record { rings = (1 ∷ 5 ∷ 3 ∷ []) ∷ (2 ∷ 4 ∷ 5 ∷ 0 ∷ []) ∷ (3 ∷ 4 ∷ 1 ∷ []) ∷ (0 ∷ 5 ∷ 4 ∷ 2 ∷ []) ∷ (5 ∷ 1 ∷ 2 ∷ 3 ∷ []) ∷ (0 ∷ 1 ∷ 4 ∷ 3 ∷ []) ∷ [] }
 
+-- trench C
 abbrev pub C : Plan
 C = record { rings = (1 ∷ 5 ∷ 4 ∷ 3 ∷ []) ∷ (2 ∷ 4 ∷ 5 ∷ 0 ∷ []) ∷ (3 ∷ 4 ∷ 1 ∷ []) ∷ (0 ∷ 4 ∷ 2 ∷ []) ∷ (0 ∷ 5 ∷ 1 ∷ 2 ∷ 3 ∷ []) ∷ (0 ∷ 1 ∷ 4 ∷ []) ∷ [] }
 
--- A beside a torus of seven contexts: context 5 + k of it, k from 0 to 6
+-- D is A beside a torus of seven contexts, 5 + k for k from 0 to 6
 abbrev pub ks : List ℕ
 ks = 0 ∷ 1 ∷ 2 ∷ 3 ∷ 4 ∷ 5 ∷ 6 ∷ []
 
+-- the ring of context 5 + k of the torus
 abbrev pub ringD : ℕ → List ℕ
 ringD k = map (λ (j : ℕ). 5 + (k + j) % 7) (1 ∷ 3 ∷ 2 ∷ 6 ∷ 4 ∷ 5 ∷ [])
 
+-- trench D
 abbrev pub D : Plan
 D = record { rings = ringsA ++ map ringD ks }
 
@@ -50,6 +56,7 @@ pub record Row : Type 1 where
   pub worked : sort
   pub said : sort
 
+-- a row of what is worked out and what 01 says
 abbrev pub row : {T : Type 0} → T → T → Row
 row {T} a b = record { sort = T; worked = a; said = b }
 
@@ -58,6 +65,7 @@ abbrev pub Holds : List Row → Type 0
 Holds [] = Unit {0}
 Holds (r ∷ rs) = (r .worked ≡ r .said) × Holds rs
 
+-- The table of what 01 says is to be shown
 unfoldable pub table : List Row
 table =
     -- A's sweep labels 4 as 0,1,2,3

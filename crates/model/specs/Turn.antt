@@ -10,6 +10,7 @@ use Rattle.model.specs.Outcome.{Outcome, accepted, _>>_, require, rule}
 use Rattle.model.specs.Plan.{Plan, Dart, innerEdge, sameDart}
 use Rattle.model.specs.Labels.{labelOf, turned, put, labelRules}
 
+-- the dart the other way
 abbrev pub reverseDart : Dart → Dart
 reverseDart d = (d .1, d .0)
 

@@ -19,10 +19,12 @@ use Rattle.sheet.specs.declared.RingAnswer as ringAnswer
 use Rattle.sheet.specs.declared.RingAnswer.the-variants as RingAnswer
 use Rattle.sheet.specs.Sheets.{packed}
 
+-- the answer of open, offer, sweep, turn and chart
 unfoldable pub answerAs : answer.Answer → model.Outcome (Unit {0})
 answerAs Answer.Accepted = model.passed
 answerAs (Answer.Refused k at) = model.refused k at
 
+-- the answer of write
 unfoldable pub writtenAs : written.Written → model.Outcome ℕ
 writtenAs (Written.Length k) = model.accepted k
 writtenAs (Written.Refused k at) = model.refused k at
@@ -32,16 +34,19 @@ unfoldable pub lengthOf : model.Outcome (ℕ × List ℕ) → model.Outcome ℕ
 lengthOf (model.accepted (k, d)) = model.accepted k
 lengthOf (model.refused k at) = model.refused k at
 
+-- the answer of scan
 unfoldable pub scannedAs : scanned.Scanned → model.Outcome (Option Triple)
 scannedAs (Scanned.Triple a b c) = model.accepted (some (a, b, c))
 scannedAs Scanned.Nothing = model.accepted none
 scannedAs (Scanned.Refused k at) = model.refused k at
 
+-- the answer of same
 unfoldable pub comparedAs : compared.Compared → model.Outcome Bool
 comparedAs Compared.Same = model.accepted true
 comparedAs Compared.Different = model.accepted false
 comparedAs (Compared.Refused k at) = model.refused k at
 
+-- the answer of ring
 unfoldable pub ringAnswerAs : ringAnswer.RingAnswer → model.Outcome (ℕ × ℕ)
 ringAnswerAs (RingAnswer.Part at size) = model.accepted (at, size)
 ringAnswerAs (RingAnswer.Refused k at) = model.refused k at

@@ -18,15 +18,19 @@ use Rattle.sheet.specs.declared.Stage.the-variants.{Empty, Open, Labelle
 unfoldable pub heldCount : Sheet → ℕ
 heldCount s = startOf (s .sizes) (s .n)
 
+-- the plan that a struct holds
 unfoldable pub heldPlan : Sheet → Plan
 heldPlan s = table (s .sizes) (s .entries) (s .n)
 
+-- the labels that a struct holds, one for each entry
 unfoldable pub heldLabels : Sheet → List ℕ
 heldLabels s = stretch (s .labels) 0 (heldCount s)
 
+-- the chart that a struct holds
 unfoldable pub heldChart : Sheet → Chart
 heldChart s = record { w = s .w; h = s .h; xs = stretch (s .xs) 0 (s .n); ys = stretch (s .ys) 0 (s .n) }
 
+-- the sheet that a struct holds at a stage
 unfoldable pub held : Stage → Sheet → file.Sheet
 held Empty s = file.fresh
 held Open s = file.opened (heldPlan s)
@@ -55,6 +59,7 @@ pack g rs ls c = record {
   ys = padded 200 (c .ys);
 }
 
+-- no chart: all zero
 unfoldable pub noChart : Chart
 noChart = record { w = 0; h = 0; xs = []; ys = [] }
 
