@@ -1,27 +1,29 @@
--- Chart and same: 13, then the chart of the plan and the labels that the struct holds, or the comparison of two charts.
+-- Chart: 13, then the chart of the plan and the labels that the struct holds, or 11.
 use Prim.Native.Nat.{ℕ, zero, suc, _+_, _≤_, _<_}
 use mathlib.Core.Path.{_≡_, refl, sym, ap, _∙_}
 use mathlib.Core.List.{List}
-use mathlib.Core.Bool.{Bool, true, false, cond, _&&_}
+use mathlib.Core.Bool.{Bool, true, false, cond}
 use native.Mathlib.Omega.{arith}
 use lib.ListN.{length, take, drop}
 use lib.Seq.{drop-cons}
-use lib.Dec.{eqb}
-use borrow.Author.Tests.{eq-eqb, ne-eqb}
+use lib.Dec.{leb}
+use borrow.Author.Tests.{le-leb}
+use Rattle.lists.proofs.Bools.{yes-and}
 use Rattle.lists.specs.Spans.{stretch}
 use Rattle.model.specs.Outcome.{Outcome, accepted, refused, _>>=_}
-use Rattle.model.specs.Plan.{Plan, count}
-use Rattle.model.specs.Chart.{Chart, chart, leastPlacement, slope, sameChart}
+use Rattle.model.specs.Plan.{Plan}
+use Rattle.model.specs.Chart.{Chart, chart, leastPlacement, slope}
 use Rattle.model.specs.File as file
-use Rattle.model.specs.Calls.{labelsOf, chartOf, chartCall, sameCall}
+use Rattle.model.specs.Calls.{labelsOf, chartCall}
 use Rattle.rings.specs.Tables.{startOf, table}
 use Rattle.placement.specs.declared.Drawn.{Drawn}
 use Rattle.placement.specs.Drawing.{chartOn, inBounds, chartFor, drawnAs, drawnOf}
 use Rattle.sheet.specs.declared.Sheet.{Sheet}
 use Rattle.sheet.specs.declared.Stage.the-variants.{Charted}
-use Rattle.sheet.specs.Sheets.{heldCount, heldPlan, heldLabels, heldChart, fits, reads, pack, packed}
-use Rattle.calls.specs.Stages.{rank, stageRead}
-use Rattle.calls.proofs.Reading.{bind-at, bind-off, labels-early, labels-there, chart-early, chart-there, count-held}
+use Rattle.sheet.specs.Sheets.{heldCount, heldPlan, heldLabels, fits, reads, pack, packed}
+use Rattle.sheet.specs.Sheets.{rank, stageRead}
+use Rattle.model.proofs.Outcomes.{bind-at, bind-off}
+use Rattle.sheet.proofs.Reading.{labels-early, labels-there, few, room}
 
 -- a stretch at the front of a list that reaches as far
 stretch-part : (l : List ℕ) (i k : ℕ) → i + k ≤ length l → stretch l i k ≡ take k (drop i l)
@@ -34,12 +36,13 @@ take-front l k h = sym (stretch-part l 0 k (omega arith))
 
 module _ (s : Sheet) where
   -- the chart that is worked out is the chart of what the struct holds
-  pub chart-for : (n k : ℕ) → fits s ≡ true → n ≡ s .n → k ≡ startOf (s .sizes) n → k ≤ length (s .labels) → chartFor (s .sizes) (s .entries) n (take k (s .labels)) ≡ chart (heldPlan s) (heldLabels s)
-  unfolding chartFor inBounds fits chart heldPlan heldLabels heldCount
+  pub chart-for : (n k : ℕ) → fits s ≡ true → n ≡ s .n → k ≡ startOf (s .sizes) (s .n) → k ≤ length (s .labels) → chartFor (s .sizes) (s .entries) n (take k (s .labels)) ≡ chart (heldPlan s) (heldLabels s)
+  unfolding chartFor inBounds chart heldPlan heldLabels heldCount
   chart-for n k f e q h =
+      let bounds = yes-and (leb (s .n) 200) (leb (startOf (s .sizes) (s .n)) 1186) (le-leb (s .n) 200 (few s f)) (le-leb (startOf (s .sizes) (s .n)) 1186 (room s f)) in
       (λ i. chartFor (s .sizes) (s .entries) (e i) (take-front (s .labels) k h i))
-      ∙ ap (λ (t : Bool). cond t (leastPlacement slope (table (s .sizes) (s .entries) (s .n)) (stretch (s .labels) 0 k)) (refused 11 0)) f
-      ∙ ap (λ (j : ℕ). leastPlacement slope (table (s .sizes) (s .entries) (s .n)) (stretch (s .labels) 0 j)) (q ∙ ap (startOf (s .sizes)) e)
+      ∙ ap (λ (t : Bool). cond t (leastPlacement slope (table (s .sizes) (s .entries) (s .n)) (stretch (s .labels) 0 k)) (refused 11 0)) bounds
+      ∙ ap (λ (j : ℕ). leastPlacement slope (table (s .sizes) (s .entries) (s .n)) (stretch (s .labels) 0 j)) q
 
   -- the steps of the call
   abbrev stored : Plan × List ℕ → Outcome file.Sheet
@@ -78,38 +81,3 @@ module _ (s : Sheet) where
   chart-stored t k d c e q p =
       let same : t ≡ packed (file.labelled (heldPlan s) (heldLabels s)) = e ∙ ap (λ (j : ℕ). packed (file.labelled (heldPlan s) (stretch (s .labels) 0 j))) q in
       λ i. record { stage = Charted; n = same i .n; sizes = same i .sizes; entries = same i .entries; labels = same i .labels; w = p i .w; h = p i .h; xs = p i .xs; ys = p i .ys }
-
--- ---- same
-module _ (a b : Sheet) where
-  abbrev compared : Plan × Chart → Outcome Bool
-  compared t = chartOf (reads b) >>= λ (u : Plan × Chart). accepted (eqb (count (t .0)) (count (u .0)) && sameChart (t .1) (u .1))
-
-  pub same-early : rank (stageRead a) < 3 → refused 13 0 ≡ sameCall (reads a) (reads b)
-  unfolding sameCall
-  same-early h = sym (bind-off (chartOf (reads a)) 13 0 compared (chart-early a h))
-
-  same-first : 3 ≤ rank (stageRead a) → sameCall (reads a) (reads b) ≡ compared (heldPlan a, heldChart a)
-  unfolding sameCall
-  same-first h = bind-at (chartOf (reads a)) (heldPlan a, heldChart a) compared (chart-there a h)
-
-  abbrev answered : Plan × Chart → Outcome Bool
-  answered u = accepted (eqb (count (heldPlan a)) (count (u .0)) && sameChart (heldChart a) (u .1))
-
-  pub same-early-second : 3 ≤ rank (stageRead a) → rank (stageRead b) < 3 → refused 13 0 ≡ sameCall (reads a) (reads b)
-  same-early-second h k = sym (same-first h ∙ bind-off (chartOf (reads b)) 13 0 answered (chart-early b k))
-
-  pub same-there : (t : Bool) → 3 ≤ rank (stageRead a) → 3 ≤ rank (stageRead b) → t ≡ (eqb (a .n) (b .n) && sameChart (heldChart a) (heldChart b)) → accepted t ≡ sameCall (reads a) (reads b)
-  same-there t h k e =
-      ap accepted e
-      ∙ sym (same-first h ∙ bind-at (chartOf (reads b)) (heldPlan b, heldChart b) answered (chart-there b k) ∙ λ i. accepted (eqb (count-held a i) (count-held b i) && sameChart (heldChart a) (heldChart b)))
-
-  -- two sheets of other sizes, and of the same size
-  pub other-size : (a .n ≡ b .n → ⊥) → false ≡ (eqb (a .n) (b .n) && sameChart (heldChart a) (heldChart b))
-  other-size h = sym (ap (λ (t : Bool). t && sameChart (heldChart a) (heldChart b)) (ne-eqb (a .n) (b .n) h))
-
-  pub same-size : (t : Bool) → a .n ≡ b .n → t ≡ sameChart (chartOn (a .n) (a .w) (a .h) (a .xs) (a .ys)) (chartOn (a .n) (b .w) (b .h) (b .xs) (b .ys)) → t ≡ (eqb (a .n) (b .n) && sameChart (heldChart a) (heldChart b))
-  unfolding chartOn heldChart
-  same-size t q p =
-      p
-      ∙ ap (λ (k : ℕ). sameChart (heldChart a) (chartOn k (b .w) (b .h) (b .xs) (b .ys))) q
-      ∙ sym (ap (λ (v : Bool). v && sameChart (heldChart a) (heldChart b)) (eq-eqb (a .n) (b .n) q))

@@ -16,20 +16,10 @@ use Rattle.model.specs.Calls.{planOf, offered, offerCall}
 use Rattle.rings.specs.Tables.{table}
 use Rattle.labels.specs.Held as flat
 use Rattle.sheet.specs.declared.Sheet.{Sheet}
-use Rattle.sheet.specs.declared.Answer.{Answer}
-use Rattle.sheet.specs.Sheets.{heldPlan, reads, packed}
-use Rattle.sheet.specs.Answers.{answerAs, answerOf, after}
-use Rattle.calls.specs.Stages.{rank, stageRead}
-use Rattle.calls.proofs.Reading.{bind-at, bind-off, then-at, then-off, plan-early, plan-there, fits-there, few, count-held}
-
--- what a refused and what an accepted call answers and leaves
-pub answer-refused : (s t : Sheet) (a : Answer) (o : Outcome file.Sheet) (k at : ℕ) → o ≡ refused k at → answerAs a ≡ refused k at → t ≡ s → (answerAs a ≡ answerOf o) × (t ≡ after s o)
-unfolding answerOf after
-answer-refused s t a o k at e p q = (p ∙ ap answerOf (sym e), q ∙ ap (after s) (sym e))
-
-pub answer-accepted : (s t : Sheet) (a : Answer) (o : Outcome file.Sheet) (u : file.Sheet) → o ≡ accepted u → answerAs a ≡ passed → t ≡ packed u → (answerAs a ≡ answerOf o) × (t ≡ after s o)
-unfolding answerOf after
-answer-accepted s t a o u e p q = (p ∙ ap answerOf (sym e), q ∙ ap (after s) (sym e))
+use Rattle.sheet.specs.Sheets.{heldPlan, reads}
+use Rattle.sheet.specs.Sheets.{rank, stageRead}
+use Rattle.model.proofs.Outcomes.{bind-at, bind-off, then-at, then-off}
+use Rattle.sheet.proofs.Reading.{plan-early, plan-there, fits-there, few, count-held}
 
 -- the steps on a plan
 module _ (p : Plan) (ls : List ℕ) where

@@ -39,6 +39,20 @@ module _ {A : Type 0} where
   unfolding number place
   same-refusal e = (ap number e, ap place e)
 
+-- a block whose first step is accepted goes on; one whose first step is refused ends
+module _ {A B : Type 0} where
+  pub bind-at : (o : Outcome A) (a : A) (f : A → Outcome B) → o ≡ accepted a → (o >>= f) ≡ f a
+  bind-at o a f e = ap (λ (x : Outcome A). x >>= f) e
+
+  pub bind-off : (o : Outcome A) (k at : ℕ) (f : A → Outcome B) → o ≡ refused k at → (o >>= f) ≡ refused k at
+  bind-off o k at f e = ap (λ (x : Outcome A). x >>= f) e
+
+  pub then-at : (o : Outcome A) (a : A) (b : Outcome B) → o ≡ accepted a → (o >> b) ≡ b
+  then-at o a b e = ap (λ (x : Outcome A). x >> b) e
+
+  pub then-off : (o : Outcome A) (k at : ℕ) (b : Outcome B) → o ≡ refused k at → (o >> b) ≡ refused k at
+  then-off o k at b e = ap (λ (x : Outcome A). x >> b) e
+
 -- an accepted block: each step of it is accepted
 pub bind-accepted : {A B : Type 0} (a : Outcome A) (f : A → Outcome B) (b : B) → (a >>= f) ≡ accepted b → (c : A) × (a ≡ accepted c) × (f c ≡ accepted b)
 bind-accepted (accepted c) f b e = (c, refl, e)

@@ -51,7 +51,7 @@ module _ (p : Plan) where
       let (h, k) = or-no (leb (count p) v) (eqb v u) (none-of (λ (w : ℕ). leb (count p) w || eqb w u) (ring p u) b v (adjacent-mem p u v e)) in
       (leb-false (count p) v h, λ q. eqb-false v u k (sym q))
 
-  says-entry : (u : ℕ) → ((v : ℕ) → adjacent p u v ≡ true → v < count p) → ((v : ℕ) → adjacent p u v ≡ true → u ≢ v) → badEntry p u ≡ false
+  pub says-entry : (u : ℕ) → ((v : ℕ) → adjacent p u v ≡ true → v < count p) → ((v : ℕ) → adjacent p u v ≡ true → u ≢ v) → badEntry p u ≡ false
   unfolding badEntry
   says-entry u h k =
       of-none (λ (w : ℕ). leb (count p) w || eqb w u) (ring p u)

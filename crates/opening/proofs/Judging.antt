@@ -88,14 +88,9 @@ module _ (sizes es : List ℕ) (n : ℕ) (ls : List ℕ) (few : n ≤ 200) where
   pub ten-passed : {u : ℕ} → u ≡ lowest (breaks (held sizes es n) ls) (min n 200) → n ≤ u → passed ≡ labelRules (table sizes es n) ls
   ten-passed e h = rule-past 10 n (breaks (table sizes es n) ls) (as-table e) h ∙ as-rule
 
--- the rings end where the last one does
-pub total-last : (sizes : List ℕ) (n : ℕ) {a b : ℕ} → 0 < n → n ≤ 200 → a ≡ getD (startsOf sizes) (n - 1) 0 → b ≡ getD sizes (n - 1) 0 → a + b ≡ startOf sizes n
-unfolding startsOf
-total-last sizes n h few e f =
-    let last : suc (n - 1) ≡ n = omega arith in
-    let begin = getD-map-from (startOf sizes) 0 200 (n - 1) 0 (omega arith) in
-    let same : startOf sizes (0 + (n - 1)) ≡ startOf sizes (n - 1) = ap (startOf sizes) (omega arith) in
-    (λ i. (e ∙ begin ∙ same) i + f i) ∙ sym (start-more sizes (n - 1)) ∙ ap (startOf sizes) last
+-- of at most 200 rings all are counted
+pub all-counted : (sizes : List ℕ) {n k : ℕ} → n ≤ 200 → k ≡ startOf sizes (min n 200) → k ≡ startOf sizes n
+all-counted sizes {n} h e = e ∙ ap (startOf sizes) (omega arith)
 
 -- ---- one part of the rules before another
 pub first-refused : {A : Type 0} (a : Outcome (Unit {0})) (b : Outcome A) {k at : ℕ} → refused k at ≡ a → refused k at ≡ (a >> b)

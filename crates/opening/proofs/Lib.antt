@@ -1,5 +1,3 @@
 pub mod Judging
 pub mod Copies
 pub mod Opened
-pub mod RingParts
-pub mod Rewritten

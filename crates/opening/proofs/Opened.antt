@@ -19,7 +19,7 @@ use Rattle.model.specs.Chart.{Chart, chart, sameChart}
 use Rattle.model.specs.File as file
 use Rattle.model.specs.File.{decode, chartIn}
 use Rattle.model.specs.Calls.{judge, openCall}
-use Rattle.model.proofs.Outcomes.{not-both, same-refusal, then-accepted, require-passed}
+use Rattle.model.proofs.Outcomes.{not-both, same-refusal, then-accepted, require-passed, rule-passes}
 use Rattle.model.proofs.FileWrite.{PlanFits, Fits}
 use Rattle.model.proofs.FileRead.{read-fits}
 use Rattle.rings.specs.Tables.{startOf, startsOf, table}
@@ -39,7 +39,9 @@ use Rattle.sheet.specs.declared.Stage.the-variants.{Open, Labelled, Charted}
 use Rattle.sheet.specs.Sheets.{heldPlan, pack, noChart, packed}
 use Rattle.sheet.specs.Answers.{answerOf, after}
 use Rattle.opening.specs.Opening.{lentRules, flatRules, chartRules, lentOf, lentIn, labelChartRules, drawnRules, heldRules, Roomy, replaced, everyFour}
-use Rattle.sheet.proofs.Packed.{PlanHeld, Held, count-packed, plan-packed, labels-packed, chart-packed}
+use Rattle.fit.specs.Fits.{fit}
+use Rattle.fit.proofs.Fits.{fit-says, says-fit}
+use Rattle.sheet.proofs.Packed.{Held, count-packed, plan-packed, labels-packed, chart-packed}
 
 -- ---- the rules in parts are the rules
 in-parts : (a b c d e : Outcome (Unit {0})) → (a >> (b >> (c >> (d >> e)))) ≡ ((a >> (b >> (c >> d))) >> e)
@@ -90,8 +92,12 @@ total-due n p e =
     eqb-true (entryCount p) (dartCount n) (require-passed (eqb (entryCount p) (dartCount n)) 7 0 e₃)
 
 -- what was read and keeps 4 to 7 fits into a struct
-plan-held : (p : Plan) → PlanFits p → passed ≡ lentRules (count p) p → PlanHeld p
-plan-held p f e = let h = f .high in let t = total-due (count p) p e in record { few = h; room = omega arith }
+plan-held : (p : Plan) → PlanFits p → passed ≡ lentRules (count p) p → fit p ≡ true
+unfolding lentRules
+plan-held p f e =
+    let h = f .high in
+    let t = total-due (count p) p e in
+    says-fit p h (omega arith) (rule-passes 4 (count p) (badEntry p) .0 (then-accepted (rule 4 (count p) (badEntry p)) _ tt (sym e) .0))
 
 pub sheet-held : (s : file.Sheet) → Fits s → passed ≡ lentOf s → Held s
 unfolding lentOf
@@ -105,7 +111,7 @@ n-packed : (g : Stage) (rs : List (List ℕ)) (ls : List ℕ) (c : Chart) → pa
 unfolding pack
 n-packed g rs ls c = refl
 
-flat-packed : (g : Stage) (p : Plan) (ls : List ℕ) (c : Chart) → PlanHeld p → flatRules (pack g (p .rings) ls c .n) (heldPlan (pack g (p .rings) ls c)) ≡ flatRules (count p) p
+flat-packed : (g : Stage) (p : Plan) (ls : List ℕ) (c : Chart) → fit p ≡ true → flatRules (pack g (p .rings) ls c .n) (heldPlan (pack g (p .rings) ls c)) ≡ flatRules (count p) p
 flat-packed g p ls c h = λ i. flatRules (n-packed g (p .rings) ls c i) (plan-packed g p ls c h i)
 
 then-passed : (a : Outcome (Unit {0})) → (a >> passed) ≡ a
@@ -130,10 +136,10 @@ length-padded : (k : ℕ) (l : List ℕ) → length l ≤ k → length (padded k
 unfolding padded
 length-padded k l h = length-append l (zeros (k - length l)) ∙ (let z = length-zeros (k - length l) in omega arith)
 
-pack-roomy : (g : Stage) (p : Plan) (ls : List ℕ) (c : Chart) → PlanHeld p → 5 ≤ count p → length ls ≤ 1186 → Roomy (pack g (p .rings) ls c)
+pack-roomy : (g : Stage) (p : Plan) (ls : List ℕ) (c : Chart) → fit p ≡ true → 5 ≤ count p → length ls ≤ 1186 → Roomy (pack g (p .rings) ls c)
 pack-roomy g p ls c h low fit =
-    let m = h .few in
-    let k = h .room in
+    let m = fit-says p h .few in
+    let k = fit-says p h .room in
     let e = n-packed g (p .rings) ls c in
     let q = count-packed g p ls c h in
     record { some = omega arith; few = omega arith; room = omega arith; long = labels-long }
@@ -145,8 +151,8 @@ roomy : (s : file.Sheet) → Held s → Fits s → Roomy (packed s)
 unfolding packed
 roomy file.fresh h f = absurd f
 roomy (file.opened p) h f = pack-roomy Open p [] noChart h (f .low) (omega arith)
-roomy (file.labelled p ls) h f = let e = h .1 in let m = h .0 .room in pack-roomy Labelled p ls noChart (h .0) (f .0 .low) (omega arith)
-roomy (file.charted p ls c) h f = let e = h .1 in let m = h .0 .room in pack-roomy Charted p ls c (h .0) (f .0 .low) (omega arith)
+roomy (file.labelled p ls) h f = let e = h .1 in let m = fit-says p (h .0) .room in pack-roomy Labelled p ls noChart (h .0) (f .0 .low) (omega arith)
+roomy (file.charted p ls c) h f = let e = h .1 in let m = fit-says p (h .0) .room in pack-roomy Charted p ls c (h .0) (f .0 .low) (omega arith)
 
 -- a judgement, and the sheet it leaves
 as-answer : (j : Outcome (Unit {0})) (s : file.Sheet) → j ≡ answerOf (j >> accepted s)

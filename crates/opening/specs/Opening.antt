@@ -96,19 +96,3 @@ replaced (model.refused k at) old new = old
 -- n numbers of two bytes from an offset on, one every four bytes
 unfoldable pub everyFour : List ℕ → ℕ → ℕ → List ℕ
 everyFour file at n = map (λ (u : ℕ). wordAt file (at + 4 * u)) (from 0 n)
-
--- the offset and the length in bytes of u's ring in the file that a struct was opened from; 17 where there is no such context
-unfoldable pub heldRing : Sheet → ℕ → model.Outcome (ℕ × ℕ)
-heldRing t u = do
-  require (ltb u (t .n)) 17 (t .n)
-  model.accepted (10 + 4 * u + 2 * getD (startsOf (t .sizes)) u 0, 2 * getD (t .sizes) u 0)
-
--- a file of its own length at the front of a buffer, whose later bytes stay; 16 where the buffer is short
-abbrev pub copied : List ℕ → List ℕ → model.Outcome (ℕ × List ℕ)
-copied b buffer = do
-  require (leb (length b) (length buffer)) 16 (length b)
-  model.accepted (length b, b ++ drop (length b) buffer)
-
--- A file that is opened and written again: the very file
-unfoldable pub copiedBack : List ℕ → List ℕ → model.Outcome (ℕ × List ℕ)
-copiedBack b buffer = openCall b >>= λ (s : file.Sheet). copied b buffer

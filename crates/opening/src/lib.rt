@@ -1,40 +1,25 @@
-// Open: a file is judged part by part, and what it holds replaces the sheet. Ring: the part of a file that is one ring's body. Open and write: the same file again.
-use sheet::Answer;
+// Open: a file is judged part by part, and what it holds replaces the sheet.
 use sheet::Outcome;
-use sheet::RingAnswer;
 use sheet::Sheet;
 use sheet::Stage;
-use sheet::Written;
 ghost use mathlib.Core.Path.{_≡_};
 ghost use Prim.Native.Nat.{_<_, _≤_, _^_};
 ghost use Rattle.lists.specs.Parts.{concat};
 ghost use Rattle.lists.specs.Spans.{stretch, padded};
 ghost use Rattle.model.specs.Labels.{labelRules};
-ghost use Rattle.model.specs.Outcome.{refused};
 ghost use Rattle.placement.specs.Drawing.{chartOn};
 ghost use Rattle.model.specs.File.{fresh, opened, labelled, charted};
-ghost use Rattle.model.specs.Calls.{openCall, ringCall, ringPart};
+ghost use Rattle.model.specs.Calls.{openCall};
 ghost use Rattle.rings.specs.Tables.{startOf, startsOf, table};
 ghost use Rattle.framing.specs.Layouts.{planIn, labelsIn, chartFrom, sheetIn};
-ghost use Rattle.writing.specs.Files.{bufferAfter};
 ghost use Rattle.sheet.specs.Sheets.{heldPlan, heldLabels, heldChart, packed};
-ghost use Rattle.sheet.specs.Answers.{answerAs, writtenAs, ringAnswerAs, lengthOf, answerOf, after};
-ghost use Rattle.opening.specs.Opening.{judgedAs, lentRules, flatRules, chartRules, lentIn, labelChartRules, drawnRules, heldRules, Roomy, LaidOut, replaced, everyFour, heldRing, copiedBack};
+ghost use Rattle.sheet.specs.Answers.{answerAs, answerOf, after};
+ghost use Rattle.opening.specs.Opening.{judgedAs, lentRules, flatRules, chartRules, lentIn, labelChartRules, drawnRules, heldRules, Roomy, LaidOut, replaced, everyFour};
 
 // What rules say: they are kept, or the refusal's number and place.
 enum Judged {
     Passed,
     Refused(u8, usize),
-}
-
-// How many entries the rings of n contexts have together, where they begin at these starts.
-fn total_of<'a>(starts: &'a [u16], sizes: &'a [u8], n: usize) -> usize
-    requires { ⌜ 0 < n ⌝ }
-    requires { ⌜ n ≤ 200 ⌝ }
-    requires { ⌜ now starts ≡ startsOf (now sizes) ⌝ }
-    ensures { λ r. ⌜ r ≡ startOf (now (sizes .entry)) n ⌝ }
-{
-    lists::num(starts, n - 1) + lists::byte(sizes, n - 1)
 }
 
 // 4 to 7, where the rings stand in the file and begin at these starts.
@@ -56,7 +41,7 @@ fn lent_rules<'a>(file: &'a [u8], starts: &'a [u16], sizes: &'a [u8], n: usize) 
     if six < n {
         return Judged::Refused(6, six);
     }
-    if total_of(starts, sizes, n) != 6 * n - 14 {
+    if fit::total_of(sizes, n) != 6 * n - 14 {
         return Judged::Refused(7, 0);
     }
     Judged::Passed
@@ -180,16 +165,6 @@ fn chart_rule<'a>(
     Judged::Refused(12, 0)
 }
 
-// How many entries the rings of n contexts have together.
-fn count_of(sizes: &[u8], n: usize) -> usize
-    requires { ⌜ 0 < n ⌝ }
-    requires { ⌜ n ≤ 200 ⌝ }
-    ensures { λ r. ⌜ r ≡ startOf (now (sizes .entry)) n ⌝ }
-{
-    let starts = rings::starts_of(sizes);
-    total_of(&starts, sizes, n)
-}
-
 // 8 and 9 of a sheet.
 fn flat_part(sheet: Sheet) -> Judged
     ensures { λ r. ⌜ judgedAs r ≡ flatRules (sheet .n) (heldPlan sheet) ⌝ }
@@ -209,7 +184,7 @@ fn label_part(sheet: Sheet) -> Judged
     let sizes = sheet.sizes;
     let entries = sheet.entries;
     let labels = sheet.labels;
-    let count = count_of(&sizes, n);
+    let count = fit::total_of(&sizes, n);
     label_rule(&sizes, &entries, n, &labels[0..count])
 }
 
@@ -224,7 +199,7 @@ fn chart_part(sheet: Sheet) -> Judged
     let labels = sheet.labels;
     let xs = sheet.xs;
     let ys = sheet.ys;
-    let count = count_of(&sizes, n);
+    let count = fit::total_of(&sizes, n);
     chart_rule(
         &sizes,
         &entries,
@@ -382,17 +357,6 @@ fn lent_part(file: &[u8], layout: framing::Layout) -> Judged
     }
 }
 
-// A refusal leaves the sheet as it is.
-fn refuse(number: u8, place: usize, sheet: Sheet) -> Outcome
-    ensures { λ r. ⌜ answerAs (r .answer) ≡ refused number place ⌝ }
-    ensures { λ r. ⌜ r .sheet ≡ sheet ⌝ }
-{
-    Outcome {
-        answer: Answer::Refused(number, place),
-        sheet,
-    }
-}
-
 // The new sheet in place of the old one, if it keeps 8 to 12.
 fn replace(old: Sheet, new: Sheet) -> Outcome
     requires { ⌜ Roomy new ⌝ }
@@ -401,11 +365,8 @@ fn replace(old: Sheet, new: Sheet) -> Outcome
 {
     let judged = held_rules(new);
     match judged {
-        Judged::Refused(number, place) => refuse(number, place, old),
-        Judged::Passed => Outcome {
-            answer: Answer::Accepted,
-            sheet: new,
-        },
+        Judged::Refused(number, place) => sheet::refuse(old, number, place),
+        Judged::Passed => sheet::accept(new),
     }
 }
 
@@ -417,62 +378,7 @@ pub fn open_file(sheet: Sheet, file: &[u8]) -> Outcome
     let layout = framing::frame_file(file);
     let judged = lent_part(file, layout);
     match judged {
-        Judged::Refused(number, place) => refuse(number, place, sheet),
+        Judged::Refused(number, place) => sheet::refuse(sheet, number, place),
         Judged::Passed => replace(sheet, copy_sheet(file, layout)),
-    }
-}
-
-// Where the body of a context's ring stands in the file that a sheet was opened from; 17 where there is no such context.
-fn ring_of(sheet: Sheet, context: usize) -> RingAnswer
-    ensures { λ r. ⌜ ringAnswerAs r ≡ heldRing sheet context ⌝ }
-{
-    let n = sheet.n as usize;
-    if n <= context {
-        return RingAnswer::Refused(17, n);
-    }
-    let sizes = sheet.sizes;
-    let size = lists::byte(&sizes, context);
-    let starts = rings::starts_of(&sizes);
-    RingAnswer::Part(
-        10 + 4 * context + 2 * lists::num(&starts, context),
-        2 * size,
-    )
-}
-
-// Ring: the offset and the length of a context's ring in a file, or the refusal.
-pub fn ring_answer(file: &[u8], context: usize) -> RingAnswer
-    ensures { λ r. ⌜ ringAnswerAs r ≡ ringCall (now (file .entry)) context ⌝ }
-{
-    let outcome = open_file(sheet::fresh_sheet(), file);
-    let answer = outcome.answer;
-    let sheet = outcome.sheet;
-    match answer {
-        Answer::Refused(number, place) => RingAnswer::Refused(number, place),
-        Answer::Accepted => ring_of(sheet, context),
-    }
-}
-
-// Ring: the part of a file that is a context's ring; an empty part on a refusal.
-pub fn ring<'a>(file: &'a [u8], context: usize) -> &'a [u8]
-    ensures { λ r. ⌜ now r ≡ ringPart (now (file .entry)) (ringCall (now (file .entry)) context) ⌝ }
-{
-    let answer = ring_answer(file, context);
-    match answer {
-        RingAnswer::Refused(_, _) => &file[0..0],
-        RingAnswer::Part(at, size) => framing::ring_part(file, at, size),
-    }
-}
-
-// Opens a file and writes it again: the buffer then begins with the file's bytes, and its later bytes stay. A refusal leaves the buffer as it is.
-pub fn open_write(file: &[u8], out: &mut [u8]) -> Written
-    ensures { λ r. ⌜ writtenAs r ≡ lengthOf (copiedBack (now (file .entry)) (now (out .entry))) ⌝ }
-    ensures { λ r. ⌜ now (out .exit) ≡ bufferAfter (copiedBack (now (file .entry)) (now (out .entry))) (now (out .entry)) ⌝ }
-{
-    let outcome = open_file(sheet::fresh_sheet(), file);
-    let answer = outcome.answer;
-    let sheet = outcome.sheet;
-    match answer {
-        Answer::Refused(number, place) => Written::Refused(number, place),
-        Answer::Accepted => calls::write(sheet, out),
     }
 }

@@ -2,22 +2,21 @@
 use Prim.Native.Nat.{ℕ, zero, suc, _+_, _-_, _≤_, _<_}
 use mathlib.Core.Path.{_≡_, refl, sym, ap, _∙_, subst}
 use mathlib.Core.List.{List, [], _∷_, _++_, map, append-assoc}
-use mathlib.Core.Bool.{Bool, true, false, cond, _&&_}
+use mathlib.Core.Bool.{Bool, true, false, cond}
 use native.Mathlib.Omega.{arith}
 use lib.ListN.{length, getD, take, drop, length-append, length-map, List·getD-append}
 use lib.Seq.{ext-getD, take-length, getD-append-add}
-use lib.Dec.{leb}
-use borrow.Author.Tests.{le-leb}
 use Rattle.lists.specs.Ranges.{from}
 use Rattle.lists.specs.Parts.{concat}
 use Rattle.lists.specs.Spans.{stretch, zeros, padded}
-use Rattle.lists.proofs.Bools.{yes-and}
 use Rattle.lists.proofs.Ranges.{length-map-from, getD-map-from}
 use Rattle.lists.proofs.Spans.{length-stretch, getD-stretch}
 use Rattle.model.specs.Plan.{Plan, count, entryCount}
 use Rattle.model.specs.Chart.{Chart}
 use Rattle.model.specs.File as file
 use Rattle.rings.specs.Tables.{sumOf, startOf, startsOf, sizeOf, rows, table}
+use Rattle.fit.specs.Fits.{fit}
+use Rattle.fit.proofs.Fits.{fit-says}
 use Rattle.sheet.specs.declared.Sheet.{Sheet}
 use Rattle.sheet.specs.declared.Stage.{Stage}
 use Rattle.sheet.specs.declared.Stage.the-variants.{Empty, Open, Labelled, Charted}
@@ -102,22 +101,17 @@ table-packed k rs h = λ i. record { rings = same i }
         (λ u q. let b : u < length rs = let l = length-map-from f 0 (length rs) in omega arith in getD-map-from f 0 (length rs) u [] b ∙ ap f (omega arith) ∙ each u b)
 
 -- ---- the whole sheet
--- what fits into the arrays
-pub record PlanHeld (p : Plan) : Type 0 where
-  pub few : count p ≤ 200
-  pub room : entryCount p ≤ 1186
-
 pub record ChartHeld (p : Plan) (c : Chart) : Type 0 where
   pub xs-each : length (c .xs) ≡ count p
   pub ys-each : length (c .ys) ≡ count p
 
 abbrev pub Held : file.Sheet → Type 0
 Held file.fresh = Unit {0}
-Held (file.opened p) = PlanHeld p
-Held (file.labelled p ls) = PlanHeld p × (length ls ≡ entryCount p)
-Held (file.charted p ls c) = PlanHeld p × (length ls ≡ entryCount p) × ChartHeld p c
+Held (file.opened p) = fit p ≡ true
+Held (file.labelled p ls) = (fit p ≡ true) × (length ls ≡ entryCount p)
+Held (file.charted p ls c) = (fit p ≡ true) × (length ls ≡ entryCount p) × ChartHeld p c
 
-module _ (g : Stage) (p : Plan) (ls : List ℕ) (c : Chart) (h : PlanHeld p) where
+module _ (g : Stage) (p : Plan) (ls : List ℕ) (c : Chart) (h : fit p ≡ true) where
   abbrev s : Sheet
   s = pack g (p .rings) ls c
 
@@ -125,16 +119,13 @@ module _ (g : Stage) (p : Plan) (ls : List ℕ) (c : Chart) (h : PlanHeld p) whe
   unfolding heldCount pack entryCount
   count-packed = start-packed 200 (p .rings) (count p) (omega arith) ∙ ap (λ (rs : List (List ℕ)). length (concat rs)) (take-length (p .rings))
 
-  fits-packed : fits s ≡ true
-  unfolding fits
-  fits-packed = yes-and _ _ (few-yes) (le-leb (heldCount s) 1186 (let q = count-packed in let r = h .room in omega arith))
-    where
-      few-yes : leb (s .n) 200 ≡ true
-      few-yes = unfold pack in le-leb (count p) 200 (h .few)
-
   pub plan-packed : heldPlan s ≡ p
   unfolding heldPlan pack
-  plan-packed = table-packed 1186 (p .rings) (h .few)
+  plan-packed = table-packed 1186 (p .rings) (fit-says p h .few)
+
+  fits-packed : fits s ≡ true
+  unfolding fits
+  fits-packed = ap fit plan-packed ∙ h
 
   pub labels-packed : length ls ≡ entryCount p → heldLabels s ≡ ls
   unfolding heldLabels pack

@@ -1,15 +1,15 @@
 -- The sheet struct and the sheet that it holds: what a struct reads as, and the struct that a sheet is packed into.
 use Prim.Native.Nat.{ℕ}
 use mathlib.Core.List.{List, [], map}
-use mathlib.Core.Bool.{Bool, cond, _&&_}
+use mathlib.Core.Bool.{Bool, cond}
 use lib.ListN.{length}
-use lib.Dec.{leb}
 use Rattle.lists.specs.Parts.{concat}
 use Rattle.lists.specs.Spans.{stretch, zeros, padded}
 use Rattle.model.specs.Plan.{Plan, count}
 use Rattle.model.specs.Chart.{Chart}
 use Rattle.model.specs.File as file
 use Rattle.rings.specs.Tables.{startOf, table}
+use Rattle.fit.specs.Fits.{fit}
 use Rattle.sheet.specs.declared.Sheet.{Sheet}
 use Rattle.sheet.specs.declared.Stage.{Stage}
 use Rattle.sheet.specs.declared.Stage.the-variants.{Empty, Open, Labelled, Charted}
@@ -37,13 +37,24 @@ held Open s = file.opened (heldPlan s)
 held Labelled s = file.labelled (heldPlan s) (heldLabels s)
 held Charted s = file.charted (heldPlan s) (heldLabels s) (heldChart s)
 
--- n and the rings fit into the arrays
+-- the plan fits: its rings into the arrays, and each entry is a context
 unfoldable pub fits : Sheet → Bool
-fits s = leb (s .n) 200 && leb (heldCount s) 1186
+fits s = fit (heldPlan s)
 
--- What a struct reads as. One whose rings do not fit into its arrays, which no call leaves, reads as a fresh sheet.
+-- What a struct reads as. One whose plan does not fit, which no call leaves, reads as a fresh sheet.
 unfoldable pub reads : Sheet → file.Sheet
 reads s = cond (fits s) (held (s .stage) s) file.fresh
+
+-- the stage that counts: EMPTY where the plan does not fit
+unfoldable pub stageRead : Sheet → Stage
+stageRead s = cond (fits s) (s .stage) Empty
+
+-- the stages by number
+unfoldable pub rank : Stage → ℕ
+rank Empty = 0
+rank Open = 1
+rank Labelled = 2
+rank Charted = 3
 
 -- the struct with these parts, and zeros behind each
 unfoldable pub pack : Stage → List (List ℕ) → List ℕ → Chart → Sheet

@@ -1,7 +1,9 @@
 // The sheet: plan, labels and chart in flat arrays, passed and returned by value.
 ghost use mathlib.Core.Path.{_≡_};
-ghost use Rattle.sheet.specs.Sheets.{packed};
+ghost use Rattle.model.specs.Outcome.{refused, passed};
 ghost use Rattle.model.specs.File.{fresh};
+ghost use Rattle.sheet.specs.Sheets.{packed, stageRead, rank};
+ghost use Rattle.sheet.specs.Answers.{answerAs};
 
 // How far a sheet has come.
 pub enum Stage {
@@ -76,5 +78,51 @@ pub fn fresh_sheet() -> Sheet
         h: 0,
         xs: [0u16; 200],
         ys: [0u16; 200],
+    }
+}
+
+// The stage that counts: Empty where the plan does not fit.
+pub fn stage_of(sheet: Sheet) -> Stage
+    ensures { λ r. ⌜ r ≡ stageRead sheet ⌝ }
+{
+    let sizes = sheet.sizes;
+    let entries = sheet.entries;
+    if fit::is_fit(&sizes, &entries, lists::wide_word(sheet.n)) {
+        return sheet.stage;
+    }
+    Stage::Empty
+}
+
+// The number of a stage.
+pub fn rank_of(stage: Stage) -> usize
+    ensures { λ r. ⌜ r ≡ rank stage ⌝ }
+{
+    match stage {
+        Stage::Empty => 0,
+        Stage::Open => 1,
+        Stage::Labelled => 2,
+        Stage::Charted => 3,
+    }
+}
+
+// A refusal, which leaves the sheet as it was.
+pub fn refuse(sheet: Sheet, number: u8, place: usize) -> Outcome
+    ensures { λ r. ⌜ answerAs (r .answer) ≡ refused number place ⌝ }
+    ensures { λ r. ⌜ r .sheet ≡ sheet ⌝ }
+{
+    Outcome {
+        answer: Answer::Refused(number, place),
+        sheet,
+    }
+}
+
+// An accepted call, which leaves this sheet.
+pub fn accept(sheet: Sheet) -> Outcome
+    ensures { λ r. ⌜ answerAs (r .answer) ≡ passed ⌝ }
+    ensures { λ r. ⌜ r .sheet ≡ sheet ⌝ }
+{
+    Outcome {
+        answer: Answer::Accepted,
+        sheet,
     }
 }

@@ -1,4 +1,4 @@
--- calls::breach_of meets its contract.
+-- breach_of meets its contract.
 use mathlib.Core.Path.{ap, _∙_}
 use Prim.Native.Nat.{ℕ, min}
 use Rattle.lists.specs.Ranges.{lowest}
@@ -12,23 +12,18 @@ use Rattle.calls.proofs.breach_of.Lts as lts
 use Rattle.labels.proofs.rules.rules_place.Reads as rules-place-reads
 use Rattle.lists.proofs.wide_word.Reads as wide-word-reads
 
--- src/lib.rt:180:32
 slice-aggregate-rules-place : tie.Need-slice-aggregate-rules-place
 slice-aggregate-rules-place c = search needs
 
--- src/lib.rt:180:40
 slice-aggregate-rules-place-2 : tie.Need-slice-aggregate-rules-place-2
 slice-aggregate-rules-place-2 c = search needs
 
--- src/lib.rt:180:50
 wide-word-requires : tie.Need-wide-word-requires
 wide-word-requires c κs = search needs
 
--- src/lib.rt:180:5
 rules-place-requires : tie.Need-rules-place-requires
 rules-place-requires c κs = search needs
 
--- src/lib.rt:175:1
 returns : tie.Need-returns
 returns c =
     let a = c .before .before .before .before .before .before .before .args in

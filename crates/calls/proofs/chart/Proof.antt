@@ -1,11 +1,11 @@
--- calls::chart meets its contract.
+-- chart meets its contract.
 use mathlib.Core.Path.{ap, _∙_}
 use Rattle.model.specs.File.{charted}
 use Rattle.model.specs.Calls.{chartCall}
 use Rattle.placement.specs.Drawing.{chartOn, drawnOf}
 use Rattle.sheet.specs.Sheets.{heldPlan, heldLabels, reads}
-use Rattle.calls.proofs.Reading.{ranked, fits-there}
-use Rattle.calls.proofs.Offers.{answer-refused, answer-accepted}
+use Rattle.sheet.proofs.Reading.{ranked, fits-there}
+use Rattle.sheet.proofs.Reading.{answer-refused, answer-accepted}
 use Rattle.calls.proofs.Charts.{chart-call-early, chart-call-none, chart-drawn, chart-call-drawn}
 use native.Mathlib.Omega.{arith}
 use borrow.Author.Needs.{needs}
@@ -13,51 +13,43 @@ use Rattle.calls.proofs.chart.Statement.{statement}
 use Rattle.calls.proofs.chart.Tie as tie
 use Rattle.calls.proofs.chart.Reads as reads
 use Rattle.calls.proofs.chart.Lts as lts
-use Rattle.calls.proofs.accept.Reads as accept-reads
+use Rattle.sheet.proofs.accept.Reads as accept-reads
 use Rattle.calls.proofs.chart_held.Reads as chart-held-reads
-use Rattle.calls.proofs.rank_of.Reads as rank-of-reads
-use Rattle.calls.proofs.refuse.Reads as refuse-reads
-use Rattle.calls.proofs.stage_of.Reads as stage-of-reads
+use Rattle.sheet.proofs.rank_of.Reads as rank-of-reads
+use Rattle.sheet.proofs.refuse.Reads as refuse-reads
+use Rattle.sheet.proofs.stage_of.Reads as stage-of-reads
 use Rattle.calls.proofs.with_chart.Reads as with-chart-reads
 
--- src/lib.rt:268:16
 stage-of-requires : tie.Need-stage-of-requires
 stage-of-requires c κs = search needs
 
--- src/lib.rt:268:8
 rank-of-requires : tie.Need-rank-of-requires
 rank-of-requires c κs = search needs
 
--- src/lib.rt:269:9
 refuse-requires : tie.Need-refuse-requires
 refuse-requires c κs = search needs
 
--- src/lib.rt:269:9
 returns : tie.Need-returns
 returns c =
     let s = c .before .before .before .before .args .sheet in
     let k = ranked s (c .before .before .before .stage-of .ensures) (c .before .before .rank-of .ensures) in
     answer-refused s (c .refuse .result .sheet) (c .refuse .result .answer) (chartCall (reads s)) 13 0 (chart-call-early s (omega arith)) (c .refuse .ensures .0) (c .refuse .ensures .1)
 
--- src/lib.rt:271:9
 chart-held-requires : tie.Need-chart-held-requires
 chart-held-requires c κs =
     let s = c .before .before .before .args .sheet in
     let k = ranked s (c .before .before .stage-of .ensures) (c .before .rank-of .ensures) in
     fits-there s (omega arith)
 
--- src/lib.rt:273:23
 with-chart-requires : tie.Need-with-chart-requires
 with-chart-requires c κs =
     let s = c .before .before .before .before .before .args .sheet in
     let k = ranked s (c .before .before .before .before .stage-of .ensures) (c .before .before .before .rank-of .ensures) in
     fits-there s (omega arith)
 
--- src/lib.rt:273:9
 accept-requires : tie.Need-accept-requires
 accept-requires c κs = search needs
 
--- src/lib.rt:273:9
 returns-2 : tie.Need-returns-2
 returns-2 c =
     let s = c .before .before .before .before .before .before .before .args .sheet in
@@ -68,11 +60,9 @@ returns-2 c =
     let drawn = call .ensures .1 ∙ ap drawnOf (chart-drawn s (omega arith) d (call .ensures .0) (c .before .before .if2 .taken)) in
     answer-accepted s (c .accept .result .sheet) (c .accept .result .answer) (chartCall (reads s)) (charted (heldPlan s) (heldLabels s) ch) (chart-call-drawn s (omega arith) d (call .ensures .0) (c .before .before .if2 .taken)) (c .accept .ensures .0) (c .accept .ensures .1 ∙ c .before .with-chart .ensures ch drawn)
 
--- src/lib.rt:275:5
 refuse-requires-2 : tie.Need-refuse-requires-2
 refuse-requires-2 c κs = search needs
 
--- src/lib.rt:264:1
 returns-3 : tie.Need-returns-3
 returns-3 c =
     let s = c .before .before .before .before .before .before .args .sheet in

@@ -1,10 +1,10 @@
--- calls::chart_held meets its contract.
+-- chart_held meets its contract.
 use mathlib.Core.Path.{_≡_, sym, ap, _∙_}
 use Prim.Native.Nat.{_≤_}
 use lib.ListN.{length}
 use Rattle.rings.specs.Tables.{startOf}
 use Rattle.placement.specs.Drawing.{drawnAs, drawnOf}
-use Rattle.calls.proofs.Reading.{few, room}
+use Rattle.sheet.proofs.Reading.{room, total-held}
 use Rattle.calls.proofs.Charts.{chart-for}
 use native.Mathlib.Omega.{arith}
 use borrow.Author.Needs.{needs}
@@ -14,29 +14,23 @@ use Rattle.calls.proofs.chart_held.Reads as reads
 use Rattle.calls.proofs.chart_held.Lts as lts
 use Rattle.lists.proofs.wide_word.Reads as wide-word-reads
 use Rattle.calls.proofs.chart_with.Reads as chart-with-reads
-use Rattle.calls.proofs.total_of.Reads as total-of-reads
+use Rattle.fit.proofs.total_of.Reads as total-of-reads
 
--- src/lib.rt:231:9
 wide-word-requires : tie.Need-wide-word-requires
 wide-word-requires c κs = search needs
 
--- src/lib.rt:232:26
 slice-aggregate-total-of : tie.Need-slice-aggregate-total-of
 slice-aggregate-total-of c = search needs
 
--- src/lib.rt:232:9
 total-of-requires : tie.Need-total-of-requires
-total-of-requires c κs = let w = c .before .wide-word .ensures .0 in let h = few (c .before .before .before .before .before .args .sheet) (c .before .before .before .before .before .pre) in omega arith
+total-of-requires c κs = search needs
 
--- src/lib.rt:233:16
 slice-aggregate-chart-with : tie.Need-slice-aggregate-chart-with
 slice-aggregate-chart-with c = search needs
 
--- src/lib.rt:233:24
 slice-aggregate-chart-with-2 : tie.Need-slice-aggregate-chart-with-2
 slice-aggregate-chart-with-2 c = search needs
 
--- src/lib.rt:233:37
 slice-aggregate-chart-with-3 : tie.Need-slice-aggregate-chart-with-3
 slice-aggregate-chart-with-3 c = search needs
 
@@ -44,9 +38,9 @@ slice-aggregate-chart-with-3 c = search needs
 reach : (c : tie.After-labels2) → c .before .before .before .total-of .result ≤ length (c .before .before .before .before .before .before .before .before .before .args .sheet .labels)
 reach c =
     let s = c .before .before .before .before .before .before .before .before .before .args .sheet in
-    let w = ap (startOf (s .sizes)) (c .before .before .before .before .before .wide-word .ensures .0) in
-    let t = c .before .before .before .total-of .ensures in
-    let h = room s (c .before .before .before .before .before .before .before .before .before .pre) in
+    let f = c .before .before .before .before .before .before .before .before .before .pre in
+    let t = total-held s f (c .before .before .before .before .before .wide-word .ensures .0) (c .before .before .before .total-of .ensures .0) in
+    let h = room s f in
     let l : 1186 ≡ length (s .labels) = slice-aggregate-chart-with-3 c in
     omega arith
 
@@ -57,7 +51,9 @@ returns : tie.Need-returns
 returns c =
     let s = c .before .before .before .before .before .before .before .before .before .before .args .sheet in
     let w = c .before .before .before .before .before .before .wide-word .ensures .0 in
-    let e = chart-for s (c .before .before .before .before .before .before .wide-word .result) (c .before .before .before .before .total-of .result) (c .before .before .before .before .before .before .before .before .before .before .pre) w (c .before .before .before .before .total-of .ensures) (reach (c .before)) in
+    let f = c .before .before .before .before .before .before .before .before .before .before .pre in
+    let t = total-held s f w (c .before .before .before .before .total-of .ensures .0) in
+    let e = chart-for s (c .before .before .before .before .before .before .wide-word .result) (c .before .before .before .before .total-of .result) f w t (reach (c .before)) in
     (ap (drawnAs (c .chart-with .result)) (sym w) ∙ c .chart-with .ensures .0 ∙ e, c .chart-with .ensures .1 ∙ ap drawnOf e)
 
 pub chart-held-spec : {M : Type 1} → statement M

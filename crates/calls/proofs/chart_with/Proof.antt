@@ -1,4 +1,4 @@
--- calls::chart_with meets its contract.
+-- chart_with meets its contract.
 use mathlib.Core.Path.{sym}
 use lib.Seq.{length-take-le}
 use borrow.Author.Needs.{needs}
@@ -8,15 +8,12 @@ use Rattle.calls.proofs.chart_with.Reads as reads
 use Rattle.calls.proofs.chart_with.Lts as lts
 use Rattle.placement.proofs.chart_of.Reads as chart-of-reads
 
--- src/lib.rt:218:9
 slice-aggregate-part : tie.Need-slice-aggregate-part
 slice-aggregate-part c = let a = c .before .before .before .before .args in sym (length-take-le (a .k) (a .labels .now) (c .before .before .before .before .pre))
 
--- src/lib.rt:219:5
 chart-of-requires : tie.Need-chart-of-requires
 chart-of-requires c κs = search needs
 
--- src/lib.rt:207:1
 returns : tie.Need-returns
 returns c = search needs
 

@@ -1,4 +1,4 @@
--- calls::offer meets its contract.
+-- offer meets its contract.
 use mathlib.Core.Path.{ap, _∙_}
 use mathlib.Core.List.{List}
 use Prim.Native.Nat.{ℕ}
@@ -7,8 +7,9 @@ use Rattle.model.specs.File.{labelled}
 use Rattle.model.specs.Calls.{offerCall}
 use Rattle.calls.proofs.Cleaned.{stretch-all}
 use Rattle.sheet.specs.Sheets.{heldPlan, reads, packed}
-use Rattle.calls.proofs.Reading.{fits-there, few, ranked}
-use Rattle.calls.proofs.Offers.{answer-refused, answer-accepted, offer-early, offer-count, offer-broken, offer-kept}
+use Rattle.sheet.proofs.Reading.{fits-there, few, ranked}
+use Rattle.sheet.proofs.Reading.{answer-refused, answer-accepted}
+use Rattle.calls.proofs.Offers.{offer-early, offer-count, offer-broken, offer-kept}
 use native.Mathlib.Omega.{arith}
 use borrow.Author.Needs.{needs}
 use Rattle.calls.proofs.offer.Statement.{statement}
@@ -16,27 +17,23 @@ use Rattle.calls.proofs.offer.Tie as tie
 use Rattle.calls.proofs.offer.Reads as reads
 use Rattle.calls.proofs.offer.Lts as lts
 use Rattle.lists.proofs.wide_word.Reads as wide-word-reads
-use Rattle.calls.proofs.accept.Reads as accept-reads
+use Rattle.sheet.proofs.accept.Reads as accept-reads
 use Rattle.calls.proofs.breach_of.Reads as breach-of-reads
 use Rattle.calls.proofs.darts_due.Reads as darts-due-reads
-use Rattle.calls.proofs.rank_of.Reads as rank-of-reads
-use Rattle.calls.proofs.refuse.Reads as refuse-reads
+use Rattle.sheet.proofs.rank_of.Reads as rank-of-reads
+use Rattle.sheet.proofs.refuse.Reads as refuse-reads
 use Rattle.calls.proofs.relabelled.Reads as relabelled-reads
-use Rattle.calls.proofs.stage_of.Reads as stage-of-reads
+use Rattle.sheet.proofs.stage_of.Reads as stage-of-reads
 
--- src/lib.rt:188:16
 stage-of-requires : tie.Need-stage-of-requires
 stage-of-requires c κs = search needs
 
--- src/lib.rt:188:8
 rank-of-requires : tie.Need-rank-of-requires
 rank-of-requires c κs = search needs
 
--- src/lib.rt:189:9
 refuse-requires : tie.Need-refuse-requires
 refuse-requires c κs = search needs
 
--- src/lib.rt:189:9
 returns : tie.Need-returns
 returns c =
     let a = c .before .before .before .before .before .args in
@@ -44,19 +41,15 @@ returns c =
     let k = ranked s (c .before .before .before .stage-of .ensures) (c .before .before .rank-of .ensures) in
     answer-refused s (c .refuse .result .sheet) (c .refuse .result .answer) (offerCall (reads s) (a .labels .now)) 13 0 (offer-early s (a .labels .now) (omega arith)) (c .refuse .ensures .0) (c .refuse .ensures .1)
 
--- src/lib.rt:191:9
 wide-word-requires : tie.Need-wide-word-requires
 wide-word-requires c κs = search needs
 
--- src/lib.rt:192:24
 darts-due-requires : tie.Need-darts-due-requires
 darts-due-requires c κs = search needs
 
--- src/lib.rt:193:9
 refuse-requires-2 : tie.Need-refuse-requires-2
 refuse-requires-2 c κs = search needs
 
--- src/lib.rt:193:9
 returns-2 : tie.Need-returns-2
 returns-2 c =
     let a = c .before .before .before .before .before .before .before .before .args in
@@ -65,15 +58,12 @@ returns-2 c =
     let d = c .before .before .darts-due .ensures ∙ ap dartCount (c .before .before .before .wide-word .ensures .0) in
     answer-refused s (c .refuse2 .result .sheet) (c .refuse2 .result .answer) (offerCall (reads s) (a .labels .now)) 2 0 (offer-count s (a .labels .now) (c .before .before .darts-due .result) (omega arith) d (c .before .if2 .taken)) (c .refuse2 .ensures .0) (c .refuse2 .ensures .1)
 
--- src/lib.rt:195:9
 breach-of-requires : tie.Need-breach-of-requires
 breach-of-requires c κs = search needs
 
--- src/lib.rt:197:9
 refuse-requires-3 : tie.Need-refuse-requires-3
 refuse-requires-3 c κs = search needs
 
--- src/lib.rt:197:9
 returns-3 : tie.Need-returns-3
 returns-3 c =
     let a = c .before .before .before .before .before .before .before .before .before .before .args in
@@ -84,7 +74,6 @@ returns-3 c =
     let u = c .before .before .breach-of .result in
     answer-refused s (c .refuse3 .result .sheet) (c .refuse3 .result .answer) (offerCall (reads s) (a .labels .now)) 10 u (offer-broken s (a .labels .now) (c .before .before .before .before .darts-due .result) u (omega arith) d (c .before .before .before .if2 .left) (c .before .before .breach-of .ensures) (omega arith)) (c .refuse3 .ensures .0) (c .refuse3 .ensures .1)
 
--- src/lib.rt:199:12
 relabelled-requires : tie.Need-relabelled-requires
 relabelled-requires c κs =
     let a = c .before .before .before .before .before .before .before .before .before .args in
@@ -97,11 +86,9 @@ relabelled-requires c κs =
     let l = c .before .before .if2 .left in
     (f, omega arith)
 
--- src/lib.rt:199:5
 accept-requires : tie.Need-accept-requires
 accept-requires c κs = search needs
 
--- src/lib.rt:184:1
 returns-4 : tie.Need-returns-4
 returns-4 c =
     let a = c .before .before .before .before .before .before .before .before .before .before .before .args in

@@ -1,10 +1,10 @@
--- calls::relabelled meets its contract.
+-- relabelled meets its contract.
 use mathlib.Core.Path.{ap, _∙_}
 use Prim.Native.Nat.{ℕ}
 use Rattle.lists.specs.Spans.{stretch, zeros, padded}
 use Rattle.rings.specs.Tables.{startOf}
 use Rattle.sheet.specs.declared.Stage.the-variants.{Labelled}
-use Rattle.calls.proofs.Reading.{few, room}
+use Rattle.sheet.proofs.Reading.{few, room, total-held}
 use Rattle.calls.proofs.Cleaned.{rebuilt}
 use native.Mathlib.Omega.{arith}
 use borrow.Author.Needs.{needs}
@@ -16,55 +16,48 @@ use Rattle.lists.proofs.wide_word.Reads as wide-word-reads
 use Rattle.calls.proofs.first_entries.Reads as first-entries-reads
 use Rattle.calls.proofs.first_labels.Reads as first-labels-reads
 use Rattle.calls.proofs.first_sizes.Reads as first-sizes-reads
-use Rattle.calls.proofs.total_of.Reads as total-of-reads
+use Rattle.fit.proofs.total_of.Reads as total-of-reads
 
--- src/lib.rt:126:9
 wide-word-requires : tie.Need-wide-word-requires
 wide-word-requires c κs = search needs
 
--- src/lib.rt:127:26
 slice-aggregate-total-of : tie.Need-slice-aggregate-total-of
 slice-aggregate-total-of c = search needs
 
--- src/lib.rt:127:9
 total-of-requires : tie.Need-total-of-requires
-total-of-requires c κs = let w = c .before .wide-word .ensures .0 in let h = few (c .before .before .before .before .before .args .sheet) (c .before .before .before .before .before .pre .0) in omega arith
+total-of-requires c κs = search needs
 
--- src/lib.rt:128:34
 slice-aggregate-first-sizes : tie.Need-slice-aggregate-first-sizes
 slice-aggregate-first-sizes c = search needs
 
--- src/lib.rt:128:9
 first-sizes-requires : tie.Need-first-sizes-requires
 first-sizes-requires c κs = let w = c .before .before .before .wide-word .ensures .0 in let h = few (c .before .before .before .before .before .before .before .args .sheet) (c .before .before .before .before .before .before .before .pre .0) in omega arith
 
--- src/lib.rt:129:38
 slice-aggregate-first-entries : tie.Need-slice-aggregate-first-entries
 slice-aggregate-first-entries c = search needs
 
--- src/lib.rt:129:9
 first-entries-requires : tie.Need-first-entries-requires
 first-entries-requires c κs =
     let s = c .before .before .before .before .before .before .before .before .before .args .sheet in
-    let w = ap (startOf (s .sizes)) (c .before .before .before .before .before .wide-word .ensures .0) in
-    let t = c .before .before .before .total-of .ensures in
-    let h = room s (c .before .before .before .before .before .before .before .before .before .pre .0) in
+    let f = c .before .before .before .before .before .before .before .before .before .pre .0 in
+    let t = total-held s f (c .before .before .before .before .before .wide-word .ensures .0) (c .before .before .before .total-of .ensures .0) in
+    let h = room s f in
     omega arith
 
--- src/lib.rt:130:9
 first-labels-requires : tie.Need-first-labels-requires
 first-labels-requires c κs = search needs
 
--- src/lib.rt:119:1
 returns : tie.Need-returns
 unfolding zeros
 returns c =
     let a = c .before .before .before .before .before .before .before .before .before .before .before .args in
     let s = a .sheet in
     let n = c .before .before .before .before .before .before .before .wide-word .result in
+    let f = c .before .before .before .before .before .before .before .before .before .before .before .pre .0 in
+    let t = total-held s f (c .before .before .before .before .before .before .before .wide-word .ensures .0) (c .before .before .before .before .before .total-of .ensures .0) in
     (λ i. record { stage = Labelled; n = s .n; sizes = c .before .before .before .first-sizes .result; entries = c .before .first-entries .result; labels = c .first-labels .ensures i; w = 0; h = 0; xs = zeros 200; ys = zeros 200 })
-    ∙ rebuilt s n (c .before .before .before .first-sizes .result) (c .before .first-entries .result) (stretch (a .labels .now) 0 (a .k)) (c .before .before .before .before .before .before .before .before .before .before .before .pre .0) (c .before .before .before .before .before .before .before .wide-word .ensures .0) (c .before .before .before .first-sizes .ensures)
-    (c .before .first-entries .ensures ∙ ap (λ (k : ℕ). padded 1186 (stretch (s .entries) 0 k)) (c .before .before .before .before .before .total-of .ensures))
+    ∙ rebuilt s n (c .before .before .before .first-sizes .result) (c .before .first-entries .result) (stretch (a .labels .now) 0 (a .k)) f (c .before .before .before .before .before .before .before .wide-word .ensures .0) (c .before .before .before .first-sizes .ensures)
+    (c .before .first-entries .ensures ∙ ap (λ (k : ℕ). padded 1186 (stretch (s .entries) 0 k)) t)
 
 pub relabelled-spec : {M : Type 1} → statement M
 relabelled-spec =

@@ -1,5 +1,5 @@
 -- chart_part meets its contract.
-use Rattle.opening.proofs.Judging.{front-labels}
+use Rattle.opening.proofs.Judging.{front-labels, all-counted}
 use Prim.Native.Nat.{ℕ}
 use Rattle.placement.specs.Drawing.{chartOn}
 use Rattle.opening.specs.Opening.{chartRules}
@@ -13,16 +13,16 @@ use Rattle.opening.proofs.chart_part.Tie as tie
 use Rattle.opening.proofs.chart_part.Reads as reads
 use Rattle.opening.proofs.chart_part.Lts as lts
 use Rattle.opening.proofs.chart_rule.Reads as chart-rule-reads
-use Rattle.opening.proofs.count_of.Reads as count-of-reads
+use Rattle.fit.proofs.total_of.Reads as total-of-reads
 
 cast-n : tie.Need-cast-n
 cast-n c = search needs
 
-slice-aggregate-count-of : tie.Need-slice-aggregate-count-of
-slice-aggregate-count-of c = search needs
+slice-aggregate-total-of : tie.Need-slice-aggregate-total-of
+slice-aggregate-total-of c = search needs
 
-count-of-requires : tie.Need-count-of-requires
-count-of-requires c κs = search needs
+total-of-requires : tie.Need-total-of-requires
+total-of-requires c κs = search needs
 
 slice-aggregate-chart-rule : tie.Need-slice-aggregate-chart-rule
 slice-aggregate-chart-rule c = search needs
@@ -40,7 +40,7 @@ part-chart-rule-end : tie.Need-part-chart-rule-end
 unfolding heldCount
 part-chart-rule-end c =
     let q = c .before .before .before .before .before .before .before .before .before .before .before .pre in
-    let e = c .before .before .before .count-of .ensures in
+    let e = all-counted (c .before .before .before .before .before .before .before .before .before .before .before .args .sheet .sizes) (q .few) (c .before .before .before .total-of .ensures .0) in
     let r = q .room in
     let l = q .long in
     omega arith
@@ -59,15 +59,15 @@ returns : tie.Need-returns
 unfolding heldPlan heldChart chartOn
 returns c =
     let s = c .before .before .before .before .before .before .before .before .before .before .before .before .before .before .before .args .sheet in
-    c .chart-rule .ensures ∙ ap (λ (l : List ℕ). chartRules (heldPlan s) l (heldChart s)) (front-labels s (c .before .before .before .before .before .before .before .before .before .before .before .before .before .before .before .pre .room) (c .before .before .before .before .before .before .before .before .before .before .before .before .before .before .before .pre .long) (c .before .before .before .before .before .before .before .count-of .ensures))
+    c .chart-rule .ensures ∙ ap (λ (l : List ℕ). chartRules (heldPlan s) l (heldChart s)) (front-labels s (c .before .before .before .before .before .before .before .before .before .before .before .before .before .before .before .pre .room) (c .before .before .before .before .before .before .before .before .before .before .before .before .before .before .before .pre .long) (all-counted (s .sizes) (c .before .before .before .before .before .before .before .before .before .before .before .before .before .before .before .pre .few) (c .before .before .before .before .before .before .before .total-of .ensures .0)))
 
 pub chart-part-spec : {M : Type 1} → statement M
 chart-part-spec =
     tie.close
     (tie.spec
     cast-n
-    slice-aggregate-count-of
-    count-of-requires
+    slice-aggregate-total-of
+    total-of-requires
     slice-aggregate-chart-rule
     slice-aggregate-chart-rule-2
     sub-chart-rule

@@ -1,5 +1,5 @@
 -- label_part meets its contract.
-use Rattle.opening.proofs.Judging.{front-labels}
+use Rattle.opening.proofs.Judging.{front-labels, all-counted}
 use Rattle.model.specs.Labels.{labelRules}
 use mathlib.Core.Path.{_≡_, refl, sym, ap, _∙_}
 use mathlib.Core.List.{List}
@@ -10,17 +10,17 @@ use Rattle.opening.proofs.label_part.Statement.{statement}
 use Rattle.opening.proofs.label_part.Tie as tie
 use Rattle.opening.proofs.label_part.Reads as reads
 use Rattle.opening.proofs.label_part.Lts as lts
-use Rattle.opening.proofs.count_of.Reads as count-of-reads
+use Rattle.fit.proofs.total_of.Reads as total-of-reads
 use Rattle.opening.proofs.label_rule.Reads as label-rule-reads
 
 cast-n : tie.Need-cast-n
 cast-n c = search needs
 
-slice-aggregate-count-of : tie.Need-slice-aggregate-count-of
-slice-aggregate-count-of c = search needs
+slice-aggregate-total-of : tie.Need-slice-aggregate-total-of
+slice-aggregate-total-of c = search needs
 
-count-of-requires : tie.Need-count-of-requires
-count-of-requires c κs = search needs
+total-of-requires : tie.Need-total-of-requires
+total-of-requires c κs = search needs
 
 slice-aggregate-label-rule : tie.Need-slice-aggregate-label-rule
 slice-aggregate-label-rule c = search needs
@@ -38,7 +38,7 @@ part-label-rule-end : tie.Need-part-label-rule-end
 unfolding heldCount
 part-label-rule-end c =
     let q = c .before .before .before .before .before .before .before .before .before .pre in
-    let e = c .before .before .before .count-of .ensures in
+    let e = all-counted (c .before .before .before .before .before .before .before .before .before .args .sheet .sizes) (q .few) (c .before .before .before .total-of .ensures .0) in
     let r = q .room in
     let l = q .long in
     omega arith
@@ -50,15 +50,15 @@ returns : tie.Need-returns
 unfolding heldPlan
 returns c =
     let s = c .before .before .before .before .before .before .before .before .before .before .before .args .sheet in
-    c .label-rule .ensures ∙ ap (labelRules (heldPlan s)) (front-labels s (c .before .before .before .before .before .before .before .before .before .before .before .pre .room) (c .before .before .before .before .before .before .before .before .before .before .before .pre .long) (c .before .before .before .before .before .count-of .ensures))
+    c .label-rule .ensures ∙ ap (labelRules (heldPlan s)) (front-labels s (c .before .before .before .before .before .before .before .before .before .before .before .pre .room) (c .before .before .before .before .before .before .before .before .before .before .before .pre .long) (all-counted (s .sizes) (c .before .before .before .before .before .before .before .before .before .before .before .pre .few) (c .before .before .before .before .before .total-of .ensures .0)))
 
 pub label-part-spec : {M : Type 1} → statement M
 label-part-spec =
     tie.close
     (tie.spec
     cast-n
-    slice-aggregate-count-of
-    count-of-requires
+    slice-aggregate-total-of
+    total-of-requires
     slice-aggregate-label-rule
     slice-aggregate-label-rule-2
     sub-label-rule

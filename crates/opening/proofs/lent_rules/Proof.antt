@@ -9,7 +9,7 @@ use Rattle.rings.specs.Lent.{lent}
 use Rattle.lent.proofs.Copied.{entry-count-lent}
 use Rattle.framing.specs.Layouts.{planIn}
 use Rattle.opening.specs.Opening.{judgedAs}
-use Rattle.opening.proofs.Judging.{four-refused, five-refused, six-refused, seven-refused, lent-passed}
+use Rattle.opening.proofs.Judging.{four-refused, five-refused, six-refused, seven-refused, lent-passed, all-counted}
 use native.Mathlib.Omega.{arith}
 use borrow.Author.Needs.{needs}
 use Rattle.opening.proofs.lent_rules.Statement.{statement}
@@ -19,7 +19,7 @@ use Rattle.opening.proofs.lent_rules.Lts as lts
 use Rattle.lent.proofs.rule4_place.Reads as rule4-place-reads
 use Rattle.lent.proofs.rule5_place.Reads as rule5-place-reads
 use Rattle.lent.proofs.rule6_place.Reads as rule6-place-reads
-use Rattle.opening.proofs.total_of.Reads as total-of-reads
+use Rattle.fit.proofs.total_of.Reads as total-of-reads
 
 rule4-place-requires : tie.Need-rule4-place-requires
 rule4-place-requires c κs = search needs
@@ -68,16 +68,18 @@ unfolding judgedAs
 returns-4 c =
     let a = c .before .before .before .before .before .before .before .before .before .before .before .args in
     let s = c .before .before .before .before .before .before .before .before .before .before .before .pre .1 .1 in
+    let few = c .before .before .before .before .before .before .before .before .before .before .before .pre .1 .0 in
     let p = planIn (a .file .now) (a .sizes .now) (a .n) in
-    seven-refused (a .n) p (c .before .before .before .before .before .before .before .rule4-place .ensures ∙ ap (λ (l : List ℕ). lowest (badEntry (lent l (a .sizes .now) (a .file .now) (a .n))) (a .n)) s) (c .before .before .before .before .before .before .if1 .left) (c .before .before .before .before .before .rule5-place .ensures ∙ ap (λ (l : List ℕ). lowest (badRepeat (lent l (a .sizes .now) (a .file .now) (a .n))) (a .n)) s) (c .before .before .before .before .if2 .left) (c .before .before .before .rule6-place .ensures ∙ ap (λ (l : List ℕ). lowest (unreturned (lent l (a .sizes .now) (a .file .now) (a .n))) (a .n)) s) (c .before .before .if3 .left) (entry-count-lent (startsOf (a .sizes .now)) (a .sizes .now) (a .file .now) (a .n) ∙ sym (c .before .total-of .ensures)) (c .if4 .taken)
+    seven-refused (a .n) p (c .before .before .before .before .before .before .before .rule4-place .ensures ∙ ap (λ (l : List ℕ). lowest (badEntry (lent l (a .sizes .now) (a .file .now) (a .n))) (a .n)) s) (c .before .before .before .before .before .before .if1 .left) (c .before .before .before .before .before .rule5-place .ensures ∙ ap (λ (l : List ℕ). lowest (badRepeat (lent l (a .sizes .now) (a .file .now) (a .n))) (a .n)) s) (c .before .before .before .before .if2 .left) (c .before .before .before .rule6-place .ensures ∙ ap (λ (l : List ℕ). lowest (unreturned (lent l (a .sizes .now) (a .file .now) (a .n))) (a .n)) s) (c .before .before .if3 .left) (entry-count-lent (startsOf (a .sizes .now)) (a .sizes .now) (a .file .now) (a .n) ∙ sym (all-counted (a .sizes .now) few (c .before .total-of .ensures .0))) (c .if4 .taken)
 
 returns-5 : tie.Need-returns-5
 unfolding judgedAs
 returns-5 c =
     let a = c .before .before .before .before .before .before .before .before .before .before .before .args in
     let s = c .before .before .before .before .before .before .before .before .before .before .before .pre .1 .1 in
+    let few = c .before .before .before .before .before .before .before .before .before .before .before .pre .1 .0 in
     let p = planIn (a .file .now) (a .sizes .now) (a .n) in
-    lent-passed (a .n) p (c .before .before .before .before .before .before .before .rule4-place .ensures ∙ ap (λ (l : List ℕ). lowest (badEntry (lent l (a .sizes .now) (a .file .now) (a .n))) (a .n)) s) (c .before .before .before .before .before .before .if1 .left) (c .before .before .before .before .before .rule5-place .ensures ∙ ap (λ (l : List ℕ). lowest (badRepeat (lent l (a .sizes .now) (a .file .now) (a .n))) (a .n)) s) (c .before .before .before .before .if2 .left) (c .before .before .before .rule6-place .ensures ∙ ap (λ (l : List ℕ). lowest (unreturned (lent l (a .sizes .now) (a .file .now) (a .n))) (a .n)) s) (c .before .before .if3 .left) (entry-count-lent (startsOf (a .sizes .now)) (a .sizes .now) (a .file .now) (a .n) ∙ sym (c .before .total-of .ensures)) (c .if4 .left)
+    lent-passed (a .n) p (c .before .before .before .before .before .before .before .rule4-place .ensures ∙ ap (λ (l : List ℕ). lowest (badEntry (lent l (a .sizes .now) (a .file .now) (a .n))) (a .n)) s) (c .before .before .before .before .before .before .if1 .left) (c .before .before .before .before .before .rule5-place .ensures ∙ ap (λ (l : List ℕ). lowest (badRepeat (lent l (a .sizes .now) (a .file .now) (a .n))) (a .n)) s) (c .before .before .before .before .if2 .left) (c .before .before .before .rule6-place .ensures ∙ ap (λ (l : List ℕ). lowest (unreturned (lent l (a .sizes .now) (a .file .now) (a .n))) (a .n)) s) (c .before .before .if3 .left) (entry-count-lent (startsOf (a .sizes .now)) (a .sizes .now) (a .file .now) (a .n) ∙ sym (all-counted (a .sizes .now) few (c .before .total-of .ensures .0))) (c .if4 .left)
 
 pub lent-rules-spec : {M : Type 1} → statement M
 lent-rules-spec =

@@ -15,7 +15,7 @@ use Rattle.opening.proofs.open_file.Lts as lts
 use Rattle.framing.proofs.frame_file.Reads as frame-file-reads
 use Rattle.opening.proofs.copy_sheet.Reads as copy-sheet-reads
 use Rattle.opening.proofs.lent_part.Reads as lent-part-reads
-use Rattle.opening.proofs.refuse.Reads as refuse-reads
+use Rattle.sheet.proofs.refuse.Reads as refuse-reads
 use Rattle.opening.proofs.replace.Reads as replace-reads
 
 frame-file-requires : tie.Need-frame-file-requires

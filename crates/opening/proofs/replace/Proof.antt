@@ -10,7 +10,7 @@ use Rattle.opening.proofs.replace.Tie as tie
 use Rattle.opening.proofs.replace.Reads as reads
 use Rattle.opening.proofs.replace.Lts as lts
 use Rattle.opening.proofs.held_rules.Reads as held-rules-reads
-use Rattle.opening.proofs.refuse.Reads as refuse-reads
+use Rattle.sheet.proofs.refuse.Reads as refuse-reads
 
 held-rules-requires : tie.Need-held-rules-requires
 held-rules-requires c κs = search needs
@@ -24,6 +24,9 @@ refuse-requires c κs = search needs
 enum-told : tie.Need-enum-told
 enum-told c = search needs
 
+accept-requires : tie.Need-accept-requires
+accept-requires c κs = search needs
+
 returns : tie.Need-returns
 unfolding judgedAs answerAs replaced
 returns c =
@@ -34,11 +37,11 @@ returns c =
 returns-2 : tie.Need-returns-2
 unfolding judgedAs answerAs replaced
 returns-2 c =
-    let a = c .before .before .before .args in
-    let e = sym (ap judgedAs (c .enum-told .given .1)) ∙ c .before .before .held-rules .ensures in
-    (e, ap (λ (o : Outcome (Unit {0})). replaced o (a .old) (a .new)) e)
+    let a = c .before .before .before .before .args in
+    let e = sym (ap judgedAs (c .before .enum-told .given .1)) ∙ c .before .before .before .held-rules .ensures in
+    (c .accept .ensures .0 ∙ e, c .accept .ensures .1 ∙ ap (λ (o : Outcome (Unit {0})). replaced o (a .old) (a .new)) e)
 
 pub replace-spec : {M : Type 1} → statement M
 replace-spec =
     tie.close
-    (tie.spec held-rules-requires enum-known-judged refuse-requires enum-told returns returns-2)
+    (tie.spec held-rules-requires enum-known-judged refuse-requires enum-told accept-requires returns returns-2)

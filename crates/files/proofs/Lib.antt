@@ -1,0 +1,2 @@
+pub mod RingParts
+pub mod Rewritten
