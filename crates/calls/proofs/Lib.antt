@@ -1,3 +1,4 @@
 pub mod Cleaned
 pub mod Offers
+pub mod Sweeps
 pub mod Charts

@@ -1,22 +1,24 @@
-// The calls that change a sheet, but for open: offer and chart. Each takes every value of the struct: one whose plan does not fit counts as a fresh sheet.
+// The calls that change a sheet, but for open: offer, sweep and chart. Each takes every value of the struct: one whose plan does not fit counts as a fresh sheet.
 use sheet::Outcome;
 use sheet::Sheet;
 use sheet::Stage;
 ghost use mathlib.Core.Path.{_≡_};
 ghost use mathlib.Core.Bool.{true};
+ghost use mathlib.Core.List.{[]};
 ghost use lib.ListN.{length, take};
 ghost use Prim.Native.Nat.{min, _≤_, _<_, _^_};
 ghost use Rattle.lists.specs.Ranges.{lowest};
 ghost use Rattle.lists.specs.Spans.{stretch, padded};
-ghost use Rattle.model.specs.Outcome.{accepted};
+ghost use Rattle.model.specs.Outcome.{accepted, taken};
 ghost use Rattle.model.specs.Plan.{dartCount};
 ghost use Rattle.model.specs.Labels.{breaks};
 ghost use Rattle.model.specs.Chart.{Chart, chart};
 ghost use Rattle.model.specs.File.{labelled, charted};
-ghost use Rattle.model.specs.Calls.{offerCall, chartCall};
+ghost use Rattle.model.specs.Calls.{offerCall, sweepCall, chartCall};
 ghost use Rattle.labels.specs.Held as flat;
+ghost use Rattle.sweep.specs.Swept.{outcomeOf, sweepOf};
 ghost use Rattle.placement.specs.Drawing.{chartFor, drawnAs, drawnOf};
-ghost use Rattle.sheet.specs.Sheets.{heldPlan, heldLabels, fits, reads, packed};
+ghost use Rattle.sheet.specs.Sheets.{heldCount, heldPlan, heldLabels, fits, reads, packed};
 ghost use Rattle.sheet.specs.Answers.{answerAs, answerOf, after};
 
 // The first k sizes, and zeros behind them.
@@ -87,6 +89,16 @@ fn relabelled(sheet: Sheet, labels: &[u8], k: usize) -> Sheet
     }
 }
 
+// The sheet's plan with these labels, as many as the plan has entries: LABELLED, without a chart.
+fn with_labels(sheet: Sheet, labels: [u8; 1186]) -> Sheet
+    requires { ⌜ fits sheet ≡ true ⌝ }
+    ensures { λ r. ⌜ r ≡ packed (labelled (heldPlan sheet) (stretch labels 0 (heldCount sheet))) ⌝ }
+{
+    let sizes = sheet.sizes;
+    let total = fit::total_of(&sizes, lists::wide_word(sheet.n));
+    relabelled(sheet, &labels, total)
+}
+
 // How many darts a plan of n contexts has.
 fn darts_due(n: usize) -> usize
     requires { ⌜ n < 2 ^ 16 ⌝ }
@@ -121,6 +133,35 @@ pub fn offer(sheet: Sheet, labels: &[u8]) -> Outcome
         return sheet::refuse(sheet, 10, place);
     }
     sheet::accept(relabelled(sheet, labels, labels.len()))
+}
+
+// The sweep of the sheet's plan.
+fn sweep_held(sheet: Sheet) -> sweep::Swept
+    ensures { λ r. ⌜ outcomeOf (r .answer) (taken [] (sweepOf (heldPlan sheet))) ≡ sweepOf (heldPlan sheet) ⌝ }
+    ensures { λ r. ⌜ r .labels ≡ padded 1186 (taken [] (sweepOf (heldPlan sheet))) ⌝ }
+{
+    let sizes = sheet.sizes;
+    let entries = sheet.entries;
+    sweep::sweep_labels(&sizes, &entries, lists::wide_word(sheet.n))
+}
+
+// Sweep (OPEN up): labels worked out from North down to South, stored; the chart is dropped.
+pub fn sweep(sheet: Sheet) -> Outcome
+    ensures { λ r. ⌜ answerAs (r .answer) ≡ answerOf (sweepCall (reads sheet)) ⌝ }
+    ensures { λ r. ⌜ r .sheet ≡ after sheet (sweepCall (reads sheet)) ⌝ }
+{
+    if sheet::rank_of(sheet::stage_of(sheet)) < 1 {
+        return sheet::refuse(sheet, 13, 0);
+    }
+    let swept = sweep_held(sheet);
+    let answer = swept.answer;
+    let labels = swept.labels;
+    match answer {
+        sweep::SweepAnswer::Labelled => sheet::accept(with_labels(sheet, labels)),
+        sweep::SweepAnswer::Stuck => sheet::refuse(sheet, 14, 0),
+        sweep::SweepAnswer::Broken(place) => sheet::refuse(sheet, 10, place),
+        sweep::SweepAnswer::Unfit => sheet::refuse(sheet, 13, 0),
+    }
 }
 
 // The chart of a table with the first k of these labels.
@@ -158,10 +199,7 @@ fn with_chart(sheet: Sheet, drawn: placement::Drawn) -> Sheet
     requires { ⌜ fits sheet ≡ true ⌝ }
     ensures { λ r. ⌜ ((c : Chart) → drawn ≡ drawnOf (accepted c) → r ≡ packed (charted (heldPlan sheet) (heldLabels sheet) c)) ⌝ }
 {
-    let sizes = sheet.sizes;
-    let labels = sheet.labels;
-    let total = fit::total_of(&sizes, lists::wide_word(sheet.n));
-    let kept = relabelled(sheet, &labels, total);
+    let kept = with_labels(sheet, sheet.labels);
     let sizes_kept = kept.sizes;
     let entries_kept = kept.entries;
     let labels_kept = kept.labels;

@@ -4,7 +4,7 @@ use mathlib.Core.Path.{_≡_, refl, sym, ap, _∙_}
 use mathlib.Core.Bool.{Bool, true, false, cond}
 use native.Mathlib.Omega.{arith}
 use Rattle.model.specs.Outcome.{Outcome, accepted, refused, passed}
-use Rattle.model.specs.Plan.{count}
+use Rattle.model.specs.Plan.{count, entryCount}
 use Rattle.model.specs.File as file
 use Rattle.model.specs.Calls.{planOf, labelsOf, chartOf}
 use Rattle.rings.specs.Tables.{startOf, startsOf, table}
@@ -110,6 +110,11 @@ module _ (s : Sheet) where
   pub room : fits s ≡ true → startOf (s .sizes) (s .n) ≤ 1186
   unfolding fits heldPlan
   room e = let h = fit-says (heldPlan s) e .room in let t = total-is (s .sizes) (s .entries) (s .n) (few e) in omega arith
+
+  -- how many entries the plan has
+  pub entries-held : fits s ≡ true → entryCount (heldPlan s) ≡ heldCount s
+  unfolding heldPlan heldCount
+  entries-held f = total-is (s .sizes) (s .entries) (s .n) (few f)
 
   -- how many entries the code counts
   pub total-held : {n k : ℕ} → fits s ≡ true → n ≡ s .n → k ≡ startOf (s .sizes) (min n 200) → k ≡ startOf (s .sizes) (s .n)
