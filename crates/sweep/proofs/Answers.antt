@@ -22,9 +22,15 @@ use Rattle.sweep.specs.declared.SweepAnswer.{SweepAnswer}
 use Rattle.sweep.specs.declared.SweepAnswer.the-variants.{Labelled, Stuck, Broken, Unfit}
 use Rattle.sweep.specs.declared.Swept.{Swept}
 use Rattle.sweep.specs.declared.Ended.{Ended}
-use Rattle.sweep.specs.Swept.{fit, sweepOf, outcomeOf}
+use Rattle.fit.specs.Fits.{fit}
+use Rattle.sweep.specs.Swept.{sweepOf, outcomeOf}
 use Rattle.sweep.specs.Run.{bare, swept, endedAs}
-use Rattle.sweep.proofs.Draws.{start-next, start-le}
+use Rattle.rings.specs.Tables.{startsOf, rows, table}
+use Rattle.rings.proofs.Rows.{count-rows}
+use Rattle.labels.specs.Held.{held}
+use Rattle.labels.proofs.Places.{held-small}
+use Rattle.fit.proofs.Fits.{fit-says}
+use Rattle.sweep.proofs.Draws.{as-table, start-next, start-le}
 use Rattle.sweep.proofs.Steps.{swept-14}
 
 -- ---- the label rules on labels with zeros after them
@@ -160,3 +166,24 @@ module _ (p : Plan) (fits : fit p ≡ true) where
           go : (ls : List ℕ) × (swept p ≡ accepted ls) × (ended .labels ≡ padded 1186 ls) → Answers p r
           go (ls, z, y) =
               answers p r (accepted ls) (swept-then (accepted ls) z ∙ kept ls (place-is ls z y) most) (ap (λ (w : SweepAnswer). outcomeOf w ls) a) (l ∙ y)
+
+-- ---- the same of a plan in flat arrays
+module _ (sizes es : List ℕ) (n : ℕ) where
+  abbrev plan : Plan
+  plan = table sizes es n
+
+  pub counted : count plan ≡ n
+  unfolding table
+  counted = count-rows (startsOf sizes) sizes es n
+
+  -- what the steps came to
+  pub ran : {starts : List ℕ} {ended : Ended} → starts ≡ startsOf sizes → ended ≡ endedAs (swept (rows starts sizes es n)) → ended ≡ endedAs (swept plan)
+  ran {starts} same e = e ∙ ap (λ (p : Plan). endedAs (swept p)) (as-table starts sizes es n same)
+
+  -- the place of the label rules
+  pub ruled : {place : ℕ} (ls : List ℕ) → fit plan ≡ true → place ≡ lowest (breaks (held sizes es n) ls) (min n 200) → place ≡ lowest (breaks plan ls) (count plan)
+  ruled ls fits e =
+      let c = counted in
+      let few = fit-says plan fits .few in
+      let most : min n 200 ≡ count plan = omega arith in
+      e ∙ (λ i. lowest (breaks (held-small sizes es n (omega arith) i) ls) (most i))

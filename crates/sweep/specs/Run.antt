@@ -10,21 +10,16 @@ use Rattle.model.specs.Outcome.{Outcome, accepted, refused}
 use Rattle.model.specs.Plan.{Plan, Dart, count, ring, border}
 use Rattle.model.specs.Labels.{up, right, borderLabel, unlabelled, turned, put}
 use Rattle.model.specs.Sweep.{labelEdges, product, bareLabels, firstState, sweepFrom}
-use Rattle.frontier.specs.Folds.{through, down, some}
+use Rattle.frontier.specs.Folds.{through, down}
 use Rattle.frontier.specs.declared.Line.{Line}
 use Rattle.frontier.specs.Run as lines
 use Rattle.sweep.specs.declared.SweepAnswer.{SweepAnswer}
 use Rattle.sweep.specs.declared.Swept.{Swept}
 use Rattle.sweep.specs.declared.Ended.{Ended}
-use Rattle.sweep.specs.Swept.{strange}
 
 -- an answer with no labels
 unfoldable pub bare : SweepAnswer → Swept
 bare a = record { answer = a; labels = zeros 1186 }
-
--- some ring entry of the first n contexts is no context
-unfoldable pub anyStrange : Plan → ℕ → Bool
-anyStrange p n = some (strange p) 0 n
 
 -- ---- labels
 -- l on the dart from u to v, and its opposite on the reverse

@@ -8,7 +8,6 @@ ghost use Rattle.sweep.specs.Run as run;
 ghost use Rattle.sweep.specs.Swept.{outcomeOf, sweepOf};
 
 mod first;
-mod fit;
 mod mark;
 mod step;
 
@@ -47,10 +46,10 @@ pub fn sweep_labels<'a>(sizes: &'a [u8], entries: &'a [u16], n: usize) -> Swept
     ensures answer { λ r. ⌜ outcomeOf (r .answer) (taken [] (sweepOf (table (now (sizes .entry)) (now (entries .entry)) n))) ≡ sweepOf (table (now (sizes .entry)) (now (entries .entry)) n) ⌝ }
     ensures labels { λ r. ⌜ r .labels ≡ padded 1186 (taken [] (sweepOf (table (now (sizes .entry)) (now (entries .entry)) n))) ⌝ }
 {
-    let starts = rings::starts_of(sizes);
-    if !fit::is_fit(&starts, sizes, entries, n) {
+    if !fit::is_fit(sizes, entries, n) {
         return bare(SweepAnswer::Unfit);
     }
+    let starts = rings::starts_of(sizes);
     let ended = step::run(&starts, sizes, entries, n);
     let labels = ended.labels;
     if !ended.finished {

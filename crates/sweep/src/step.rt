@@ -9,7 +9,7 @@ ghost use Rattle.lists.specs.Spans.{span};
 ghost use Rattle.model.specs.Labels.{up, right};
 ghost use Rattle.model.specs.Sweep.{labelEdges, product};
 ghost use Rattle.rings.specs.Tables.{startsOf, rows};
-ghost use Rattle.sweep.specs.Swept.{fit};
+ghost use Rattle.fit.specs.Fits.{fit};
 ghost use Rattle.sweep.specs.Run as run;
 use crate::Ended;
 use frontier::Found;

@@ -8,13 +8,13 @@ use Rattle.model.specs.Labels.{up}
 use Rattle.model.specs.Sweep.{labelEdges, product}
 use Rattle.rings.specs.Tables.{rows}
 use Rattle.rings.proofs.Rows.{count-rows}
-use Rattle.sweep.proofs.Fits.{fit-says}
+use Rattle.fit.proofs.Fits.{fit-says}
 use Rattle.sweep.specs.Run as run
 use Rattle.sweep.proofs.step.first_labels.Statement.{statement}
 use Rattle.sweep.proofs.step.first_labels.Tie as tie
 
 bare-labels-requires : tie.Need-bare-labels-requires
-bare-labels-requires c κs = fit-says _ (c .before .before .before .before .pre .1) .few
+bare-labels-requires c κs = fit-says _ (c .before .before .before .before .pre .1) .room
 
 slice-aggregate-to-north : tie.Need-slice-aggregate-to-north
 slice-aggregate-to-north c = search needs
@@ -26,7 +26,7 @@ to-north-requires : tie.Need-to-north-requires
 to-north-requires c κs =
     let a = c .before .before .before .before .before .before .before .args in
     let n = count-rows (a .starts .now) (a .sizes .now) (a .entries .now) (a .n) in
-    let h = fit-says (rows (a .starts .now) (a .sizes .now) (a .entries .now) (a .n)) (c .before .before .before .before .before .before .before .pre .1) .small in
+    let h = fit-says (rows (a .starts .now) (a .sizes .now) (a .entries .now) (a .n)) (c .before .before .before .before .before .before .before .pre .1) .few in
     (c .before .before .before .before .before .before .before .pre .0, omega arith)
 
 returns : tie.Need-returns
