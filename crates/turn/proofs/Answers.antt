@@ -1,1 +1,218 @@
--- Answers
+-- The engine's answer is the model's: each case of the answer, and the labels beside it.
+use Prim.Native.Nat.{ℕ, zero, suc, _+_, _%_, _≤_, _<_, min}
+use mathlib.Core.Path.{_≡_, refl, sym, ap, _∙_, subst}
+use mathlib.Core.Logic.{_≢_}
+use mathlib.Core.List.{List, [], _∷_, _++_}
+use mathlib.Core.Bool.{Bool, true, false, cond, _&&_}
+use native.Mathlib.Omega.{arith}
+use lib.ListN.{length, take, drop, take-append-drop}
+use lib.Seq.{length-take-le, take-all}
+use lib.Dec.{eqb, ltb, leb}
+use borrow.Author.Tests.{le-leb, lt-leb, lt-ltb, le-ltb, eq-eqb, ne-eqb}
+use Rattle.lists.specs.Ranges.{lowest}
+use Rattle.lists.specs.Parts.{pairs}
+use Rattle.lists.specs.Spans.{stretch}
+use Rattle.lists.proofs.Spans.{length-stretch}
+use Rattle.lists.proofs.Stretches.{stretch-front}
+use Rattle.model.specs.Outcome.{Outcome, accepted, refused, _>>_, require}
+use Rattle.model.specs.Plan.{Plan, Dart, count, entryCount}
+use Rattle.model.specs.Labels.{labelOf, turned, put, breaks, labelRules}
+use Rattle.model.specs.Turn.{badPair, quarters, turnDart, turnEdges, turn}
+use Rattle.rings.specs.Tables.{startOf, startsOf, rows, table}
+use Rattle.rings.proofs.Rows.{count-rows}
+use Rattle.labels.specs.Held.{held}
+use Rattle.labels.proofs.Places.{held-small}
+use Rattle.labels.proofs.Darts.{label-behind, put-behind, rules-behind}
+use Rattle.turn.specs.declared.TurnAnswer.{TurnAnswer}
+use Rattle.turn.specs.declared.TurnAnswer.the-variants.{Labelled, BadList, Broken, Unfit}
+use Rattle.turn.specs.declared.Turned.{Turned}
+use Rattle.turn.specs.Turned.{fit, labelsIn, turnOf, outcomeOf, arrayAfter}
+use Rattle.turn.proofs.Named.{turn-long}
+use Rattle.turn.proofs.Turns.{count-table}
+
+-- ---- edges turned in an array that holds labels, and something behind them
+module _ (p : Plan) (q : ℕ) where
+  -- the labels stay as many
+  pub edges-long : (ds : List Dart) (ls : List ℕ) → length (turnEdges p q ds ls) ≡ length ls
+  unfolding turnEdges
+  edges-long [] ls = refl
+  edges-long (d ∷ ds) ls = edges-long ds (turnDart p q d (turnDart p q (d .1, d .0) ls)) ∙ turn-long p q d (turnDart p q (d .1, d .0) ls) ∙ turn-long p q (d .1, d .0) ls
+
+  dart-behind : (d : Dart) (ls rest : List ℕ) → length ls ≡ entryCount p → turnDart p q d (ls ++ rest) ≡ turnDart p q d ls ++ rest
+  unfolding turnDart
+  dart-behind d ls rest s =
+      ap (λ (l : ℕ). put p (d .0) (d .1) (turned l q) (ls ++ rest)) (label-behind p ls rest s (d .0) (d .1))
+      ∙ put-behind p ls rest s (d .0) (d .1) (turned (labelOf p ls (d .0) (d .1)) q)
+
+  edges-behind : (ds : List Dart) (ls rest : List ℕ) → length ls ≡ entryCount p → turnEdges p q ds (ls ++ rest) ≡ turnEdges p q ds ls ++ rest
+  unfolding turnEdges
+  edges-behind [] ls rest s = refl
+  edges-behind (d ∷ ds) ls rest s =
+      let back = turnDart p q (d .1, d .0) ls in
+      let t : length back ≡ entryCount p = turn-long p q (d .1, d .0) ls ∙ s in
+      ap (λ (b : List ℕ). turnEdges p q ds (turnDart p q d b)) (dart-behind (d .1, d .0) ls rest s)
+      ∙ ap (turnEdges p q ds) (dart-behind d back rest t)
+      ∙ edges-behind ds (turnDart p q d back) rest (turn-long p q d back ∙ t)
+
+-- ---- what an array begins with, and what is behind
+front-is : (l : List ℕ) (k : ℕ) → k ≤ length l → stretch l 0 k ≡ take k l
+front-is l k h = (λ i. stretch (sym (take-append-drop k l) i) 0 (sym (length-take-le k l h) i)) ∙ stretch-front (take k l) (drop k l)
+
+array-split : (l : List ℕ) (k : ℕ) → k ≤ length l → l ≡ stretch l 0 k ++ drop k l
+array-split l k h = sym (take-append-drop k l) ∙ ap (λ (m : List ℕ). m ++ drop k l) (sym (front-is l k h))
+
+-- ---- the model's turn, in the order of its tests
+module _ (p : Plan) (ls items : List ℕ) (direction : ℕ) where
+  -- the number of pairs
+  abbrev Many : ℕ
+  Many = length (pairs items)
+
+  -- the first bad pair
+  abbrev First : ℕ
+  First = lowest (badPair p (pairs items)) Many
+
+  -- the labels after all edges are turned
+  abbrev After : List ℕ
+  After = turnEdges p (quarters direction) (pairs items) ls
+
+  turn-pair : First < Many → turn p ls items direction ≡ refused 15 First
+  unfolding turn
+  turn-pair h = rw (lt-leb Many First h)
+
+  turn-odd : Many ≤ First → length items % 2 ≢ 0 → turn p ls items direction ≡ refused 15 Many
+  unfolding turn
+  turn-odd h odd = rw (le-leb Many First h, ne-eqb (length items % 2) 0 odd)
+
+  turn-direction : Many ≤ First → length items % 2 ≡ 0 → 2 ≤ direction → turn p ls items direction ≡ refused 15 Many
+  unfolding turn
+  turn-direction h even far = rw (le-leb Many First h, eq-eqb (length items % 2) 0 even, le-ltb direction 2 far)
+
+  turn-rules : Many ≤ First → length items % 2 ≡ 0 → direction < 2 → turn p ls items direction ≡ (labelRules p After >> accepted After)
+  unfolding turn
+  turn-rules h even near = rw (le-leb Many First h, eq-eqb (length items % 2) 0 even, lt-ltb direction 2 near)
+
+-- the label rules, broken and kept
+rules-broken : (p : Plan) (ms : List ℕ) {place : ℕ} → place ≡ lowest (breaks p ms) (count p) → place < count p → (labelRules p ms >> accepted ms) ≡ refused 10 place
+unfolding labelRules
+rules-broken p ms e h =
+    ap (λ (t : Bool). require t 10 (lowest (breaks p ms) (count p)) >> accepted ms) (lt-leb (count p) (lowest (breaks p ms) (count p)) (omega arith)) ∙ (λ i. refused 10 (sym e i))
+
+rules-kept : (p : Plan) (ms : List ℕ) {place : ℕ} → place ≡ lowest (breaks p ms) (count p) → count p ≤ place → (labelRules p ms >> accepted ms) ≡ accepted ms
+unfolding labelRules
+rules-kept p ms e h = ap (λ (t : Bool). require t 10 (lowest (breaks p ms) (count p)) >> accepted ms) (le-leb (count p) (lowest (breaks p ms) (count p)) (omega arith))
+
+-- ---- the answer, and the labels beside it
+module _ (sizes es : List ℕ) (n : ℕ) (labels items : List ℕ) (direction : ℕ) where
+  -- what the contract says of an answer
+  abbrev pub Answers : Turned → Type 0
+  Answers r =
+      (outcomeOf (r .answer) (labelsIn sizes n (r .labels)) ≡ turnOf sizes es n labels items direction)
+      × (r .labels ≡ arrayAfter labels (turnOf sizes es n labels items direction))
+
+  -- an answer beside an array
+  abbrev pub beside : TurnAnswer → List ℕ → Turned
+  beside a l = record { answer = a; labels = l }
+
+  -- a refusal, with the array as it was
+  refusal : (a : TurnAnswer) (k at : ℕ) → turnOf sizes es n labels items direction ≡ refused k at → outcomeOf a (labelsIn sizes n labels) ≡ refused k at → Answers (beside a labels)
+  unfolding arrayAfter
+  refusal a k at e q = (q ∙ sym e, ap (arrayAfter labels) (sym e))
+
+  -- rings that do not fit
+  unfit : fit sizes n ≡ false → Answers (beside Unfit labels)
+  unfolding turnOf outcomeOf
+  unfit e = refusal Unfit 13 0 (ap (λ (t : Bool). cond t (turn (table sizes es n) (labelsIn sizes n labels) items direction) (refused 13 0)) e) refl
+
+  pub answer-many : 200 < n → Answers (beside Unfit labels)
+  answer-many h = unfit (too-many h)
+    where
+      too-many : 200 < n → fit sizes n ≡ false
+      too-many h = unfold fit in ap (λ (t : Bool). t && leb (startOf sizes n) 1186) (lt-leb n 200 h)
+
+  pub answer-long : {k : ℕ} → n ≤ 200 → k ≡ startOf sizes n → 1186 < k → Answers (beside Unfit labels)
+  unfolding fit
+  answer-long small e h = unfit (rw (le-leb n 200 small, lt-leb (startOf sizes n) 1186 (omega arith)))
+
+  module _ (small : n ≤ 200) (few : startOf sizes n ≤ 1186) (full : length labels ≡ 1186) where
+    -- the plan
+    abbrev P : Plan
+    P = table sizes es n
+
+    -- its labels
+    abbrev Old : List ℕ
+    Old = labelsIn sizes n labels
+
+    -- what stands behind them
+    abbrev Rest : List ℕ
+    Rest = drop (startOf sizes n) labels
+
+    fits : turnOf sizes es n labels items direction ≡ turn P Old items direction
+    unfolding turnOf fit
+    fits = rw (le-leb n 200 small, le-leb (startOf sizes n) 1186 few)
+
+    old-long : length Old ≡ startOf sizes n
+    unfolding labelsIn
+    old-long = length-stretch labels 0 (startOf sizes n)
+
+    old-each : length Old ≡ entryCount P
+    old-each = old-long ∙ sym (count-table (startsOf sizes) sizes es n refl small)
+
+    old-front : labels ≡ Old ++ Rest
+    unfolding labelsIn
+    old-front = array-split labels (startOf sizes n) (omega arith)
+
+    many : count P ≡ n
+    unfolding table
+    many = count-rows (startsOf sizes) sizes es n
+
+    module _ {at m : ℕ} (found : at ≡ First P Old items direction) (half : m ≡ length (pairs items)) where
+      pub answer-pair : at < m → Answers (beside (BadList at) labels)
+      unfolding outcomeOf
+      answer-pair h = refusal (BadList at) 15 at (fits ∙ turn-pair P Old items direction (omega arith) ∙ (λ i. refused 15 (sym found i))) refl
+
+      module _ (good : m ≤ at) where
+        pub answer-odd : length items % 2 ≢ 0 → Answers (beside (BadList m) labels)
+        unfolding outcomeOf
+        answer-odd odd = refusal (BadList m) 15 m (fits ∙ turn-odd P Old items direction (omega arith) odd ∙ (λ i. refused 15 (sym half i))) refl
+
+        module _ (even : length items % 2 ≡ 0) where
+          pub answer-direction : 1 < direction → Answers (beside (BadList m) labels)
+          unfolding outcomeOf
+          answer-direction far = refusal (BadList m) 15 m (fits ∙ turn-direction P Old items direction (omega arith) even (omega arith) ∙ (λ i. refused 15 (sym half i))) refl
+
+          module _ (near : direction ≤ 1) {q : ℕ} {new : List ℕ} (by : q ≡ quarters direction) (turned-all : new ≡ turnEdges P q (take at (pairs items)) labels) {place : ℕ} (tested : place ≡ lowest (breaks (held sizes es n) new) (min n 200)) where
+            -- the labels after all edges are turned
+            abbrev New : List ℕ
+            New = After P Old items direction
+
+            new-front : new ≡ New ++ Rest
+            new-front =
+                turned-all
+                ∙ (λ i. turnEdges P (by i) (take-all at (pairs items) (omega arith) i) (old-front i))
+                ∙ edges-behind P (quarters direction) (pairs items) Old Rest old-each
+
+            new-long : length New ≡ length Old
+            new-long = edges-long P (quarters direction) (pairs items) Old
+
+            place-is : place ≡ lowest (breaks P New) (count P)
+            place-is =
+                let most : min n 200 ≡ count P = let c = many in omega arith in
+                tested
+                ∙ (λ i. lowest (breaks (held-small sizes es n small i) (new-front i)) (most i))
+                ∙ rules-behind P New Rest (new-long ∙ old-each) (count P)
+
+            answered : turnOf sizes es n labels items direction ≡ (labelRules P New >> accepted New)
+            answered = fits ∙ turn-rules P Old items direction (omega arith) even (omega arith)
+
+            pub answer-broken : place < n → Answers (beside (Broken place) labels)
+            unfolding outcomeOf
+            answer-broken h = refusal (Broken place) 10 place (answered ∙ rules-broken P New place-is (let c = many in omega arith)) refl
+
+            pub answer-labelled : n ≤ place → Answers (beside Labelled new)
+            unfolding outcomeOf labelsIn arrayAfter
+            answer-labelled h =
+                let done : turnOf sizes es n labels items direction ≡ accepted New = answered ∙ rules-kept P New place-is (let c = many in omega arith) in
+                let size : length New ≡ startOf sizes n = new-long ∙ old-long in (
+                  (λ i. accepted (stretch (new-front i) 0 (sym size i))) ∙ ap accepted (stretch-front New Rest) ∙ sym done,
+                  new-front ∙ ap (λ (k : ℕ). New ++ drop k labels) (sym size) ∙ ap (arrayAfter labels) (sym done),
+                )
