@@ -1,5 +1,5 @@
 -- The engine's answer is the model's: each case of the answer, and the labels beside it.
-use Prim.Native.Nat.{ℕ, zero, suc, _+_, _%_, _≤_, _<_, min}
+use Prim.Native.Nat.{ℕ, zero, suc, _/_, _%_, _≤_, _<_, min}
 use mathlib.Core.Path.{_≡_, refl, sym, ap, _∙_, subst}
 use mathlib.Core.Logic.{_≢_}
 use mathlib.Core.List.{List, [], _∷_, _++_}
@@ -12,6 +12,7 @@ use borrow.Author.Tests.{le-leb, lt-leb, lt-ltb, le-ltb, eq-eqb, ne-eqb}
 use Rattle.lists.specs.Ranges.{lowest}
 use Rattle.lists.specs.Parts.{pairs}
 use Rattle.lists.specs.Spans.{stretch}
+use Rattle.lists.proofs.Parts.{length-pairs}
 use Rattle.lists.proofs.Spans.{length-stretch}
 use Rattle.lists.proofs.Stretches.{stretch-front}
 use Rattle.model.specs.Outcome.{Outcome, accepted, refused, _>>_, require}
@@ -26,6 +27,7 @@ use Rattle.labels.proofs.Darts.{label-behind, put-behind, rules-behind}
 use Rattle.turn.specs.declared.TurnAnswer.{TurnAnswer}
 use Rattle.turn.specs.declared.TurnAnswer.the-variants.{Labelled, BadList, Broken, Unfit}
 use Rattle.turn.specs.declared.Turned.{Turned}
+use Rattle.turn.specs.Run.{kept}
 use Rattle.turn.specs.Turned.{fit, labelsIn, turnOf, outcomeOf, arrayAfter}
 use Rattle.turn.proofs.Named.{turn-long}
 use Rattle.turn.proofs.Turns.{count-table}
@@ -109,31 +111,27 @@ module _ (sizes es : List ℕ) (n : ℕ) (labels items : List ℕ) (direction : 
       (outcomeOf (r .answer) (labelsIn sizes n (r .labels)) ≡ turnOf sizes es n labels items direction)
       × (r .labels ≡ arrayAfter labels (turnOf sizes es n labels items direction))
 
-  -- an answer beside an array
-  abbrev pub beside : TurnAnswer → List ℕ → Turned
-  beside a l = record { answer = a; labels = l }
-
   -- a refusal, with the array as it was
-  refusal : (a : TurnAnswer) (k at : ℕ) → turnOf sizes es n labels items direction ≡ refused k at → outcomeOf a (labelsIn sizes n labels) ≡ refused k at → Answers (beside a labels)
-  unfolding arrayAfter
-  refusal a k at e q = (q ∙ sym e, ap (arrayAfter labels) (sym e))
+  refusal : (a : TurnAnswer) (k at : ℕ) {r : Turned} → turnOf sizes es n labels items direction ≡ refused k at → outcomeOf a (labelsIn sizes n labels) ≡ refused k at → r ≡ kept a labels → Answers r
+  unfolding arrayAfter kept
+  refusal a k at e q is = subst Answers (sym is) (q ∙ sym e, ap (arrayAfter labels) (sym e))
 
   -- rings that do not fit
-  unfit : fit sizes n ≡ false → Answers (beside Unfit labels)
+  unfit : {r : Turned} → fit sizes n ≡ false → r ≡ kept Unfit labels → Answers r
   unfolding turnOf outcomeOf
   unfit e = refusal Unfit 13 0 (ap (λ (t : Bool). cond t (turn (table sizes es n) (labelsIn sizes n labels) items direction) (refused 13 0)) e) refl
 
-  pub answer-many : 200 < n → Answers (beside Unfit labels)
-  answer-many h = unfit (too-many h)
-    where
-      too-many : 200 < n → fit sizes n ≡ false
-      too-many h = unfold fit in ap (λ (t : Bool). t && leb (startOf sizes n) 1186) (lt-leb n 200 h)
+  -- more than 200 rings
+  pub answer-many : {r : Turned} → 200 < n → r ≡ kept Unfit labels → Answers r
+  unfolding fit
+  answer-many h = unfit (rw (lt-leb n 200 h))
 
-  pub answer-long : {k : ℕ} → n ≤ 200 → k ≡ startOf sizes n → 1186 < k → Answers (beside Unfit labels)
+  -- more than 1186 entries
+  pub answer-long : {k : ℕ} {r : Turned} → n ≤ 200 → k ≡ startOf sizes n → 1186 < k → r ≡ kept Unfit labels → Answers r
   unfolding fit
   answer-long small e h = unfit (rw (le-leb n 200 small, lt-leb (startOf sizes n) 1186 (omega arith)))
 
-  module _ (small : n ≤ 200) (few : startOf sizes n ≤ 1186) (full : length labels ≡ 1186) where
+  module _ (small : n ≤ 200) {k : ℕ} (total : k ≡ startOf sizes n) (few : k ≤ 1186) (full : length labels ≡ 1186) where
     -- the plan
     abbrev P : Plan
     P = table sizes es n
@@ -148,7 +146,7 @@ module _ (sizes es : List ℕ) (n : ℕ) (labels items : List ℕ) (direction : 
 
     fits : turnOf sizes es n labels items direction ≡ turn P Old items direction
     unfolding turnOf fit
-    fits = rw (le-leb n 200 small, le-leb (startOf sizes n) 1186 few)
+    fits = rw (le-leb n 200 small, le-leb (startOf sizes n) 1186 (omega arith))
 
     old-long : length Old ≡ startOf sizes n
     unfolding labelsIn
@@ -165,20 +163,23 @@ module _ (sizes es : List ℕ) (n : ℕ) (labels items : List ℕ) (direction : 
     unfolding table
     many = count-rows (startsOf sizes) sizes es n
 
-    module _ {at m : ℕ} (found : at ≡ First P Old items direction) (half : m ≡ length (pairs items)) where
-      pub answer-pair : at < m → Answers (beside (BadList at) labels)
+    module _ {at m : ℕ} (found : at ≡ First P Old items direction) (halves : m ≡ length items / 2) where
+      half : m ≡ length (pairs items)
+      half = halves ∙ sym (length-pairs items)
+
+      pub answer-pair : {r : Turned} → at < m → r ≡ kept (BadList at) labels → Answers r
       unfolding outcomeOf
-      answer-pair h = refusal (BadList at) 15 at (fits ∙ turn-pair P Old items direction (omega arith) ∙ (λ i. refused 15 (sym found i))) refl
+      answer-pair h = refusal (BadList at) 15 at (fits ∙ turn-pair P Old items direction (let e = half in omega arith) ∙ (λ i. refused 15 (sym found i))) refl
 
       module _ (good : m ≤ at) where
-        pub answer-odd : length items % 2 ≢ 0 → Answers (beside (BadList m) labels)
+        pub answer-odd : {r : Turned} → length items % 2 ≢ 0 → r ≡ kept (BadList m) labels → Answers r
         unfolding outcomeOf
-        answer-odd odd = refusal (BadList m) 15 m (fits ∙ turn-odd P Old items direction (omega arith) odd ∙ (λ i. refused 15 (sym half i))) refl
+        answer-odd odd = refusal (BadList m) 15 m (fits ∙ turn-odd P Old items direction (let e = half in omega arith) odd ∙ (λ i. refused 15 (sym half i))) refl
 
         module _ (even : length items % 2 ≡ 0) where
-          pub answer-direction : 1 < direction → Answers (beside (BadList m) labels)
+          pub answer-direction : {r : Turned} → 1 < direction → r ≡ kept (BadList m) labels → Answers r
           unfolding outcomeOf
-          answer-direction far = refusal (BadList m) 15 m (fits ∙ turn-direction P Old items direction (omega arith) even (omega arith) ∙ (λ i. refused 15 (sym half i))) refl
+          answer-direction far = refusal (BadList m) 15 m (fits ∙ turn-direction P Old items direction (let e = half in omega arith) even (omega arith) ∙ (λ i. refused 15 (sym half i))) refl
 
           module _ (near : direction ≤ 1) {q : ℕ} {new : List ℕ} (by : q ≡ quarters direction) (turned-all : new ≡ turnEdges P q (take at (pairs items)) labels) {place : ℕ} (tested : place ≡ lowest (breaks (held sizes es n) new) (min n 200)) where
             -- the labels after all edges are turned
@@ -188,7 +189,7 @@ module _ (sizes es : List ℕ) (n : ℕ) (labels items : List ℕ) (direction : 
             new-front : new ≡ New ++ Rest
             new-front =
                 turned-all
-                ∙ (λ i. turnEdges P (by i) (take-all at (pairs items) (omega arith) i) (old-front i))
+                ∙ (λ i. turnEdges P (by i) (take-all at (pairs items) (let e = half in omega arith) i) (old-front i))
                 ∙ edges-behind P (quarters direction) (pairs items) Old Rest old-each
 
             new-long : length New ≡ length Old
@@ -202,14 +203,14 @@ module _ (sizes es : List ℕ) (n : ℕ) (labels items : List ℕ) (direction : 
                 ∙ rules-behind P New Rest (new-long ∙ old-each) (count P)
 
             answered : turnOf sizes es n labels items direction ≡ (labelRules P New >> accepted New)
-            answered = fits ∙ turn-rules P Old items direction (omega arith) even (omega arith)
+            answered = fits ∙ turn-rules P Old items direction (let e = half in omega arith) even (omega arith)
 
-            pub answer-broken : place < n → Answers (beside (Broken place) labels)
+            pub answer-broken : {r : Turned} → place < n → r ≡ kept (Broken place) labels → Answers r
             unfolding outcomeOf
             answer-broken h = refusal (Broken place) 10 place (answered ∙ rules-broken P New place-is (let c = many in omega arith)) refl
 
-            pub answer-labelled : n ≤ place → Answers (beside Labelled new)
-            unfolding outcomeOf labelsIn arrayAfter
+            pub answer-labelled : n ≤ place → Answers (kept Labelled new)
+            unfolding kept outcomeOf labelsIn arrayAfter
             answer-labelled h =
                 let done : turnOf sizes es n labels items direction ≡ accepted New = answered ∙ rules-kept P New place-is (let c = many in omega arith) in
                 let size : length New ≡ startOf sizes n = new-long ∙ old-long in (

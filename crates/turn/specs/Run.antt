@@ -7,6 +7,8 @@ use lib.Dec.{eqb, leb}
 use Rattle.lists.specs.Parts.{indexOf}
 use Rattle.model.specs.Plan.{Plan, ring, adjacent, border}
 use Rattle.model.specs.Labels.{unlabelled, start, turned}
+use Rattle.turn.specs.declared.TurnAnswer.{TurnAnswer}
+use Rattle.turn.specs.declared.Turned.{Turned}
 
 -- where the label of the dart from u to v stands; 1186 where there is no dart
 unfoldable pub placeOf : Plan → ℕ → ℕ → ℕ
@@ -19,3 +21,7 @@ turnAt q i ls = set ls i (turned (getD ls i unlabelled) q)
 -- the dart from u to v, whose label stands at a place, is no inner dart, or its label has changed
 unfoldable pub badAt : List ℕ → List ℕ → ℕ → ℕ → ℕ → Bool
 badAt old new i u v = leb 1186 i || (border u && border v || not (eqb (getD new i unlabelled) (getD old i unlabelled)))
+
+-- an answer beside labels
+unfoldable pub kept : TurnAnswer → List ℕ → Turned
+kept a ls = record { answer = a; labels = ls }

@@ -7,8 +7,6 @@ use native.Mathlib.Omega.{arith}
 use borrow.Author.Needs.{needs}
 use Rattle.turn.proofs.quarters_of.Statement.{statement}
 use Rattle.turn.proofs.quarters_of.Tie as tie
-use Rattle.turn.proofs.quarters_of.Reads as reads
-use Rattle.turn.proofs.quarters_of.Lts as lts
 
 returns : tie.Need-returns
 returns c = (sym (rw (eq-eqb (c .before .args .direction) 0 (omega arith))), omega arith)

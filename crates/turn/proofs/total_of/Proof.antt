@@ -6,10 +6,6 @@ use native.Mathlib.Omega.{arith}
 use borrow.Author.Needs.{needs}
 use Rattle.turn.proofs.total_of.Statement.{statement}
 use Rattle.turn.proofs.total_of.Tie as tie
-use Rattle.turn.proofs.total_of.Reads as reads
-use Rattle.turn.proofs.total_of.Lts as lts
-use Rattle.lists.proofs.byte.Reads as byte-reads
-use Rattle.lists.proofs.num.Reads as num-reads
 
 returns : tie.Need-returns
 returns c = total-none (c .before .before .before .args .sizes .now) (omega arith)

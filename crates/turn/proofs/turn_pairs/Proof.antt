@@ -1,4 +1,4 @@
--- pass::turn_pairs meets its contract.
+-- turn_pairs meets its contract.
 use mathlib.Core.Path.{_≡_, refl, sym, _∙_}
 use Prim.Native.Nat.{_-_, _/_, _≤_, _<_, _^_}
 use lib.ListN.{length, getD}
@@ -9,14 +9,8 @@ use Rattle.rings.specs.Tables.{table}
 use Rattle.turn.proofs.Turns.{Turns, count-table, pair-is, turns-start, turns-long, turns-hit, turns-on, turns-end}
 use native.Mathlib.Omega.{arith}
 use borrow.Author.Needs.{needs}
-use Rattle.turn.proofs.pass.turn_pairs.Statement.{statement}
-use Rattle.turn.proofs.pass.turn_pairs.Tie as tie
-use Rattle.turn.proofs.pass.turn_pairs.Reads as reads
-use Rattle.turn.proofs.pass.turn_pairs.Lts as lts
-use Rattle.lists.proofs.num.Reads as num-reads
-use Rattle.turn.proofs.pass.is_bad.Reads as is-bad-reads
-use Rattle.turn.proofs.pass.place_of.Reads as place-of-reads
-use Rattle.turn.proofs.pass.turn_at.Reads as turn-at-reads
+use Rattle.turn.proofs.turn_pairs.Statement.{statement}
+use Rattle.turn.proofs.turn_pairs.Tie as tie
 
 abbrev Inv-loop : tie.InvT-loop
 Inv-loop starts sizes entries n items q labels m turned₀ k₀ turned k = (length turned ≡ 1186) × (m < 2 ^ 63) × Turns (table sizes entries n) q (pairs items) labels k turned

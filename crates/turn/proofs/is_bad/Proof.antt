@@ -1,14 +1,10 @@
--- pass::is_bad meets its contract.
+-- is_bad meets its contract.
 use mathlib.Core.Path.{sym, ap, _∙_}
 use Rattle.turn.proofs.Turns.{bad-missing, bad-border, bad-label}
 use native.Mathlib.Omega.{arith}
 use borrow.Author.Needs.{needs}
-use Rattle.turn.proofs.pass.is_bad.Statement.{statement}
-use Rattle.turn.proofs.pass.is_bad.Tie as tie
-use Rattle.turn.proofs.pass.is_bad.Reads as reads
-use Rattle.turn.proofs.pass.is_bad.Lts as lts
-use Rattle.labels.proofs.label_at.Reads as label-at-reads
-use Rattle.turn.proofs.pass.both_border.Reads as both-border-reads
+use Rattle.turn.proofs.is_bad.Statement.{statement}
+use Rattle.turn.proofs.is_bad.Tie as tie
 
 returns : tie.Need-returns
 returns c = let a = c .before .before .before .args in bad-missing (a .old .now) (a .new .now) (a .i) (a .u) (a .v) (omega arith)

@@ -1,14 +1,12 @@
--- pass::turn_at meets its contract.
+-- turn_at meets its contract.
 use mathlib.Core.Path.{refl, sym}
 use lib.Seq.{set-out}
 use Rattle.turn.specs.Run.{turnAt}
 use Rattle.turn.proofs.Turns.{turned-off, turned-on}
 use native.Mathlib.Omega.{arith}
 use borrow.Author.Needs.{needs}
-use Rattle.turn.proofs.pass.turn_at.Statement.{statement}
-use Rattle.turn.proofs.pass.turn_at.Tie as tie
-use Rattle.turn.proofs.pass.turn_at.Reads as reads
-use Rattle.turn.proofs.pass.turn_at.Lts as lts
+use Rattle.turn.proofs.turn_at.Statement.{statement}
+use Rattle.turn.proofs.turn_at.Tie as tie
 
 returns : tie.Need-returns
 returns c = turned-off (c .before .args .q) (c .before .args .i) (c .before .args .t1) (omega arith)

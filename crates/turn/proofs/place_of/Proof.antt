@@ -1,15 +1,10 @@
--- pass::place_of meets its contract.
+-- place_of meets its contract.
 use mathlib.Core.Path.{refl}
 use Rattle.turn.proofs.Turns.{place-found, place-missing}
 use native.Mathlib.Omega.{arith}
 use borrow.Author.Needs.{needs}
-use Rattle.turn.proofs.pass.place_of.Statement.{statement}
-use Rattle.turn.proofs.pass.place_of.Tie as tie
-use Rattle.turn.proofs.pass.place_of.Reads as reads
-use Rattle.turn.proofs.pass.place_of.Lts as lts
-use Rattle.lists.proofs.num.Reads as num-reads
-use Rattle.rings.proofs.index_of.Reads as index-of-reads
-use Rattle.rings.proofs.size_of.Reads as size-of-reads
+use Rattle.turn.proofs.place_of.Statement.{statement}
+use Rattle.turn.proofs.place_of.Tie as tie
 
 index-of-requires : tie.Need-index-of-requires
 index-of-requires c κs = search needs
