@@ -4,7 +4,7 @@ use mathlib.Core.Path.{_≡_, refl, sym, ap, _∙_}
 use mathlib.Core.List.{List, [], _∷_, _++_}
 use mathlib.Core.Bool.{Bool, true, false, cond, not, _&&_, _||_}
 use native.Mathlib.Omega.{arith}
-use lib.ListN.{length, getD, set, take, drop, length-append, length-drop, length-map, length-set, take-append-drop, List·getD-eq-default}
+use lib.ListN.{length, getD, set, take, drop, length-append, length-drop, length-map, length-set, take-append-drop}
 use lib.Seq.{take-length, take-append-le, drop-append-le, getD-take, getD-drop, set-append-left}
 use lib.Dec.{eqb, ltb}
 use borrow.Author.Tests.{ltb-true, ltb-false}
@@ -51,6 +51,7 @@ module _ (p : Plan) where
       let z : start p (suc (u + k)) ≡ start p (u + suc k) = ap (start p) (omega arith) in
       omega arith
 
+  -- a ring has as many neighbours as entries
   ring-length : (u : ℕ) → length (ring p u) ≡ length (entries p u)
   unfolding ring
   ring-length u = length-map (entries p u) neighbour
@@ -92,6 +93,7 @@ module _ (p : Plan) where
   pub place-apart : (u v a b : ℕ) → adjacent p u v ≡ true → adjacent p a b ≡ true → Place u v ≡ Place a b → (u ≡ a) × (v ≡ b)
   place-apart u v a b d e same = go (ltb u a) refl (ltb a u) refl
     where
+      -- the labels of an earlier context stand before those of a later one
       later : (u v a b : ℕ) → adjacent p u v ≡ true → u < a → Place u v ≡ Place a b → ⊥
       later u v a b d h same =
           let x = place-before u v d in
@@ -123,17 +125,21 @@ module _ (p : Plan) where
 
   -- ---- what stands behind the labels does not matter
   module _ (ls rest : List ℕ) (size : length ls ≡ entryCount p) where
+    -- a part that ends before what is behind
     part-behind : (s k : ℕ) → s + k ≤ length ls → take k (drop s (ls ++ rest)) ≡ take k (drop s ls)
     part-behind s k h = ap (take k) (drop-append-le s ls rest (omega arith)) ∙ take-append-le k (drop s ls) rest (let d = length-drop s ls in omega arith)
 
+    -- the labels around a context are the same
     around-behind : (u : ℕ) → labelsAround p (ls ++ rest) u ≡ labelsAround p ls u
     unfolding labelsAround
     around-behind u = let a = start-after u in let b = start-below (suc u) in part-behind (start p u) (length (entries p u)) (omega arith)
 
+    -- the label of each dart is the same
     pub label-behind : (u v : ℕ) → labelOf p (ls ++ rest) u v ≡ labelOf p ls u v
     unfolding labelOf
     label-behind u v = ap (λ (l : List ℕ). getD l (indexOf v (ring p u)) unlabelled) (around-behind u)
 
+    -- a label is put before what is behind, which stays
     pub put-behind : (u v l : ℕ) → put p u v l (ls ++ rest) ≡ put p u v l ls ++ rest
     unfolding put
     put-behind u v l = go (adjacent p u v) refl
@@ -142,21 +148,25 @@ module _ (p : Plan) where
         go true e = let h = place-inside u v e in set-append-left ls rest (Place u v) l (omega arith)
         go false e = refl
 
+    -- the same darts break the rules
     dart-behind : (u v : ℕ) → badDart p (ls ++ rest) u v ≡ badDart p ls u v
     unfolding badDart
     dart-behind u v =
         λ i. not (cond (border u && border v) (eqb (label-behind u v i) borderLabel) (ltb (label-behind u v i) 4 && eqb (label-behind v u i) (turned (label-behind u v i) 2)))
 
+    -- the same darts have another label than is due
     due-behind : (u v : ℕ) → notDue p (ls ++ rest) u v ≡ notDue p ls u v
     unfolding notDue
     due-behind u v = λ i. not (border v || eqb (label-behind u v i) (due u))
 
+    -- the same contexts break the rules
     breaks-behind : (u : ℕ) → breaks p (ls ++ rest) u ≡ breaks p ls u
     unfolding breaks badRing
     breaks-behind u =
         λ i. any-same (badDart p (ls ++ rest) u) (badDart p ls u) (ring p u) (dart-behind u) i
         || cond (border u) (any-same (notDue p (ls ++ rest) u) (notDue p ls u) (ring p u) (due-behind u) i) (not (fourRuns (around-behind u i)))
       where
+        -- two tests that agree
         any-same : (f g : ℕ → Bool) (l : List ℕ) → ((a : ℕ) → f a ≡ g a) → any f l ≡ any g l
         any-same f g [] h = refl
         any-same f g (a ∷ l) h = λ i. h a i || any-same f g l h i

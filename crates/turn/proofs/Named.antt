@@ -1,11 +1,11 @@
 -- An edge was named before exactly where the label of its dart differs from the old one: on every plan, whether or not it keeps the rules.
-use Prim.Native.Nat.{ℕ, zero, suc, _+_, _*_, _/_, _%_, _≤_, _<_}
-use mathlib.Core.Path.{_≡_, refl, sym, ap, _∙_, subst}
+use Prim.Native.Nat.{ℕ, _+_, _*_, _/_, _%_, _≤_}
+use mathlib.Core.Path.{_≡_, refl, sym, ap, _∙_}
 use mathlib.Core.Logic.{_≢_}
 use mathlib.Core.List.{List, [], _∷_, _++_}
-use mathlib.Core.Bool.{Bool, true, false, cond, not, _&&_, _||_, false≢true, or-true}
+use mathlib.Core.Bool.{Bool, true, false, cond, not, _&&_, _||_, or-true}
 use native.Mathlib.Omega.{arith}
-use lib.ListN.{length, getD, set}
+use lib.ListN.{length, getD}
 use lib.Seq.{getD-set-same, getD-set-other}
 use lib.Dec.{eqb}
 use borrow.Author.Tests.{eqb-true, eq-eqb, ne-eqb, not-false}
@@ -38,6 +38,7 @@ module _ (p : Plan) (q : ℕ) (ls : List ℕ) (room : entryCount p ≤ length ls
   unfolding turnDart
   label-other u v a b d apart = go (adjacent p u v) refl
     where
+      -- the other dart's label stands at another place
       other : adjacent p u v ≡ true → Place p a b ≢ Place p u v
       other e s =
           let (x, y) = place-apart p a b u v d e s in
@@ -68,9 +69,11 @@ unfolding turnDart
 turn-long p q d ls = put-long p (d .0) (d .1) (turned (labelOf p ls (d .0) (d .1)) q) ls
 
 -- ---- an odd number of quarters, or twice that, leads to another label
+-- a dart is turned once
 once-other : (l q : ℕ) → q % 2 ≡ 1 → turned l q ≢ l
 once-other l q h e = omega arith
 
+-- a dart from a context to itself is turned twice
 twice-other : (l q : ℕ) → q % 2 ≡ 1 → turned (turned l q) q ≢ l
 twice-other l q h e =
     let x = (l + q) / 4 in
@@ -78,28 +81,33 @@ twice-other l q h e =
     let even : q ≡ 2 * (x + y) = omega arith in
     not-odd q (x + y) even h
   where
+    -- no number is even and odd
     not-odd : (q k : ℕ) → q ≡ 2 * k → q % 2 ≡ 1 → ⊥
     not-odd q k e h = omega arith
 
 -- ---- an edge named in the other order
+-- both of two, in the other order
 and-swap : (a b : Bool) → (a && b) ≡ (b && a)
 and-swap true true = refl
 and-swap true false = refl
 and-swap false true = refl
 and-swap false false = refl
 
+-- either of two, in the other order
 or-swap : (a b : Bool) → (a || b) ≡ (b || a)
 or-swap true true = refl
 or-swap true false = refl
 or-swap false true = refl
 or-swap false false = refl
 
+-- it is the same edge
 edge-swap : (u v : ℕ) (d : Dart) → sameEdge (dart v u) d ≡ sameEdge (dart u v) d
 unfolding sameEdge
 edge-swap u v d =
     (λ i. and-swap (eqb v (d .0)) (eqb u (d .1)) i || and-swap (eqb v (d .1)) (eqb u (d .0)) i)
     ∙ or-swap (eqb u (d .1) && eqb v (d .0)) (eqb u (d .0) && eqb v (d .1))
 
+-- it was named before in both orders or in neither
 named-swap : (u v : ℕ) (ds : List Dart) → any (sameEdge (dart v u)) ds ≡ any (sameEdge (dart u v)) ds
 named-swap u v [] = refl
 named-swap u v (d ∷ ds) = λ i. edge-swap u v d i || named-swap u v ds i
@@ -123,12 +131,15 @@ module _ {p : Plan} {old : List ℕ} {ds : List Dart} {new : List ℕ} (inv : Ma
           or-true (any (sameEdge (dart a b)) ds)
           ∙ sym (ap not (ne-eqb x (labelOf p old a b) (other (eqb-true (labelOf p new a b) (labelOf p old a b) (not-false (eqb (labelOf p new a b) (labelOf p old a b)) (sym (inv .same a b d) ∙ e ∙ fresh))))))
 
+      -- the dart itself: named before exactly where the edge was
       forth : sameDart (dart a b) (dart u v) ≡ true → any (sameEdge (dart a b)) ds ≡ any (sameEdge (dart u v)) ds
       forth e = let (x, y) = and-yes (eqb a u) (eqb b v) e in λ i. any (sameEdge (dart (eqb-true a u x i) (eqb-true b v y i))) ds
 
+      -- its reverse: named before exactly where the edge was
       reverse : sameDart (dart a b) (dart v u) ≡ true → any (sameEdge (dart a b)) ds ≡ any (sameEdge (dart u v)) ds
       reverse e = let (x, y) = and-yes (eqb a v) (eqb b u) e in (λ i. any (sameEdge (dart (eqb-true a v x i) (eqb-true b u y i))) ds) ∙ named-swap u v ds
 
+      -- the label of any dart after both darts of the edge are turned
       label-all : labelOf p (turnDart p q (dart u v) (turnDart p q (dart v u) new)) a b
           ≡ cond (sameDart (dart a b) (dart u v))
           (turned (cond (sameDart (dart a b) (dart v u)) (turned (labelOf p new a b) q) (labelOf p new a b)) q)
@@ -139,6 +150,7 @@ module _ {p : Plan} {old : List ℕ} {ds : List Dart} {new : List ℕ} (inv : Ma
           label-turned p q (turnDart p q (dart v u) new) (omega arith) u v a b d
           ∙ ap (λ (x : ℕ). cond (sameDart (dart a b) (dart u v)) (turned x q) x) (label-turned p q new (omega arith) v u a b d)
 
+      -- the dart, its reverse, both, or neither
       cases : (s t : Bool) → sameDart (dart a b) (dart u v) ≡ s → sameDart (dart a b) (dart v u) ≡ t
           → (any (sameEdge (dart a b)) ds || (s || t || false)) ≡ not (eqb (cond s (turned (cond t (turned (labelOf p new a b) q) (labelOf p new a b)) q) (cond t (turned (labelOf p new a b) q) (labelOf p new a b))) (labelOf p old a b))
       cases true true e f = renamed (turned (turned (labelOf p new a b) q) q) (forth e) (λ z w. twice-other (labelOf p new a b) q odd (w ∙ sym z))
@@ -146,6 +158,7 @@ module _ {p : Plan} {old : List ℕ} {ds : List Dart} {new : List ℕ} (inv : Ma
       cases false true e f = renamed (turned (labelOf p new a b) q) (reverse f) (λ z w. once-other (labelOf p new a b) q odd (w ∙ sym z))
       cases false false e f = or-swap (any (sameEdge (dart a b)) ds) false ∙ inv .same a b d
 
+      -- named by now exactly where the label is another
       now-named : any (sameEdge (dart a b)) (ds ++ (dart u v ∷ [])) ≡ not (eqb (labelOf p (turnDart p q (dart u v) (turnDart p q (dart v u) new)) a b) (labelOf p old a b))
       unfolding sameEdge
       now-named =

@@ -6,7 +6,7 @@ use mathlib.Core.Bool.{Bool, true, false, cond, not, _&&_, _||_}
 use native.Mathlib.Omega.{arith}
 use lib.ListN.{length, getD, set, take}
 use lib.Seq.{set-out, take-suc}
-use lib.Dec.{eqb, leb}
+use lib.Dec.{eqb}
 use borrow.Author.Tests.{le-leb, lt-leb, lt-ltb, le-ltb}
 use Rattle.lists.specs.Tests.{any}
 use Rattle.lists.specs.Ranges.{lowest}
@@ -15,7 +15,7 @@ use Rattle.lists.proofs.Bools.{or-no}
 use Rattle.lists.proofs.Ranges.{getD-map-from}
 use Rattle.lists.proofs.Parts.{length-pairs}
 use Rattle.lists.proofs.Loops.{Looks, looks-start, looks-hit, looks-on, looks-end}
-use Rattle.model.specs.Plan.{Plan, Dart, count, ring, adjacent, border, innerEdge, entryCount}
+use Rattle.model.specs.Plan.{Plan, Dart, ring, adjacent, border, innerEdge, entryCount}
 use Rattle.model.specs.Labels.{unlabelled, start, labelOf, turned, put}
 use Rattle.model.specs.Turn.{sameEdge, badPair, turnDart, turnEdges}
 use Rattle.rings.specs.Tables.{startOf, startsOf, sizeOf, rows, table}
@@ -26,6 +26,7 @@ use Rattle.turn.specs.Run.{placeOf, turnAt, badAt}
 use Rattle.turn.proofs.Named.{dart, turn-long, Marks, marks-start, marks-on}
 
 -- ---- the k-th pair of a list
+-- items 2k and 2k + 1
 pub pair-at : (l : List ℕ) (k : ℕ) → k < length (pairs l) → getD (pairs l) k (0, 0) ≡ dart (getD l (2 * k) 0) (getD l (2 * k + 1) 0)
 pair-at [] k h = absurd (omega arith)
 pair-at (a ∷ []) k h = absurd (omega arith)
@@ -49,18 +50,22 @@ module _ (starts sizes es : List ℕ) (n : ℕ) (same : starts ≡ startsOf size
       sym (start-last (rows (startsOf sizes) sizes es n)) ∙ ap (start (rows (startsOf sizes) sizes es n)) c ∙ start-table starts sizes es n same small n (omega arith)
 
   module _ (u v : ℕ) {s i k : ℕ} (from-s : s ≡ getD starts u 0) (at : i ≡ indexOf v (ring (rows starts sizes es n) u)) (size : k ≡ sizeOf sizes n u) where
+    -- the index is below the size: the start and the index
     pub place-found : i < k → s + i ≡ placeOf (table sizes es n) u v
     unfolding placeOf
     place-found h = place-there starts sizes es n same small u v from-s at size h ∙ sym (rw (dart-test starts sizes es n same small u v from-s at size ∙ lt-ltb i k h))
 
+    -- it is not: there is no dart
     pub place-missing : k ≤ i → 1186 ≡ placeOf (table sizes es n) u v
     unfolding placeOf
     place-missing h = sym (rw (dart-test starts sizes es n same small u v from-s at size ∙ le-ltb i k h))
 
--- no rings have no entries; the entries of n rings end where the last of them ends
+-- ---- how many entries n rings have
+-- no rings have none
 pub total-none : (sizes : List ℕ) {n : ℕ} → n ≡ 0 → 0 ≡ startOf sizes n
 total-none sizes e = start-first sizes ∙ ap (startOf sizes) (sym e)
 
+-- the entries of n rings end where the last of them ends
 pub total-last : (starts sizes : List ℕ) (n : ℕ) {a k : ℕ} → starts ≡ startsOf sizes → n ≤ 200 → 0 < n → a ≡ getD starts (n - 1) 0 → k ≡ getD sizes (n - 1) 0 → a + k ≡ startOf sizes n
 unfolding startsOf
 total-last starts sizes n same small more from-a size =
@@ -70,24 +75,29 @@ total-last starts sizes n same small more from-a size =
 
 -- ---- the tests of one pair, in each case that the code tells apart
 module _ (old new : List ℕ) (i u v : ℕ) where
+  -- there is no dart
   pub bad-missing : 1186 ≤ i → true ≡ badAt old new i u v
   unfolding badAt
   bad-missing h = sym (rw (le-leb 1186 i h))
 
   module _ (h : i < 1186) {b : Bool} (ends : b ≡ (border u && border v)) where
+    -- both its ends are border contexts
     pub bad-border : b ≡ true → true ≡ badAt old new i u v
     unfolding badAt
     bad-border t = sym (rw (lt-leb 1186 i h, sym ends ∙ t))
 
+    -- its label has changed, or has not
     pub bad-label : {x y : ℕ} → b ≡ false → x ≡ getD old i unlabelled → y ≡ getD new i unlabelled → not (eqb y x) ≡ badAt old new i u v
     unfolding badAt
     bad-label t e f = (λ j. not (eqb (f j) (e j))) ∙ sym (rw (lt-leb 1186 i h, sym ends ∙ t))
 
 -- ---- a label turned at a place
+-- past the last label nothing changes
 pub turned-off : (q i : ℕ) (ls : List ℕ) → length ls ≤ i → ls ≡ turnAt q i ls
 unfolding turnAt
 turned-off q i ls h = sym (set-out ls i (turned (getD ls i unlabelled) q) h)
 
+-- the code turns what is left of a label by four
 pub turned-on : (q i : ℕ) (ls : List ℕ) → i < length ls → set ls i ((getD ls i 0 % 4 + q) % 4) ≡ turnAt q i ls
 unfolding turnAt
 turned-on q i ls h =
@@ -95,6 +105,7 @@ turned-on q i ls h =
     ap (set ls i) (x ∙ ap (λ (l : ℕ). (l + q) % 4) (getD-inside ls i 0 unlabelled h))
 
 -- ---- a dart turned at its place
+-- also where there is no dart
 pub turned-at : (p : Plan) (q u v : ℕ) (ls : List ℕ) → length ls ≤ 1186 → turnAt q (placeOf p u v) ls ≡ turnDart p q (dart u v) ls
 unfolding turnAt placeOf turnDart
 turned-at p q u v ls h = go (adjacent p u v) refl
@@ -115,6 +126,7 @@ unfolding turnEdges
 edges-append p q [] es ls = refl
 edges-append p q (d ∷ ds) es ls = edges-append p q ds es (turnDart p q d (turnDart p q (d .1, d .0) ls))
 
+-- before the first pair
 pub turns-start : {p : Plan} {q : ℕ} {es : List Dart} {old : List ℕ} → Turns p q es old 0 old
 unfolding turnEdges
 turns-start {p} {q} {es} {old} = record { looks = looks-start; same = refl; marks = marks-start p old }
@@ -124,6 +136,7 @@ module _ {p : Plan} {q : ℕ} {es : List Dart} {old : List ℕ} {k : ℕ} {new :
   pub turns-long : length new ≡ length old
   turns-long = inv .marks .long
 
+  -- past the last pair none was bad
   pub turns-end : {m : ℕ} → m ≡ length es → m ≤ k → k ≡ lowest (badPair p es) (length es)
   turns-end e h = looks-end (inv .looks) (omega arith)
 
@@ -141,11 +154,13 @@ module _ {p : Plan} {q : ℕ} {es : List Dart} {old : List ℕ} {k : ℕ} {new :
             ∙ (λ j. border u && border v || sym (inv .marks .same u v e) j)
             ∙ ap (λ (b : Bool). b || any (sameEdge (dart u v)) (take k es)) (twice (border u && border v))
           where
+            -- not not is nothing
             twice : (b : Bool) → b ≡ not (not b)
             twice true = refl
             twice false = refl
         go false e = ap (λ (b : Bool). b || (border u && border v || not (eqb (getD new 1186 unlabelled) (getD old 1186 unlabelled)))) (le-leb 1186 1186 (omega arith))
 
+    -- a bad pair is the first
     pub turns-hit : {m : ℕ} → m ≡ length es → k < m → t ≡ true → k ≡ lowest (badPair p es) (length es)
     turns-hit e h b = looks-hit (inv .looks) (omega arith) (sym judged ∙ b)
 
@@ -156,6 +171,7 @@ module _ {p : Plan} {q : ℕ} {es : List Dart} {old : List ℕ} {k : ℕ} {new :
         ap (λ (e : Dart). any (sameEdge e) (take k es)) (sym pair)
         ∙ or-no (not (innerEdge p (getD es k (0, 0) .0) (getD es k (0, 0) .1))) (any (sameEdge (getD es k (0, 0))) (take k es)) (sym judged ∙ b) .1
 
+    -- the edge of a pair that is not bad is turned
     pub turns-on : {m k′ j : ℕ} {back new′ : List ℕ} → m ≡ length es → k < m → q % 2 ≡ 1 → t ≡ false → j ≡ placeOf p v u → back ≡ turnAt q j new → new′ ≡ turnAt q i back → k′ ≡ k + 1 → Turns p q es old k′ new′
     unfolding turnEdges
     turns-on {m} {k′} {j} {back} {new′} e h odd b back-place back-turned turned-too next =
@@ -173,5 +189,6 @@ module _ {p : Plan} {q : ℕ} {es : List Dart} {old : List ℕ} {k : ℕ} {new :
           marks = subst (λ (x : List Dart). Marks p old x new′) (sym more) (subst (Marks p old (take k es ++ (dart u v ∷ []))) (sym two) marked);
         }
       where
+        -- after the reverse dart the labels are as many
         back-long : length (turnDart p q (dart v u) new) ≡ length new
         back-long = turn-long p q (dart v u) new

@@ -19,10 +19,16 @@ add-result : tie.Need-add-result
 add-result c = search needs
 
 returns : tie.Need-returns
-returns c = let a = c .before .before .before .before .before .before .before .args in let k = c .before .before .before .before .before .before .before .pre in place-found (a .starts .now) (a .sizes .now) (a .entries .now) (a .n) (k .0) (k .1) (a .u) (a .v) (c .num .ensures .0) (c .before .before .before .index-of .ensures .0) (c .before .before .size-of .ensures .0) (omega arith)
+returns c =
+    let a = c .before .before .before .before .before .before .before .args in
+    let k = c .before .before .before .before .before .before .before .pre in
+    place-found (a .starts .now) (a .sizes .now) (a .entries .now) (a .n) (k .0) (k .1) (a .u) (a .v) (c .num .ensures .0) (c .before .before .before .index-of .ensures .0) (c .before .before .size-of .ensures .0) (omega arith)
 
 returns-2 : tie.Need-returns-2
-returns-2 c = let a = c .before .before .before .before .before .before .args in let k = c .before .before .before .before .before .before .pre in place-missing (a .starts .now) (a .sizes .now) (a .entries .now) (a .n) (k .0) (k .1) (a .u) (a .v) refl (c .before .before .index-of .ensures .0) (c .before .size-of .ensures .0) (omega arith)
+returns-2 c =
+    let a = c .before .before .before .before .before .before .args in
+    let k = c .before .before .before .before .before .before .pre in
+    place-missing (a .starts .now) (a .sizes .now) (a .entries .now) (a .n) (k .0) (k .1) (a .u) (a .v) refl (c .before .before .index-of .ensures .0) (c .before .size-of .ensures .0) (omega arith)
 
 pub place-of-spec : {M : Type 1} → statement M
 place-of-spec =

@@ -1,10 +1,7 @@
 -- quarters_of meets its contract.
-use mathlib.Core.Path.{refl, sym, ap}
-use Prim.Native.Nat.{ℕ}
-use Rattle.model.specs.Turn.{quarters}
+use mathlib.Core.Path.{sym}
 use borrow.Author.Tests.{eq-eqb, ne-eqb}
 use native.Mathlib.Omega.{arith}
-use borrow.Author.Needs.{needs}
 use Rattle.turn.proofs.quarters_of.Statement.{statement}
 use Rattle.turn.proofs.quarters_of.Tie as tie
 

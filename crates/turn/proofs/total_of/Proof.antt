@@ -1,6 +1,4 @@
 -- total_of meets its contract.
-use mathlib.Core.Path.{sym, ap, _∙_}
-use Rattle.rings.specs.Tables.{startOf}
 use Rattle.turn.proofs.Turns.{total-none, total-last}
 use native.Mathlib.Omega.{arith}
 use borrow.Author.Needs.{needs}
@@ -26,7 +24,9 @@ add-result : tie.Need-add-result
 add-result c = search needs
 
 returns-2 : tie.Need-returns-2
-returns-2 c = let a = c .before .before .before .before .before .args in total-last (a .starts .now) (a .sizes .now) (a .n) (c .before .before .before .before .before .pre .0) (omega arith) (omega arith) (c .before .num .ensures .0) (c .byte .ensures .0)
+returns-2 c =
+    let a = c .before .before .before .before .before .args in
+    total-last (a .starts .now) (a .sizes .now) (a .n) (c .before .before .before .before .before .pre .0) (omega arith) (omega arith) (c .before .num .ensures .0) (c .byte .ensures .0)
 
 pub total-of-spec : {M : Type 1} → statement M
 total-of-spec =

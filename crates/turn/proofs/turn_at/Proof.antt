@@ -1,7 +1,4 @@
 -- turn_at meets its contract.
-use mathlib.Core.Path.{refl, sym}
-use lib.Seq.{set-out}
-use Rattle.turn.specs.Run.{turnAt}
 use Rattle.turn.proofs.Turns.{turned-off, turned-on}
 use native.Mathlib.Omega.{arith}
 use borrow.Author.Needs.{needs}

@@ -1,7 +1,7 @@
 -- turn_pairs meets its contract.
 use mathlib.Core.Path.{_≡_, refl, sym, _∙_}
 use Prim.Native.Nat.{_-_, _/_, _≤_, _<_, _^_}
-use lib.ListN.{length, getD}
+use lib.ListN.{length}
 use Rattle.lists.specs.Parts.{pairs}
 use Rattle.lists.proofs.Parts.{length-pairs}
 use Rattle.model.specs.Plan.{entryCount}
