@@ -1,3 +1,4 @@
 pub mod Places
 pub mod Rounds
 pub mod Breaks
+pub mod Darts

@@ -81,6 +81,10 @@ module _ (starts sizes es : List ℕ) (n : ℕ) (same : starts ≡ startsOf size
   unfolding table
   is-table = ap (λ (l : List ℕ). rows l sizes es n) same
 
+  -- where u's labels begin, by the sizes alone
+  pub start-table : (u : ℕ) → u ≤ n → start (table sizes es n) u ≡ startOf sizes u
+  start-table u h = ap (λ (p : Plan). start p u) (sym is-table) ∙ start-rows u h
+
   -- only a context has a ring
   within : (u i : ℕ) → i < sizeOf sizes n u → u < n
   within u i h = go (ltb u n) refl
@@ -114,6 +118,14 @@ module _ (starts sizes es : List ℕ) (n : ℕ) (same : starts ≡ startsOf size
     is-dart : adjacent Rows u v ≡ ltb i k
     unfolding adjacent
     is-dart = member-index v (ring Rows u) ∙ (λ j. ltb (sym at j) ((ring-size starts sizes es n u ∙ sym size) j))
+
+    -- there is a dart exactly where the index is below the size
+    pub dart-test : adjacent (table sizes es n) u v ≡ ltb i k
+    dart-test = ap (λ (p : Plan). adjacent p u v) (sym is-table) ∙ is-dart
+
+    -- s + i is the place of its label
+    pub place-there : i < k → s + i ≡ start (table sizes es n) u + indexOf v (ring (table sizes es n) u)
+    place-there h = (λ j. begins h j + at j) ∙ ap (λ (p : Plan). start p u + indexOf v (ring p u)) is-table
 
     -- a label put on that dart is put at s + i
     pub put-there : (ls : List ℕ) (l : ℕ) → i < k → set ls (s + i) l ≡ put (table sizes es n) u v l ls

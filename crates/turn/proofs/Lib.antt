@@ -1,0 +1,3 @@
+pub mod Named
+pub mod Turns
+pub mod Answers
