@@ -75,9 +75,8 @@ module _ (s : Sheet) where
     chart-call-drawn e = chart-call-there h ∙ bind-at (chart (heldPlan s) (heldLabels s)) found (λ (c : Chart). accepted (file.charted (heldPlan s) (heldLabels s) c)) (chart-drawn e)
 
   -- the struct with a chart, from the struct with labels
-  pub chart-stored : (t : Sheet) (k : ℕ) (d : Drawn) (c : Chart) → t ≡ packed (file.labelled (heldPlan s) (stretch (s .labels) 0 k)) → k ≡ startOf (s .sizes) (s .n) → d ≡ drawnOf (accepted c)
+  pub chart-stored : (t : Sheet) (d : Drawn) (c : Chart) → t ≡ packed (file.labelled (heldPlan s) (stretch (s .labels) 0 (heldCount s))) → d ≡ drawnOf (accepted c)
       → _≡_ {A = Sheet} (record { stage = Charted; n = t .n; sizes = t .sizes; entries = t .entries; labels = t .labels; w = d .w; h = d .h; xs = d .xs; ys = d .ys }) (packed (file.charted (heldPlan s) (heldLabels s) c))
-  unfolding packed pack drawnOf heldLabels heldCount
-  chart-stored t k d c e q p =
-      let same : t ≡ packed (file.labelled (heldPlan s) (heldLabels s)) = e ∙ ap (λ (j : ℕ). packed (file.labelled (heldPlan s) (stretch (s .labels) 0 j))) q in
+  unfolding packed pack drawnOf heldLabels
+  chart-stored t d c same p =
       λ i. record { stage = Charted; n = same i .n; sizes = same i .sizes; entries = same i .entries; labels = same i .labels; w = p i .w; h = p i .h; xs = p i .xs; ys = p i .ys }

@@ -1,4 +1,5 @@
 pub mod Cleaned
 pub mod Offers
 pub mod Sweeps
+pub mod Turns
 pub mod Charts

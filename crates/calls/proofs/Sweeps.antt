@@ -13,7 +13,7 @@ use Rattle.model.specs.File as file
 use Rattle.model.specs.Calls.{planOf, sweepCall}
 use Rattle.model.proofs.Outcomes.{bind-at, bind-off, bind-accepted, then-accepted, same-value}
 use Rattle.sweep.specs.declared.SweepAnswer.{SweepAnswer}
-use Rattle.sweep.specs.declared.SweepAnswer.the-variants.{Labelled, Stuck, Broken, Unfit}
+use Rattle.sweep.specs.declared.SweepAnswer.the-variants.{Labelled}
 use Rattle.sweep.specs.Swept.{outcomeOf, sweepOf}
 use Rattle.sweep.specs.Run.{swept}
 use Rattle.sweep.proofs.Steps.{swept-long}
@@ -51,20 +51,8 @@ module _ (s : Sheet) where
     sweep-fit = ap (λ (t : Bool). cond t (sweep p) (refused 13 0)) (fits-there s h)
 
     module _ (a : SweepAnswer) (said : outcomeOf a (taken [] (sweepOf p)) ≡ sweepOf p) where
-      sweep-refused : (k at : ℕ) → outcomeOf a (taken [] (sweepOf p)) ≡ refused k at → sweepCall (reads s) ≡ refused k at
-      sweep-refused k at e = swept-there ∙ bind-off (sweep p) k at (stored p) (sym sweep-fit ∙ sym said ∙ e)
-
-      pub sweep-stuck : a ≡ Stuck → sweepCall (reads s) ≡ refused 14 0
-      unfolding outcomeOf
-      sweep-stuck e = sweep-refused 14 0 (ap (λ (x : SweepAnswer). outcomeOf x (taken [] (sweepOf p))) e)
-
-      pub sweep-broken : (u : ℕ) → a ≡ Broken u → sweepCall (reads s) ≡ refused 10 u
-      unfolding outcomeOf
-      sweep-broken u e = sweep-refused 10 u (ap (λ (x : SweepAnswer). outcomeOf x (taken [] (sweepOf p))) e)
-
-      pub sweep-unfit : a ≡ Unfit → sweepCall (reads s) ≡ refused 13 0
-      unfolding outcomeOf
-      sweep-unfit e = sweep-refused 13 0 (ap (λ (x : SweepAnswer). outcomeOf x (taken [] (sweepOf p))) e)
+      pub sweep-refused : (b : SweepAnswer) (k at : ℕ) → a ≡ b → outcomeOf b (taken [] (sweepOf p)) ≡ refused k at → sweepCall (reads s) ≡ refused k at
+      sweep-refused b k at e f = swept-there ∙ bind-off (sweep p) k at (stored p) (sym sweep-fit ∙ sym said ∙ ap (λ (x : SweepAnswer). outcomeOf x (taken [] (sweepOf p))) e ∙ f)
 
       pub sweep-labelled : (m : List ℕ) (t : Sheet) → a ≡ Labelled → m ≡ padded 1186 (taken [] (sweepOf p)) → t ≡ packed (file.labelled p (stretch m 0 (heldCount s)))
           → (sweepCall (reads s) ≡ accepted (file.labelled p (taken [] (sweepOf p)))) × (t ≡ packed (file.labelled p (taken [] (sweepOf p))))

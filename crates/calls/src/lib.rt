@@ -1,4 +1,4 @@
-// The calls that change a sheet, but for open: offer, sweep and chart. Each takes every value of the struct: one whose plan does not fit counts as a fresh sheet.
+// The calls that change a sheet, but for open: offer, sweep, turn and chart. Each takes every value of the struct: one whose plan does not fit counts as a fresh sheet.
 use sheet::Outcome;
 use sheet::Sheet;
 use sheet::Stage;
@@ -14,9 +14,10 @@ ghost use Rattle.model.specs.Plan.{dartCount};
 ghost use Rattle.model.specs.Labels.{breaks};
 ghost use Rattle.model.specs.Chart.{Chart, chart};
 ghost use Rattle.model.specs.File.{labelled, charted};
-ghost use Rattle.model.specs.Calls.{offerCall, sweepCall, chartCall};
+ghost use Rattle.model.specs.Calls.{offerCall, sweepCall, turnCall, chartCall};
 ghost use Rattle.labels.specs.Held as flat;
 ghost use Rattle.sweep.specs.Swept.{outcomeOf, sweepOf};
+ghost use Rattle.turn.specs.Turned as turned;
 ghost use Rattle.placement.specs.Drawing.{chartFor, drawnAs, drawnOf};
 ghost use Rattle.sheet.specs.Sheets.{heldCount, heldPlan, heldLabels, fits, reads, packed};
 ghost use Rattle.sheet.specs.Answers.{answerAs, answerOf, after};
@@ -164,6 +165,36 @@ pub fn sweep(sheet: Sheet) -> Outcome
     }
 }
 
+// The turn of the sheet's labels.
+fn turn_held(sheet: Sheet, items: &[u16], direction: u8) -> turn::Turned
+    ensures { λ r. ⌜ turned.outcomeOf (r .answer) (turned.labelsIn (sheet .sizes) (sheet .n) (r .labels)) ≡ turned.turnOf (sheet .sizes) (sheet .entries) (sheet .n) (sheet .labels) (now (items .entry)) direction ⌝ }
+{
+    let sizes = sheet.sizes;
+    let entries = sheet.entries;
+    let labels = sheet.labels;
+    let n = lists::wide_word(sheet.n);
+    turn::turn_labels(labels, &sizes, &entries, n, items, direction)
+}
+
+// Turn (LABELLED up): the labels of both darts of each named edge, a quarter clockwise (direction 0) or counterclockwise (1); the chart is dropped.
+pub fn turn(sheet: Sheet, items: &[u16], direction: u8) -> Outcome
+    ensures { λ r. ⌜ answerAs (r .answer) ≡ answerOf (turnCall (reads sheet) (now (items .entry)) direction) ⌝ }
+    ensures { λ r. ⌜ r .sheet ≡ after sheet (turnCall (reads sheet) (now (items .entry)) direction) ⌝ }
+{
+    if sheet::rank_of(sheet::stage_of(sheet)) < 2 {
+        return sheet::refuse(sheet, 13, 0);
+    }
+    let turned = turn_held(sheet, items, direction);
+    let answer = turned.answer;
+    let labels = turned.labels;
+    match answer {
+        turn::TurnAnswer::Labelled => sheet::accept(with_labels(sheet, labels)),
+        turn::TurnAnswer::BadList(place) => sheet::refuse(sheet, 15, place),
+        turn::TurnAnswer::Broken(place) => sheet::refuse(sheet, 10, place),
+        turn::TurnAnswer::Unfit => sheet::refuse(sheet, 13, 0),
+    }
+}
+
 // The chart of a table with the first k of these labels.
 fn chart_with<'a>(
     sizes: &'a [u8],
@@ -199,7 +230,8 @@ fn with_chart(sheet: Sheet, drawn: placement::Drawn) -> Sheet
     requires { ⌜ fits sheet ≡ true ⌝ }
     ensures { λ r. ⌜ ((c : Chart) → drawn ≡ drawnOf (accepted c) → r ≡ packed (charted (heldPlan sheet) (heldLabels sheet) c)) ⌝ }
 {
-    let kept = with_labels(sheet, sheet.labels);
+    let labels = sheet.labels;
+    let kept = with_labels(sheet, labels);
     let sizes_kept = kept.sizes;
     let entries_kept = kept.entries;
     let labels_kept = kept.labels;

@@ -116,6 +116,11 @@ module _ (s : Sheet) where
   unfolding heldPlan heldCount
   entries-held f = total-is (s .sizes) (s .entries) (s .n) (few f)
 
+  -- the plan that the code reads
+  pub table-held : {n : ℕ} → n ≡ s .n → table (s .sizes) (s .entries) n ≡ heldPlan s
+  unfolding heldPlan
+  table-held e = ap (table (s .sizes) (s .entries)) e
+
   -- how many entries the code counts
   pub total-held : {n k : ℕ} → fits s ≡ true → n ≡ s .n → k ≡ startOf (s .sizes) (min n 200) → k ≡ startOf (s .sizes) (s .n)
   total-held {n} f e q = q ∙ ap (startOf (s .sizes)) (let h = few f in omega arith)

@@ -1,31 +1,35 @@
+-- sweep_held meets its contract.
+use mathlib.Core.Path.{_≡_, ap, _∙_, subst}
+use Rattle.model.specs.Plan.{Plan}
+use mathlib.Core.List.{[]}
+use Rattle.lists.specs.Spans.{padded}
+use Rattle.model.specs.Outcome.{taken}
+use Rattle.sweep.specs.Swept.{outcomeOf, sweepOf}
+use Rattle.sheet.specs.Sheets.{heldPlan}
+use Rattle.sheet.proofs.Reading.{table-held}
 use native.Mathlib.Omega.{arith}
 use borrow.Author.Needs.{needs}
 use Rattle.calls.proofs.sweep_held.Statement.{statement}
 use Rattle.calls.proofs.sweep_held.Tie as tie
-use Rattle.calls.proofs.sweep_held.Reads as reads
-use Rattle.calls.proofs.sweep_held.Lts as lts
-use Rattle.lists.proofs.wide_word.Reads as wide-word-reads
-use Rattle.sweep.proofs.sweep_labels.Reads as sweep-labels-reads
 
--- src/lib.rt:145:25
 slice-aggregate-sweep-labels : tie.Need-slice-aggregate-sweep-labels
 slice-aggregate-sweep-labels c = search needs
 
--- src/lib.rt:145:33
 slice-aggregate-sweep-labels-2 : tie.Need-slice-aggregate-sweep-labels-2
 slice-aggregate-sweep-labels-2 c = search needs
 
--- src/lib.rt:145:43
 wide-word-requires : tie.Need-wide-word-requires
 wide-word-requires c κs = search needs
 
--- src/lib.rt:145:5
 sweep-labels-requires : tie.Need-sweep-labels-requires
 sweep-labels-requires c κs = search needs
 
--- src/lib.rt:139:1
 returns : tie.Need-returns
-returns c = search needs
+returns c =
+    let s = c .before .before .before .before .before .before .args .sheet in
+    let r = c .sweep-labels .result in
+    let e = table-held s (c .before .wide-word .ensures .0) in
+    (subst (λ (p : Plan). outcomeOf (r .answer) (taken [] (sweepOf p)) ≡ sweepOf p) e (c .sweep-labels .ensures .0), c .sweep-labels .ensures .1 ∙ ap (λ (p : Plan). padded 1186 (taken [] (sweepOf p))) e)
 
 pub sweep-held-spec : {M : Type 1} → statement M
 sweep-held-spec =

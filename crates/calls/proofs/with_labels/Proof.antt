@@ -1,36 +1,43 @@
+-- with_labels meets its contract.
+use mathlib.Core.Path.{ap, _∙_}
+use mathlib.Core.List.{List}
+use Prim.Native.Nat.{ℕ, _≤_}
+use Rattle.lists.specs.Spans.{stretch}
+use Rattle.model.specs.File.{labelled}
+use Rattle.sheet.specs.Sheets.{heldCount, heldPlan, packed}
+use Rattle.sheet.proofs.Reading.{room, total-held}
 use native.Mathlib.Omega.{arith}
 use borrow.Author.Needs.{needs}
 use Rattle.calls.proofs.with_labels.Statement.{statement}
 use Rattle.calls.proofs.with_labels.Tie as tie
-use Rattle.calls.proofs.with_labels.Reads as reads
-use Rattle.calls.proofs.with_labels.Lts as lts
-use Rattle.calls.proofs.relabelled.Reads as relabelled-reads
-use Rattle.fit.proofs.total_of.Reads as total-of-reads
-use Rattle.lists.proofs.wide_word.Reads as wide-word-reads
 
--- src/lib.rt:98:31
 slice-aggregate-total-of : tie.Need-slice-aggregate-total-of
 slice-aggregate-total-of c = search needs
 
--- src/lib.rt:98:39
 wide-word-requires : tie.Need-wide-word-requires
 wide-word-requires c κs = search needs
 
--- src/lib.rt:98:9
 total-of-requires : tie.Need-total-of-requires
 total-of-requires c κs = search needs
 
--- src/lib.rt:99:23
 slice-aggregate-relabelled : tie.Need-slice-aggregate-relabelled
 slice-aggregate-relabelled c = search needs
 
--- src/lib.rt:99:5
 relabelled-requires : tie.Need-relabelled-requires
-relabelled-requires c κs = search needs
+relabelled-requires c κs =
+    let s = c .before .before .before .before .before .args .sheet in
+    let f = c .before .before .before .before .before .pre in
+    let t = total-held s f (c .before .before .wide-word .ensures .0) (c .before .total-of .ensures .0) in
+    let h = room s f in
+    (f, omega arith)
 
--- src/lib.rt:93:1
 returns : tie.Need-returns
-returns c = search needs
+unfolding heldCount
+returns c =
+    let a = c .before .before .before .before .before .before .args in
+    let s = a .sheet in
+    let t = total-held s (c .before .before .before .before .before .before .pre) (c .before .before .before .wide-word .ensures .0) (c .before .before .total-of .ensures .0) in
+    c .relabelled .ensures ∙ ap (λ (k : ℕ). packed (labelled (heldPlan s) (stretch (a .t2) 0 k))) t
 
 pub with-labels-spec : {M : Type 1} → statement M
 with-labels-spec =
