@@ -1,34 +1,24 @@
 -- Sweep, after the stage: the labels that the sweep gives for the plan, stored, or its refusal.
 use Prim.Native.Nat.{ℕ, _≤_, _<_}
-use mathlib.Core.Path.{_≡_, refl, sym, ap, _∙_}
+use mathlib.Core.Path.{_≡_, sym, ap, _∙_}
 use mathlib.Core.List.{List, []}
-use mathlib.Core.Bool.{Bool, true, cond}
+use mathlib.Core.Bool.{Bool, cond}
 use lib.ListN.{length}
 use Rattle.lists.specs.Spans.{stretch, padded}
-use Rattle.model.specs.Outcome.{Outcome, accepted, refused, _>>=_, _>>_, taken}
-use Rattle.model.specs.Plan.{Plan, entryCount}
-use Rattle.model.specs.Labels.{labelRules}
+use Rattle.model.specs.Outcome.{Outcome, accepted, refused, _>>=_, taken}
+use Rattle.model.specs.Plan.{Plan}
 use Rattle.model.specs.Sweep.{sweep}
 use Rattle.model.specs.File as file
 use Rattle.model.specs.Calls.{planOf, sweepCall}
-use Rattle.model.proofs.Outcomes.{bind-at, bind-off, bind-accepted, then-accepted, same-value}
+use Rattle.model.proofs.Outcomes.{bind-at, bind-off}
+use Rattle.model.proofs.LabelCounts.{sweep-long}
 use Rattle.sweep.specs.declared.SweepAnswer.{SweepAnswer}
 use Rattle.sweep.specs.declared.SweepAnswer.the-variants.{Labelled}
 use Rattle.sweep.specs.Swept.{outcomeOf, sweepOf}
-use Rattle.sweep.specs.Run.{swept}
-use Rattle.sweep.proofs.Steps.{swept-long}
 use Rattle.sheet.specs.declared.Sheet.{Sheet}
 use Rattle.sheet.specs.Sheets.{heldCount, heldPlan, fits, reads, stageRead, rank, packed}
 use Rattle.sheet.proofs.Packed.{stretch-padded}
 use Rattle.sheet.proofs.Reading.{plan-early, plan-there, fits-there, entries-held}
-
--- the labels that a sweep gives are as many as the plan has entries
-sweep-long : (p : Plan) (ls : List ℕ) → sweep p ≡ accepted ls → length ls ≡ entryCount p
-unfolding sweep swept
-sweep-long p ls e =
-    let (ms, f, g) = bind-accepted (swept p) (λ (l : List ℕ). labelRules p l >> accepted l) ls e in
-    let (_, h) = then-accepted (labelRules p ms) (accepted ms) ls g in
-    ap length (sym (same-value h)) ∙ swept-long p ms f
 
 module _ (s : Sheet) where
   abbrev p : Plan

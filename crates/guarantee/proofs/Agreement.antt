@@ -10,7 +10,7 @@ use Rattle.model.specs.Turn.{turn}
 use Rattle.model.specs.File.{Sheet, fresh, opened, labelled, charted}
 use Rattle.model.specs.Calls.{planOf, labelsOf, offered, offerCall, sweepCall, turnCall, chartCall}
 use Rattle.model.specs.CallLists.{Call, open-file, offer-labels, sweep-labels, turn-edges, draw-chart, call, run, Ledger, both, ledgerPlan, ledgerLabels, planAndLabels, enter, ledger}
-use Rattle.guarantee.specs.Verdicts.{verdict, answers, judgements}
+use Rattle.guarantee.specs.Verdicts.{verdict, judgements}
 
 -- what the ledger enters for what a call leaves
 abbrev pub entered : Outcome Sheet → Outcome Ledger
@@ -84,6 +84,11 @@ ledger-follows (c ∷ cs) s = ledger-follows cs (taken s (call s c)) ∙ ap (λ 
 same-verdict : (o : Outcome Sheet) → verdict o ≡ verdict (entered o)
 same-verdict (accepted t) = refl
 same-verdict (refused k at) = refl
+
+-- what is answered to each call, by the definitions
+unfoldable pub answers : Sheet → List Call → List (Outcome (Unit {0}))
+answers s [] = []
+answers s (c ∷ cs) = verdict (call s c) ∷ answers (taken s (call s c)) cs
 
 -- and each was answered as the ledger judges it
 pub same-answers : (cs : List Call) (s : Sheet) → answers s cs ≡ judgements (planAndLabels s) cs

@@ -1,6 +1,6 @@
 -- The guarantee speaks of something: trench B is opened, swept and drawn, a turn is refused, and its chart stands; the file that is then written holds it.
 use Prim.Native.Nat.{ℕ}
-use mathlib.Core.Path.{_≡_, refl}
+use mathlib.Core.Path.{_≡_, refl, ap}
 use mathlib.Core.List.{List, [], _∷_}
 use mathlib.Core.Bool.{true, false}
 use mathlib.Core.Option.{none, some}
@@ -17,8 +17,13 @@ use Rattle.model.specs.File.{fresh, opened, encode, file-computes}
 use Rattle.model.specs.Calls.{calls-computes}
 use Rattle.model.specs.CallLists.{Call, open-file, sweep-labels, turn-edges, draw-chart, run, standing, neither, both, ledger, call-lists-computes}
 use Rattle.model.specs.Trenches.{B}
-use Rattle.guarantee.specs.Verdicts.{answers, newer, lastAccepted, draws}
+use Rattle.sheet.specs.Sheets.{reads}
+use Rattle.guarantee.specs.Engine.{start, left, told}
+use Rattle.guarantee.specs.Verdicts.{newer, lastAccepted, draws}
 use Rattle.guarantee.specs.Guarantee.{Owed}
+use Rattle.guarantee.proofs.Agreement.{answers}
+use Rattle.guarantee.proofs.Sized.{fresh-good}
+use Rattle.guarantee.proofs.Struct.{told-same, left-reads}
 use Rattle.guarantee.proofs.Guarantee.{guarantee}
 
 pub drawB : List Call
@@ -28,13 +33,13 @@ pub chartB : Chart
 chartB = record { w = 2; h = 3; xs = 2 ∷ 2 ∷ 0 ∷ 0 ∷ 1 ∷ 1 ∷ []; ys = 3 ∷ 0 ∷ 0 ∷ 3 ∷ 1 ∷ 2 ∷ [] }
 
 -- the turn of 4,5 is 10 at 4, so the chart stays
-pub answered : answers fresh drawB ≡ passed ∷ passed ∷ passed ∷ refused 10 4 ∷ []
+pub answered : told start drawB ≡ passed ∷ passed ∷ passed ∷ refused 10 4 ∷ []
 unfolding drawB answers taken firstFrom plan-computes labels-computes sweep-computes chart-computes turn-computes file-computes calls-computes call-lists-computes
-answered = refl
+answered = told-same drawB fresh fresh-good
 
-pub stands : standing (run fresh drawB) ≡ some chartB
+pub stands : standing (reads (left start drawB)) ≡ some chartB
 unfolding drawB chartB taken firstFrom plan-computes labels-computes sweep-computes chart-computes turn-computes file-computes calls-computes call-lists-computes
-stands = refl
+stands = ap standing (left-reads drawB)
 
 -- so all that is owed of a chart holds of it
 pub owed : (p : Plan) × (ls : List ℕ) × (ledger neither drawB ≡ both p ls) × Owed p ls chartB

@@ -1,6 +1,6 @@
 -- Demand 3 holds of every list of calls.
 use Prim.Native.Nat.{ℕ}
-use mathlib.Core.Path.{_≡_, refl, sym, subst}
+use mathlib.Core.Path.{_≡_, refl, sym, ap, subst, _∙_}
 use mathlib.Core.List.{List}
 use mathlib.Core.Option.{none, some, Option·some-injective, Option·none-ne-some}
 use Rattle.model.specs.Outcome.{accepted, passed}
@@ -9,6 +9,7 @@ use Rattle.model.specs.Labels.{labelRules}
 use Rattle.model.specs.Chart.{Chart, slope, chart}
 use Rattle.model.specs.File.{Sheet, fresh, opened, labelled, charted}
 use Rattle.model.specs.CallLists.{Call, run, standing, planAndLabels, Ledger, neither, both, ledger}
+use Rattle.sheet.specs.Sheets.{packed}
 use Rattle.model.proofs.PlanRules.{sound}
 use Rattle.model.proofs.LabelRules.{labels-exactly}
 use Rattle.model.proofs.Placements.{placed, chart-is}
@@ -18,6 +19,8 @@ use Rattle.guarantee.proofs.Faces.{inner-faces}
 use Rattle.guarantee.proofs.Drawing.{placement-draws}
 use Rattle.guarantee.proofs.Agreement.{ledger-follows, same-answers}
 use Rattle.guarantee.proofs.Kept.{Kept, run-kept, stands-after}
+use Rattle.guarantee.proofs.Sized.{fresh-good}
+use Rattle.guarantee.proofs.Struct.{left-reads, left-packed, told-same}
 
 -- what is owed of a chart that was drawn for a plan and labels that keep the rules
 owed : (p : Plan) (ls : List ℕ) (c : Chart) → planRules p ≡ passed → labelRules p ls ≡ passed → chart p ls ≡ accepted c → Owed p ls c
@@ -39,9 +42,12 @@ stored (charted p ls d) h g e c q = (p, ls, sym e, subst (Owed p ls) (Option·so
 -- DEMAND 3
 pub guarantee : (calls : List Call) → Guarantee calls
 unfolding planAndLabels standing present draws
-guarantee calls = record {
-  same-verdicts = same-answers calls fresh;
-  same-ledger = ledger-follows calls fresh;
-  stands-exactly = stands-after calls fresh none tt refl;
-  such-chart = stored (run fresh calls) (run-kept calls fresh tt) (ledger neither calls) (ledger-follows calls fresh);
-}
+guarantee calls =
+    let same = left-reads calls in
+    record {
+      same-verdicts = told-same calls fresh fresh-good ∙ same-answers calls fresh;
+      same-ledger = ap planAndLabels same ∙ ledger-follows calls fresh;
+      stands-exactly = ap (λ (s : Sheet). present (standing s)) same ∙ stands-after calls fresh none tt refl;
+      such-chart = λ c e. stored (run fresh calls) (run-kept calls fresh tt) (ledger neither calls) (ledger-follows calls fresh) c (ap standing (sym same) ∙ e);
+      nothing-else = left-packed calls fresh fresh-good ∙ ap packed (sym same);
+    }

@@ -33,7 +33,7 @@ Kept (opened p) = planRules p ≡ passed
 Kept (labelled p ls) = (planRules p ≡ passed) × (labelRules p ls ≡ passed)
 Kept (charted p ls c) = (planRules p ≡ passed) × (labelRules p ls ≡ passed) × (chart p ls ≡ accepted c)
 
-plan-kept : (s : Sheet) → Kept s → (p : Plan) → planOf s ≡ accepted p → planRules p ≡ passed
+pub plan-kept : (s : Sheet) → Kept s → (p : Plan) → planOf s ≡ accepted p → planRules p ≡ passed
 unfolding planOf
 plan-kept fresh h p e = not-both e
 plan-kept (opened q) h p e = subst (λ (r : Plan). planRules r ≡ passed) (same-value e) h
@@ -43,7 +43,7 @@ plan-kept (charted q ls c) h p e = subst (λ (r : Plan). planRules r ≡ passed)
 abbrev BothKept : Plan × List ℕ → Type 0
 BothKept a = (planRules (a .0) ≡ passed) × (labelRules (a .0) (a .1) ≡ passed)
 
-labels-kept : (s : Sheet) → Kept s → (a : Plan × List ℕ) → labelsOf s ≡ accepted a → BothKept a
+pub labels-kept : (s : Sheet) → Kept s → (a : Plan × List ℕ) → labelsOf s ≡ accepted a → BothKept a
 unfolding labelsOf
 labels-kept fresh h a e = not-both e
 labels-kept (opened p) h a e = not-both e
@@ -91,9 +91,9 @@ judged-kept (charted p ls c) j =
     (a, b, e ∙ ap accepted (sym (same-chart c d (require-passed (sameChart c d) 12 0 t))))
 
 -- ---- what an accepted call leaves: it keeps the rules, and it has a chart exactly if the call draws one
-record After (c : Call) (t : Sheet) : Type 0 where
-  kept : Kept t
-  drawn : present (standing t) ≡ draws (some c)
+pub record After (c : Call) (t : Sheet) : Type 0 where
+  pub kept : Kept t
+  pub drawn : present (standing t) ≡ draws (some c)
 
 after-labels : {A : Type 0} (c : Call) (o : Outcome A) (plan : A → Plan) (f : A → Outcome (List ℕ)) (t : Sheet) → draws (some c) ≡ false
     → ((a : A) → o ≡ accepted a → planRules (plan a) ≡ passed) → ((a : A) (ms : List ℕ) → f a ≡ accepted ms → labelRules (plan a) ms ≡ passed)
@@ -112,7 +112,7 @@ after-chart s t h e =
     let (k, l) = labels-kept s h a e₁ in
     subst (After draw-chart) (same-value q) (record { kept = (k, l, e₂); drawn = refl })
 
-leaves : (s t : Sheet) (c : Call) → Kept s → call s c ≡ accepted t → After c t
+pub leaves : (s t : Sheet) (c : Call) → Kept s → call s c ≡ accepted t → After c t
 unfolding call offerCall sweepCall turnCall draws
 leaves s t (open-file b) h e = record { kept = judged-kept t (open-accepted b t e .1); drawn = opened-holds b t e }
 leaves s t (offer-labels ls) h e = after-labels (offer-labels ls) (planOf s) (λ p. p) (λ p. offered p ls) t refl (plan-kept s h) (λ p. offered-kept p ls) e

@@ -9,9 +9,10 @@ use Rattle.lists.specs.Tests.{tally}
 use Rattle.model.specs.Plan.{Plan, Face, faces}
 use Rattle.model.specs.Chart.{Chart, IsChart, slope}
 use Rattle.model.specs.Geometry.{Point, positive, area, areas, inRectangle, onSomeLine, inFace}
-use Rattle.model.specs.File.{fresh}
-use Rattle.model.specs.CallLists.{Call, run, standing, planAndLabels, neither, both, ledger}
-use Rattle.guarantee.specs.Verdicts.{answers, judgements, lastAccepted, draws, present}
+use Rattle.model.specs.CallLists.{Call, standing, planAndLabels, neither, both, ledger}
+use Rattle.sheet.specs.Sheets.{reads, packed}
+use Rattle.guarantee.specs.Engine.{start, left, told}
+use Rattle.guarantee.specs.Verdicts.{judgements, lastAccepted, draws, present}
 use Rattle.guarantee.specs.InnerFaces.{InnerFaces}
 
 -- What is owed of a chart c that stands. Lines and inner faces are those of the ledger's plan p; ls are the ledger's labels.
@@ -30,10 +31,12 @@ pub record Owed (p : Plan) (ls : List ℕ) (c : Chart) : Type 0 where
 -- Demand 3 for a list of calls
 pub record Guarantee (calls : List Call) : Type 0 where
   -- A call is accepted when no numbered refusal applies to it, judged by its arguments and the ledger alone. The engine accepts exactly these calls, and refuses the others by the same number and place.
-  pub same-verdicts : answers fresh calls ≡ judgements neither calls
+  pub same-verdicts : told start calls ≡ judgements neither calls
   -- The sheet's plan and labels, if any, are the ledger's.
-  pub same-ledger : planAndLabels (run fresh calls) ≡ ledger neither calls
+  pub same-ledger : planAndLabels (reads (left start calls)) ≡ ledger neither calls
   -- A chart stands exactly when the last accepted call was chart, or an open of a file that holds a chart.
-  pub stands-exactly : present (standing (run fresh calls)) ≡ draws (lastAccepted none neither calls)
+  pub stands-exactly : present (standing (reads (left start calls))) ≡ draws (lastAccepted none neither calls)
   -- A chart that stands is owed all of the above, for the ledger's plan and labels.
-  pub such-chart : (c : Chart) → standing (run fresh calls) ≡ some c → (p : Plan) × (ls : List ℕ) × (ledger neither calls ≡ both p ls) × Owed p ls c
+  pub such-chart : (c : Chart) → standing (reads (left start calls)) ≡ some c → (p : Plan) × (ls : List ℕ) × (ledger neither calls ≡ both p ls) × Owed p ls c
+  -- The struct holds nothing else: what is not in use is zero.
+  pub nothing-else : left start calls ≡ packed (reads (left start calls))

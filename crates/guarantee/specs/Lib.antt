@@ -1,3 +1,5 @@
+pub mod Engine
 pub mod Verdicts
 pub mod InnerFaces
 pub mod Guarantee
+pub mod ThereAndBack

@@ -1,19 +1,13 @@
--- What each call of a list is answered, what the ledger judges of it, and which call was the last to be accepted.
+-- What the ledger judges of each call of a list, and which call was the last to be accepted.
 use mathlib.Core.List.{List, [], _∷_}
 use mathlib.Core.Bool.{Bool, true, false}
 use mathlib.Core.Option.{Option, none, some}
 use Rattle.model.specs.Outcome.{Outcome, accepted, refused, passed, _>>_, taken}
-use Rattle.model.specs.File.{Sheet}
-use Rattle.model.specs.CallLists.{Call, open-file, offer-labels, sweep-labels, turn-edges, draw-chart, call, Ledger, enter, holdsChart}
+use Rattle.model.specs.CallLists.{Call, open-file, offer-labels, sweep-labels, turn-edges, draw-chart, Ledger, enter, holdsChart}
 
 -- accepted, or the refusal's number and place
 abbrev pub verdict : {A : Type 0} → Outcome A → Outcome (Unit {0})
 verdict o = o >> passed
-
--- what the engine answers to each call, from a sheet on
-unfoldable pub answers : Sheet → List Call → List (Outcome (Unit {0}))
-answers s [] = []
-answers s (c ∷ cs) = verdict (call s c) ∷ answers (taken s (call s c)) cs
 
 -- what is to be answered, judged by the call's arguments and the ledger alone
 unfoldable pub judgements : Ledger → List Call → List (Outcome (Unit {0}))

@@ -12,3 +12,4 @@ pub mod Eligible
 pub mod FileWrite
 pub mod FileRead
 pub mod RingPart
+pub mod LabelCounts

@@ -1,4 +1,3 @@
 pub mod Scans
 pub mod Writes
 pub mod Comparisons
-pub mod RoundTrips

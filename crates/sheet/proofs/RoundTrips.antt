@@ -23,13 +23,13 @@ use Rattle.model.proofs.FileRead.{read-fits, read-written}
 use Rattle.model.proofs.RingPart.{open-accepted}
 use Rattle.fit.specs.Fits.{fit}
 use Rattle.fit.proofs.Fits.{says-fit}
 use Rattle.sheet.specs.declared.Sheet.{Sheet}
 use Rattle.sheet.specs.Sheets.{reads, packed}
 use Rattle.sheet.specs.Answers.{answerOf, after}
 use Rattle.sheet.proofs.Packed.{Held, reads-packed}
 
 -- ---- a sheet that fits into a file and keeps the rules fits into the struct
-plan-held : (p : Plan) → PlanFits p → planRules p ≡ passed → fit p ≡ true
+pub plan-held : (p : Plan) → PlanFits p → planRules p ≡ passed → fit p ≡ true
 plan-held p f e = let t = sound p e .total in let h = f .high in says-fit p h (omega arith) (λ u k. says-entry p u (sound p e .inside u) (sound p e .other u))
 
 pub judged-held : (t : file.Sheet) → Fits t → judge t ≡ passed → Held t
