@@ -77,4 +77,10 @@ impl Script {
     pub fn open_write(&mut self, length: usize, file: &[u8]) {
         self.item(11, &[&numbers(&[length as u16]), file]);
     }
+
+    /// An item that is cut before its argument ends; the last one of a script.
+    pub fn cut_item(&mut self) {
+        self.item(1, &[b"cut"]);
+        self.bytes.pop();
+    }
 }

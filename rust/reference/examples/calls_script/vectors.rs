@@ -36,6 +36,7 @@ pub fn script(sweep_and_turn: bool) -> Vec<u8> {
         turns(&mut script);
         call_lists(&mut script, true);
     }
+    script.cut_item();
     script.bytes
 }
 
@@ -443,8 +444,14 @@ fn rings_of_files(script: &mut Script) {
     script.open(&file);
     script.scan();
     (0..isolated.len() as u16 + 1).for_each(|context| script.ring(context, &file));
+    for file in refused_files() {
+        script.ring(4, &file);
+        script.ring(65535, &file);
+        script.open_write(0, &file);
+        script.open_write(300, &file);
+    }
     let mut random = Random::new(105);
-    for _ in 0..60 {
+    for _ in 0..50 {
         let case = Case::swept(small_plan(&mut random));
         let damaged = damaged_file(&case.whole(), &mut random);
         script.ring(random.below(case.n() + 1) as u16, &damaged);
@@ -516,7 +523,7 @@ pub fn refused_files() -> Vec<Vec<u8>> {
 fn large_plans(script: &mut Script) {
     let mut random = Random::new(106);
     for family in 0..FAMILIES.len() {
-        let rings = plan_of_family(family, 200, &mut random);
+        let rings = large_rings(family, &mut random);
         let case = Case::swept(disguise(&rings, &mut random));
         large_plan(script, &case, &mut random);
     }
@@ -525,9 +532,20 @@ fn large_plans(script: &mut Script) {
     let labels = [part.labels.expect("labels"), torus].concat();
     let case = Case::labelled(beside(&part.rings, &ring_torus(100)), &labels);
     large_plan(script, &case, &mut random);
+    script.ring(200, &case.plain());
 }
 
-/// A large plan through all calls, then with damaged labels and a damaged chart, and written into buffers that just fit or not.
+/// A plan of a family with 200 contexts.
+fn large_rings(family: usize, random: &mut Random) -> Rings {
+    loop {
+        let rings = plan_of_family(family, 200, random);
+        if rings.len() == 200 {
+            return rings;
+        }
+    }
+}
+
+/// A large plan through all calls, then with damaged labels, rings and a damaged chart, and written into buffers that just fit or not.
 fn large_plan(script: &mut Script, case: &Case, random: &mut Random) {
     all_calls(script, case);
     let labels = case.some_labels(random);
@@ -538,7 +556,7 @@ fn large_plan(script: &mut Script, case: &Case, random: &mut Random) {
     script.write(length - 1);
     script.write(length);
     script.ring(case.n() as u16 - 1, &case.plain());
-    script.ring(case.n() as u16, &case.plain());
+    script.open(&file(&damaged_rings(&case.rings, random), None, None));
     if let Some(chart) = &case.numbers {
         let damaged = damaged_chart(chart, random);
         script.open(&file(&case.rings, case.labels.as_deref(), Some(&damaged)));
@@ -564,7 +582,7 @@ fn sweeps(script: &mut Script) {
         swept(script, &file(&irreducible(n, &mut random), None, None));
     }
     for family in 0..FAMILIES.len() {
-        let rings = plan_of_family(family, 200, &mut random);
+        let rings = large_rings(family, &mut random);
         swept(script, &file(&disguise(&rings, &mut random), None, None));
     }
 }
