@@ -205,13 +205,32 @@ fn copy_numbers(list: &mut [u16], argument: &[u8]) -> usize {
     i
 }
 
+// The direction of a turn.
+fn direction_of(argument: &[u8]) -> u8 {
+    if argument.len() == 0 { 0 } else { argument[0] }
+}
+
+// Turn, with its list and its direction: the sheet afterwards.
+fn run_list(sheet: Sheet, list: &[u16], direction: u8) -> Sheet {
+    io::write_all(1, b"turn not a call");
+    print(b" numbers ", list.len());
+    print(b" direction ", lists::wide_byte(direction));
+    sheet
+}
+
+// Turn, with the first numbers of a list: the sheet afterwards.
+fn run_part(sheet: Sheet, list: &[u16], count: usize, direction: u8) -> Sheet {
+    if list.len() < count {
+        return sheet;
+    }
+    run_list(sheet, &list[..count], direction)
+}
+
 // Turn: the sheet afterwards.
 fn run_turn(sheet: Sheet, argument: &[u8]) -> Sheet {
     let mut list = number_room();
     let count = copy_numbers(&mut list, argument);
-    print(b"turn of ", count);
-    io::write_all(1, b" not a call");
-    sheet
+    run_part(sheet, &list, count, direction_of(argument))
 }
 
 // Chart: the sheet afterwards.
