@@ -6,7 +6,7 @@ use crate::script::Script;
 use generate::damage::{cuts, damaged_chart, damaged_file, damaged_labels, damaged_rings};
 use generate::damage::{labels_in_runs, labels_with_other_edge, turn_list};
 use generate::edit::disguise;
-use generate::families::{irreducible, reducible, trench_a, trench_b, trench_c};
+use generate::families::{irreducible, reducible, trench_a, trench_b, trench_c, wheel};
 use generate::file::{file, numbers, record, record_offsets};
 use generate::odd::{beside, random_odd, ring_torus, torus_labels, trench_d, trench_d_labels};
 use generate::sample::{plan_of_family, small_plan, FAMILIES};
@@ -276,7 +276,46 @@ fn offers(script: &mut Script) {
     }
     every_other_label(script, &a);
     every_other_label(script, &b);
+    hub_offers(script);
     damaged_offers(script);
+}
+
+/// Labels around a hub of eight neighbours: in four runs from everywhere, twice around, one only, counterclockwise.
+fn hub_offers(script: &mut Script) {
+    let mut random = Random::new(109);
+    let case = loop {
+        let rings = wheel(13, &mut random);
+        if rings[..4].iter().all(|ring| ring.len() == 5) {
+            break Case::swept(rings);
+        }
+    };
+    script.open(&case.plain());
+    for by in 0..8 {
+        let mut runs = [0, 0, 1, 1, 2, 2, 3, 3];
+        runs.rotate_left(by);
+        script.offer(&with_hub(&case, &runs));
+        runs.reverse();
+        script.offer(&with_hub(&case, &runs));
+    }
+    for first in 0..4 {
+        let twice: Vec<u8> = (first..first + 8).map(|label| label % 4).collect();
+        script.offer(&with_hub(&case, &twice));
+        script.offer(&with_hub(&case, &[first; 8]));
+    }
+}
+
+/// The labels with others around context 4, and the reverse darts labelled to fit.
+fn with_hub(case: &Case, around: &[u8]) -> Vec<u8> {
+    let darts = case.rings.iter().enumerate();
+    let darts = darts.flat_map(|(u, ring)| ring.iter().map(move |&v| (u as u16, v)));
+    let label_at = |v: u16| around[case.rings[4].iter().position(|&w| w == v).expect("the rim")];
+    let labels = case.labels.iter().flatten();
+    let changed = darts.zip(labels).map(|(dart, &label)| match dart {
+        (4, v) => label_at(v),
+        (v, 4) => (label_at(v) + 2) % 4,
+        _ => label,
+    });
+    changed.collect()
 }
 
 /// A label of 0 to 7 or 255 in place of each that the plan has, the good ones offered again at the end.
