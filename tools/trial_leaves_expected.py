@@ -22,10 +22,12 @@ class Refused(Exception):
 
 
 def number(data, at):
+    """The number of two bytes, little-endian, at an offset."""
     return data[at] + 256 * data[at + 1]
 
 
 def numbers(data):
+    """All numbers of two bytes."""
     return [number(data, at) for at in range(0, len(data), 2)]
 
 
@@ -71,6 +73,7 @@ def lowest(n, bad):
 
 
 def lists(rings, u, v):
+    """Does u list v?"""
     return u < len(rings) and v in rings[u]
 
 
@@ -87,6 +90,7 @@ def step(rings, dart):
 
 
 def darts(rings):
+    """All darts, in ring order, context by context."""
     return [(u, v) for u, ring in enumerate(rings) for v in ring]
 
 
@@ -212,6 +216,7 @@ def file_line(data):
 
 
 def main():
+    """A line for each file of standard input."""
     data, at = sys.stdin.buffer.read(), 0
     while at < len(data):
         size = number(data, at)

@@ -14,12 +14,15 @@
 //   10 ring         the context, then the bytes of a file
 //   11 open_write   the length of the buffer, filled with 170 before, then the bytes of a file
 //
-// A kind with no argument named here has an argument of no bytes. Each item gives a line: the call, its answer, where bytes were
-// written or handed back `of` their number, a colon and their checksum; then a semicolon and the sheet afterwards: its
-// stage, and from OPEN up n, width x height and the answer and the checksum of a write into a buffer of 8,192 bytes. So a refused call that
-// changes anything is seen. The checksum of bytes starts at 0, and each byte b makes of it
-// (checksum * 1000003 + b + 1) modulo 4294967291. A malformed item, or a 100,000th item, ends
-// the run with a line that says so.
+// A kind with no argument named here has an argument of no bytes. Each item gives a line: the call and its answer; where bytes
+// were written or handed back, `of`, their number, a colon and their checksum; then a semicolon and the sheet afterwards: its
+// stage, and from OPEN up n, width x height, and the answer and the checksum of a write into a buffer of 8,192 bytes. So a
+// refused call that changes anything is seen. The checksum of bytes starts at 0, and each byte b makes of it
+// (checksum * 1000003 + b + 1) modulo 4294967291. A malformed item, or a 100,000th item, ends the run with a line that says so.
+//
+// Sweep and turn are no calls yet: the functions run_sweep and run_list say so.
+//
+// stdin and stdout beside this crate are made by the reference in rust/, by its examples calls_script and run_calls.
 use sheet::Answer;
 use sheet::Compared;
 use sheet::RingAnswer;
