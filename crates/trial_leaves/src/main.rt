@@ -1,8 +1,10 @@
 // Runs vectors over the leaves. Standard input holds plan files, each behind its length in two bytes, little-endian; the
 // program prints a line for each: what framing finds, the place that each plan rule gives (n where it is kept), the scan,
-// the place of the label rules, the chart, and whether what is written is the file. A leaf that the ones before it rule out
-// is not asked.
+// how many bytes of the plan that is written are the file's, what a buffer that is a byte short gives (16), the place of the
+// label rules, the chart, and whether a chart record is that chart (12). A leaf that the ones before it rule out is not asked.
+ghost use Prim.Native.Nat.{_≤_};
 
+// A word, then a number.
 fn print(word: &[u8], x: usize) {
     io::write_all(1, word);
     io::print_decimal(1, x as u64);
@@ -69,6 +71,7 @@ fn print_flat_rules<'a>(starts: &'a [u16], sizes: &'a [u8], entries: &'a [u16], 
     n <= nine
 }
 
+// The smallest triple of mutual neighbours that are no inner face.
 fn print_scan<'a>(starts: &'a [u16], sizes: &'a [u8], entries: &'a [u16], n: usize) {
     let scanned = scan::scan(starts, sizes, entries, n);
     match scanned {
@@ -95,6 +98,54 @@ fn same_bytes<'a>(a: &'a [u8], b: &'a [u8], k: usize) -> usize {
     i
 }
 
+// What is answered when the plan alone is written as a file: its length, or how many bytes a short buffer would need.
+fn print_answer(answer: writing::Written) {
+    match answer {
+        writing::Written::Length(k) => {
+            print(b" length ", k);
+        }
+        writing::Written::Short(k) => {
+            print(b" short ", k);
+        }
+    }
+}
+
+// The plan alone, written as a file into a buffer.
+fn write_alone<'a>(out: &mut [u8], sizes: &'a [u8], entries: &'a [u16], n: usize) {
+    let none = [0u8; 1];
+    let nowhere = [0u16; 1];
+    let answer = writing::write_file(
+        out,
+        writing::Parts::PlanOnly,
+        n,
+        sizes,
+        entries,
+        &none,
+        0,
+        0,
+        &nowhere,
+        &nowhere,
+    );
+    print_answer(answer);
+}
+
+// The plan alone, written as a file into the first bytes of a buffer.
+fn write_part<'a>(space: &mut [u8], size: usize, sizes: &'a [u8], entries: &'a [u16], n: usize) {
+    if space.len() < size {
+        return;
+    }
+    write_alone(&mut space[..size], sizes, entries, n);
+}
+
+// The plan alone, written as a file into a buffer that just fits, and into one that is a byte short.
+fn print_buffers<'a>(sizes: &'a [u8], entries: &'a [u16], n: usize, size: usize) {
+    let mut space = io::buffer();
+    write_part(&mut space, size, sizes, entries, n);
+    if 0 < size {
+        write_part(&mut space, size - 1, sizes, entries, n);
+    }
+}
+
 // How many bytes the plan alone takes when it is written, and how many of them are the file's.
 fn print_written<'a>(file: &'a [u8], sizes: &'a [u8], entries: &'a [u16], n: usize) {
     let mut space = io::buffer();
@@ -102,6 +153,7 @@ fn print_written<'a>(file: &'a [u8], sizes: &'a [u8], entries: &'a [u16], n: usi
     let size = writing::plan_length(sizes, n);
     print(b" bytes ", size);
     print(b" same ", same_bytes(file, &space, size));
+    print_buffers(sizes, entries, n, size);
 }
 
 // A context's point.
@@ -119,8 +171,50 @@ fn print_points<'a>(xs: &'a [u16], ys: &'a [u16], n: usize) {
     }
 }
 
-// The chart of the labels: its size and the point of each context.
-fn print_chart<'a>(sizes: &'a [u8], entries: &'a [u16], n: usize, labels: &'a [u8]) {
+// One coordinate of each point in the body of a chart record, from an offset on.
+fn copy_points(points: &mut [u16], chart: &[u8], from: usize)
+    requires { ⌜ from ≤ 6 ⌝ }
+{
+    let mut u = 0;
+    while u < 200 {
+        store(points, u, lists::word_at(chart, from + 4 * u));
+        u += 1;
+    }
+}
+
+// Is the chart in the body of a chart record the one that is drawn?
+fn is_drawn(chart: &[u8], n: usize, drawn: placement::Drawn) -> bool {
+    let mut xs = [0u16; 200];
+    copy_points(&mut xs, chart, 4);
+    let mut ys = [0u16; 200];
+    copy_points(&mut ys, chart, 6);
+    let w = lists::word_at(chart, 0) as u16;
+    let h = lists::word_at(chart, 2) as u16;
+    let dx = drawn.xs;
+    let dy = drawn.ys;
+    placement::same_chart(n, w, h, &xs, &ys, drawn.w, drawn.h, &dx, &dy)
+}
+
+// Whether a chart record, if the file has one, is the chart that is drawn.
+fn print_record(chart: &[u8], n: usize, drawn: placement::Drawn) {
+    if chart.len() == 0 {
+        return;
+    }
+    if is_drawn(chart, n, drawn) {
+        io::write_all(1, b" record same");
+        return;
+    }
+    io::write_all(1, b" record other");
+}
+
+// The chart of the labels: its size and the point of each context, and whether the file's chart record is the same.
+fn print_chart<'a>(
+    sizes: &'a [u8],
+    entries: &'a [u16],
+    n: usize,
+    labels: &'a [u8],
+    chart: &'a [u8],
+) {
     let drawn = placement::chart_of(sizes, entries, n, labels);
     if !drawn.found {
         io::write_all(1, b" chart none");
@@ -133,14 +227,21 @@ fn print_chart<'a>(sizes: &'a [u8], entries: &'a [u16], n: usize, labels: &'a [u
     let xs = drawn.xs;
     let ys = drawn.ys;
     print_points(&xs, &ys, n);
+    print_record(chart, n, drawn);
 }
 
 // The place of the label rules, and the chart where they are kept.
-fn print_labels<'a>(sizes: &'a [u8], entries: &'a [u16], n: usize, labels: &'a [u8]) {
+fn print_labels<'a>(
+    sizes: &'a [u8],
+    entries: &'a [u16],
+    n: usize,
+    labels: &'a [u8],
+    chart: &'a [u8],
+) {
     let ten = labels::rules::rules_place(sizes, entries, n, labels);
     print(b" 10:", ten);
     if n <= ten {
-        print_chart(sizes, entries, n, labels);
+        print_chart(sizes, entries, n, labels, chart);
     }
 }
 
@@ -152,6 +253,7 @@ fn print_flat<'a>(
     entries: &'a [u16],
     n: usize,
     labels: &'a [u8],
+    chart: &'a [u8],
 ) {
     if !print_flat_rules(starts, sizes, entries, n) {
         return;
@@ -159,12 +261,12 @@ fn print_flat<'a>(
     print_scan(starts, sizes, entries, n);
     print_written(file, sizes, entries, n);
     if labels.len() > 0 {
-        print_labels(sizes, entries, n, labels);
+        print_labels(sizes, entries, n, labels, chart);
     }
 }
 
-// What the leaves find in a plan that is framed; `labels` is empty where the file has none.
-fn print_plan<'a>(file: &'a [u8], sizes: &'a [u8], n: usize, labels: &'a [u8]) {
+// What the leaves find in a plan that is framed; `labels` and `chart` are empty where the file has none.
+fn print_plan<'a>(file: &'a [u8], sizes: &'a [u8], n: usize, labels: &'a [u8], chart: &'a [u8]) {
     let starts = rings::starts_of(sizes);
     print(b" n ", n);
     if !print_lent_rules(file, &starts, sizes, n) {
@@ -176,7 +278,7 @@ fn print_plan<'a>(file: &'a [u8], sizes: &'a [u8], n: usize, labels: &'a [u8]) {
         copy_ring(&mut entries, file, &starts, sizes, n, u);
         u += 1;
     }
-    print_flat(file, &starts, sizes, &entries, n, labels);
+    print_flat(file, &starts, sizes, &entries, n, labels, chart);
 }
 
 // How many labels a plan of n contexts has; 0 where no plan has n.
@@ -190,6 +292,17 @@ fn dart_count(n: usize) -> usize {
     6 * n - 14
 }
 
+// How many bytes the body of a chart record has; 0 where no plan has n.
+fn chart_size(n: usize) -> usize {
+    if n < 5 {
+        return 0;
+    }
+    if 200 < n {
+        return 0;
+    }
+    4 + 4 * n
+}
+
 // A file: the refusal, or what stands in it.
 fn print_file(file: &[u8]) {
     let layout = framing::frame_file(file);
@@ -197,6 +310,7 @@ fn print_file(file: &[u8]) {
     let n = layout.n;
     let sizes = layout.sizes;
     let at = layout.labels;
+    let chart = layout.chart;
     match found {
         framing::Found::Refused(number, place) => {
             print(b"refused ", lists::wide_byte(number));
@@ -204,20 +318,39 @@ fn print_file(file: &[u8]) {
         }
         framing::Found::Opened => {
             io::write_all(1, b"plan");
-            print_plan(file, &sizes, n, framing::ring_part(file, 0, 0));
+            print_plan(
+                file,
+                &sizes,
+                n,
+                framing::ring_part(file, 0, 0),
+                framing::ring_part(file, 0, 0),
+            );
         }
         framing::Found::Labelled => {
             io::write_all(1, b"labels");
-            print_plan(file, &sizes, n, framing::ring_part(file, at, dart_count(n)));
+            print_plan(
+                file,
+                &sizes,
+                n,
+                framing::ring_part(file, at, dart_count(n)),
+                framing::ring_part(file, 0, 0),
+            );
         }
         framing::Found::Charted => {
             io::write_all(1, b"chart");
-            print_plan(file, &sizes, n, framing::ring_part(file, at, dart_count(n)));
+            print_plan(
+                file,
+                &sizes,
+                n,
+                framing::ring_part(file, at, dart_count(n)),
+                framing::ring_part(file, chart, chart_size(n)),
+            );
         }
     }
     io::write_all(1, b"\n");
 }
 
+// Runs the files of standard input, one after another.
 fn main() {
     let mut space = io::large_buffer();
     let got = io::read_full(0, &mut space);

@@ -15,10 +15,10 @@ use Rattle.trial_leaves.proofs.print_flat.Reads as print-flat-reads
 use Rattle.trial_leaves.proofs.print_lent_rules.Reads as print-lent-rules-reads
 
 abbrev Inv-loop : tie.InvT-loop
-Inv-loop file sizes n labels starts entries₀ u₀ entries u = (u ≤ n) × (length entries ≡ 1186)
+Inv-loop file sizes n labels chart starts entries₀ u₀ entries u = (u ≤ n) × (length entries ≡ 1186)
 
 abbrev μ-loop : tie.MeasureT-loop
-μ-loop file sizes n labels starts entries₀ u₀ entries u = n - u
+μ-loop file sizes n labels chart starts entries₀ u₀ entries u = n - u
 
 -- src/main.rt:133:18
 starts-of-requires : tie.Need-starts-of-requires Inv-loop μ-loop

@@ -1,0 +1,106 @@
+//! Lists of calls with refusals in between, on the four trenches and on larger plans.
+
+use crate::case::Case;
+use crate::script::Script;
+use crate::vectors::{around, refused_files, trenches};
+use generate::damage::{damaged_chart, damaged_file, damaged_labels, damaged_turn_list, turn_list};
+use generate::edit::disguise;
+use generate::families::irreducible;
+use generate::file::file;
+use generate::sample::plan_of_family;
+use generate::Random;
+use reference::{open, turn};
+
+/// Random lists of calls on the four trenches and twelve larger plans, each on a fresh sheet, with or without sweep and turn.
+pub fn call_lists(script: &mut Script, sweep_and_turn: bool) {
+    let mut random = Random::new(if sweep_and_turn { 202 } else { 201 });
+    for case in trenches() {
+        call_list(script, &case, 60, sweep_and_turn, &mut random);
+    }
+    for index in 0..12 {
+        let n = random.between(24, 60);
+        let rings = match index {
+            0..9 => plan_of_family(index, n, &mut random),
+            _ => irreducible(n, &mut random),
+        };
+        let case = Case::swept(disguise(&rings, &mut random));
+        call_list(script, &case, 40, sweep_and_turn, &mut random);
+    }
+}
+
+/// A random list of calls on a fresh sheet.
+fn call_list(script: &mut Script, case: &Case, count: usize, all: bool, random: &mut Random) {
+    script.fresh();
+    for _ in 0..count {
+        match random.below(if all { 13 } else { 10 }) {
+            0 | 1 => open_call(script, case, random),
+            2 | 3 => offer_call(script, case, random),
+            4 | 5 => script.chart(),
+            6 => script.scan(),
+            7 => write_call(script, case, random),
+            8 => script.keep(),
+            9 => script.same(),
+            10 => script.sweep(),
+            _ => turn_call(script, case, random),
+        }
+    }
+}
+
+/// Opens one of the plan's files, a damaged one, one with a damaged chart, or one that is refused.
+fn open_call(script: &mut Script, case: &Case, random: &mut Random) {
+    let files = case.files();
+    let bytes = random.pick(&files).clone();
+    match random.below(6) {
+        0 => script.open(&damaged_file(&bytes, random)),
+        1 => script.open(random.pick::<Vec<u8>>(&refused_files())),
+        2 => match &case.numbers {
+            Some(chart) => {
+                let damaged = damaged_chart(chart, random);
+                script.open(&file(&case.rings, case.labels.as_deref(), Some(&damaged)));
+            }
+            None => script.open(&bytes),
+        },
+        _ => script.open(&bytes),
+    }
+}
+
+/// Offers the plan's labels, damaged ones, or those after a turn.
+fn offer_call(script: &mut Script, case: &Case, random: &mut Random) {
+    let labels = case.some_labels(random);
+    match random.below(3) {
+        0 => script.offer(&damaged_labels(&labels, random)),
+        1 => script.offer(&turned_labels(case, random).unwrap_or(labels)),
+        _ => script.offer(&labels),
+    }
+}
+
+/// The labels after a turn of one edge that is accepted, if one is found.
+fn turned_labels(case: &Case, random: &mut Random) -> Option<Vec<u8>> {
+    let mut sheet = open(&case.with_labels()).ok()?;
+    for _ in 0..60 {
+        let list = turn_list(&case.rings, 1, random);
+        let direction = random.below(2) as u8;
+        if !list.is_empty() && turn(&mut sheet, &list, direction).is_ok() {
+            return sheet.labels().map(|labels| labels.bytes().to_vec());
+        }
+    }
+    None
+}
+
+/// Writes into a buffer around what one of the plan's files needs.
+fn write_call(script: &mut Script, case: &Case, random: &mut Random) {
+    let mut lengths = Vec::new();
+    for file in case.files() {
+        around(file.len(), |length| lengths.push(length));
+    }
+    script.write(*random.pick(&lengths));
+}
+
+/// Turns a good list or a damaged one, seldom in no direction.
+fn turn_call(script: &mut Script, case: &Case, random: &mut Random) {
+    let mut list = turn_list(&case.rings, 2, random);
+    if random.once_in(3) {
+        list = damaged_turn_list(&list, case.n(), random);
+    }
+    script.turn(*random.pick(&[0, 1, 0, 1, 2]), &list);
+}
