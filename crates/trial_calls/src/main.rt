@@ -20,8 +20,6 @@
 // refused call that changes anything is seen. The checksum of bytes starts at 0, and each byte b makes of it
 // (checksum * 1000003 + b + 1) modulo 4294967291. A malformed item, or a 100,000th item, ends the run with a line that says so.
 //
-// Sweep and turn are no calls yet: the functions run_sweep and run_list say so.
-//
 // stdin and stdout beside this crate are made by the reference in rust/, by its examples calls_script and run_calls.
 use sheet::Answer;
 use sheet::Compared;
@@ -129,7 +127,7 @@ fn print_written(answer: Written) {
 
 // A sheet written into a buffer: the answer, and the whole buffer afterwards.
 fn print_write(sheet: Sheet, out: &mut [u8]) {
-    let answer = calls::write(sheet, out);
+    let answer = reports::write(sheet, out);
     print_written(answer);
     print_bytes(out);
 }
@@ -184,8 +182,11 @@ fn run_offer(sheet: Sheet, labels: &[u8]) -> Sheet {
 
 // Sweep: the sheet afterwards.
 fn run_sweep(sheet: Sheet) -> Sheet {
-    io::write_all(1, b"sweep not a call");
-    sheet
+    let outcome = calls::sweep(sheet);
+    let answer = outcome.answer;
+    io::write_all(1, b"sweep");
+    print_answer(answer);
+    outcome.sheet
 }
 
 // The number put at an index, if the index is there.
@@ -215,10 +216,11 @@ fn direction_of(argument: &[u8]) -> u8 {
 
 // Turn, with its list and its direction: the sheet afterwards.
 fn run_list(sheet: Sheet, list: &[u16], direction: u8) -> Sheet {
-    io::write_all(1, b"turn not a call");
-    print(b" numbers ", list.len());
-    print(b" direction ", lists::wide_byte(direction));
-    sheet
+    let outcome = calls::turn(sheet, list, direction);
+    let answer = outcome.answer;
+    io::write_all(1, b"turn");
+    print_answer(answer);
+    outcome.sheet
 }
 
 // Turn, with the first numbers of a list: the sheet afterwards.
@@ -262,7 +264,7 @@ fn run_write(sheet: Sheet, size: usize) {
 
 // Scan.
 fn run_scan(sheet: Sheet) {
-    let answer = calls::scan(sheet);
+    let answer = reports::scan(sheet);
     match answer {
         Scanned::Triple(a, b, c) => {
             print(b"scan ", a);
@@ -281,7 +283,7 @@ fn run_scan(sheet: Sheet) {
 
 // Same: the sheet and the kept one.
 fn run_same(sheet: Sheet, kept: Sheet) {
-    let answer = calls::same(sheet, kept);
+    let answer = reports::same(sheet, kept);
     match answer {
         Compared::Same => {
             io::write_all(1, b"same yes");
@@ -298,7 +300,7 @@ fn run_same(sheet: Sheet, kept: Sheet) {
 
 // Ring: the answer, and the part that is handed back.
 fn run_ring(file: &[u8], context: usize) {
-    let answer = opening::ring_answer(file, context);
+    let answer = files::ring_answer(file, context);
     match answer {
         RingAnswer::Part(at, size) => {
             print(b"ring at ", at);
@@ -309,12 +311,12 @@ fn run_ring(file: &[u8], context: usize) {
             print_refusal(number, place);
         }
     }
-    print_bytes(opening::ring(file, context));
+    print_bytes(files::ring(file, context));
 }
 
 // A file opened and written into a buffer: the answer, and the whole buffer afterwards.
 fn print_open_write(file: &[u8], out: &mut [u8]) {
-    let answer = opening::open_write(file, out);
+    let answer = files::open_write(file, out);
     print_written(answer);
     print_bytes(out);
 }

@@ -24,7 +24,7 @@ fn call(line: &str) -> &str {
 
 #[test]
 fn the_script_is_the_generated_one() {
-    assert!(SCRIPT == vectors::script(vectors::SWEEP_AND_TURN));
+    assert!(SCRIPT == vectors::script());
 }
 
 #[test]
@@ -64,7 +64,7 @@ fn the_table_of_01() {
     }
 }
 
-/// Each refusal that a call can give, less those of sweep and turn, is in the vectors.
+/// Each refusal that a call can give is in the vectors.
 #[test]
 fn every_refusal_of_every_call() {
     let seen: BTreeSet<(&str, u8)> = LINES.lines().filter_map(refusal).collect();
@@ -81,10 +81,8 @@ fn every_refusal_of_every_call() {
     ]);
     due.extend([("offer", 13), ("offer", 2), ("offer", 10), ("scan", 13)]);
     due.extend([("write", 13), ("write", 16), ("same", 13)]);
-    if vectors::SWEEP_AND_TURN {
-        due.extend([("sweep", 13), ("sweep", 14), ("sweep", 10)]);
-        due.extend([("turn", 13), ("turn", 15), ("turn", 10)]);
-    }
+    due.extend([("sweep", 13), ("sweep", 14), ("sweep", 10)]);
+    due.extend([("turn", 13), ("turn", 15), ("turn", 10)]);
     assert_eq!(seen, due);
 }
 

@@ -11,11 +11,11 @@ use generate::sample::plan_of_family;
 use generate::Random;
 use reference::{open, turn};
 
-/// Random lists of calls on the four trenches and twelve larger plans, each on a fresh sheet, with or without sweep and turn.
-pub fn call_lists(script: &mut Script, sweep_and_turn: bool) {
-    let mut random = Random::new(if sweep_and_turn { 202 } else { 201 });
+/// Random lists of calls on the four trenches and twelve larger plans, each on a fresh sheet.
+pub fn call_lists(script: &mut Script) {
+    let mut random = Random::new(202);
     for case in trenches() {
-        call_list(script, &case, 60, sweep_and_turn, &mut random);
+        call_list(script, &case, 60, &mut random);
     }
     for index in 0..12 {
         let n = random.between(24, 60);
@@ -24,15 +24,15 @@ pub fn call_lists(script: &mut Script, sweep_and_turn: bool) {
             _ => irreducible(n, &mut random),
         };
         let case = Case::swept(disguise(&rings, &mut random));
-        call_list(script, &case, 40, sweep_and_turn, &mut random);
+        call_list(script, &case, 40, &mut random);
     }
 }
 
 /// A random list of calls on a fresh sheet.
-fn call_list(script: &mut Script, case: &Case, count: usize, all: bool, random: &mut Random) {
+fn call_list(script: &mut Script, case: &Case, count: usize, random: &mut Random) {
     script.fresh();
     for _ in 0..count {
-        match random.below(if all { 13 } else { 10 }) {
+        match random.below(13) {
             0 | 1 => open_call(script, case, random),
             2 | 3 => offer_call(script, case, random),
             4 | 5 => script.chart(),

@@ -12,11 +12,8 @@ use generate::odd::{beside, random_odd, ring_torus, torus_labels, trench_d, tren
 use generate::sample::{plan_of_family, small_plan, FAMILIES};
 use generate::{Random, Rings};
 
-/// Whether the stored script has the items of sweep and turn.
-pub const SWEEP_AND_TURN: bool = false;
-
-/// The whole script, with or without the items of sweep and turn.
-pub fn script(sweep_and_turn: bool) -> Vec<u8> {
+/// The whole script.
+pub fn script() -> Vec<u8> {
     let mut script = Script::default();
     table(&mut script);
     framing(&mut script);
@@ -30,12 +27,9 @@ pub fn script(sweep_and_turn: bool) -> Vec<u8> {
     rings_of_files(&mut script);
     every_stage(&mut script);
     large_plans(&mut script);
-    call_lists(&mut script, false);
-    if sweep_and_turn {
-        sweeps(&mut script);
-        turns(&mut script);
-        call_lists(&mut script, true);
-    }
+    sweeps(&mut script);
+    turns(&mut script);
+    call_lists(&mut script);
     script.cut_item();
     script.bytes
 }
