@@ -14,7 +14,7 @@ use Rattle.model.specs.Labels.{breaks, labelRules}
 use Rattle.model.specs.File as file
 use Rattle.model.specs.Calls.{planOf, offered, offerCall}
 use Rattle.rings.specs.Tables.{table}
-use Rattle.labels.specs.Held as flat
+use Rattle.rings.specs.Tables as flat
 use Rattle.sheet.specs.declared.Sheet.{Sheet}
 use Rattle.sheet.specs.Sheets.{heldPlan, reads}
 use Rattle.sheet.specs.Sheets.{rank, stageRead}

@@ -15,7 +15,7 @@ ghost use Rattle.model.specs.Labels.{breaks};
 ghost use Rattle.model.specs.Chart.{Chart, chart};
 ghost use Rattle.model.specs.File.{labelled, charted};
 ghost use Rattle.model.specs.Calls.{offerCall, sweepCall, turnCall, chartCall};
-ghost use Rattle.labels.specs.Held as flat;
+ghost use Rattle.rings.specs.Tables as flat;
 ghost use Rattle.sweep.specs.Swept.{outcomeOf, sweepOf};
 ghost use Rattle.turn.specs.Turned as turned;
 ghost use Rattle.placement.specs.Drawing.{chartFor, drawnAs, drawnOf};

@@ -53,7 +53,7 @@ pub struct Layout {
 }
 
 // The record at an offset. Whatever kind and size are due there, the answer says what the model frames.
-pub fn frame_at(file: &[u8], at: usize) -> Frame
+fn frame_at(file: &[u8], at: usize) -> Frame
     ensures { λ r. ⌜ r ≡ frameAt (now (file .entry)) at ⌝ }
     ensures { λ r. ⌜ ((kind : ℕ) (fits : ℕ → Bool) → framedOf (now (file .entry)) at kind fits r ≡ frame (cursor (now (file .entry)) at) kind fits) ⌝ }
 {

@@ -19,7 +19,7 @@ use Rattle.model.specs.Plan.{Plan, neighbour, entries, ring, adjacent}
 use Rattle.model.specs.Labels.{unlabelled, start, labelsAround, labelOf, put}
 use Rattle.rings.specs.Tables.{startOf, startsOf, sizeOf, rows, table}
 use Rattle.rings.proofs.Rows.{start-first, start-more, size-outside, entries-rows, ring-rows, ring-size, member-index}
-use Rattle.labels.specs.Held.{held}
+use Rattle.rings.specs.Tables.{held}
 
 -- inside a list it does not matter what lies outside
 pub getD-inside : (l : List ℕ) (i d e : ℕ) → i < length l → getD l i d ≡ getD l i e

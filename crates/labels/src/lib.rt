@@ -4,10 +4,9 @@ ghost use Prim.Native.Nat.{min, _≤_, _<_, _^_};
 ghost use lib.ListN.{getD};
 ghost use Rattle.model.specs.Labels.{unlabelled, labelOf, due};
 ghost use Rattle.rings.specs.Tables.{startsOf, table};
-ghost use Rattle.labels.specs.Held.{held};
 
 pub mod rules;
-pub mod runs;
+mod runs;
 
 // The label at i; past the last there is none, which is 5.
 pub fn label_at(labels: &[u8], i: usize) -> usize
@@ -54,20 +53,4 @@ fn label_in<'a>(
         return label_at(labels, lists::num(starts, u) + i);
     }
     5
-}
-
-// The label of the dart from u to v; 5 where there is no dart or no label.
-pub fn label_of<'a>(
-    sizes: &'a [u8],
-    entries: &'a [u16],
-    n: usize,
-    labels: &'a [u8],
-    u: usize,
-    v: usize,
-) -> usize
-    ensures { λ r. ⌜ r ≡ labelOf (held (now (sizes .entry)) (now (entries .entry)) n) (now (labels .entry)) u v ⌝ }
-    ensures { λ r. ⌜ r < 2 ^ 8 ⌝ }
-{
-    let starts = rings::starts_of(sizes);
-    label_in(&starts, sizes, entries, lists::lesser(n, 200), labels, u, v)
 }

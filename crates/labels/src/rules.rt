@@ -7,7 +7,7 @@ ghost use Rattle.lists.specs.Ranges.{lowest};
 ghost use Rattle.model.specs.Plan.{ring, border};
 ghost use Rattle.model.specs.Labels.{badDart, notDue, badRing, breaks};
 ghost use Rattle.rings.specs.Tables.{startsOf, table};
-ghost use Rattle.labels.specs.Held.{held};
+ghost use Rattle.rings.specs.Tables.{held};
 
 // Are both border contexts?
 fn both_border(u: usize, v: usize) -> bool

@@ -62,7 +62,7 @@ fn is_from<'a>(
 }
 
 // Is v in u's ring?
-pub fn is_listed<'a>(
+fn is_listed<'a>(
     file: &'a [u8],
     starts: &'a [u16],
     sizes: &'a [u8],

@@ -12,11 +12,11 @@ pub fn wide_byte(x: u8) -> usize
 }
 
 // A number of two bytes as a number.
-pub fn wide_word(x: u16) -> usize
-    ensures { λ r. ⌜ r ≡ x ⌝ }
+pub fn wide_word(word: u16) -> usize
+    ensures { λ r. ⌜ r ≡ word ⌝ }
     ensures { λ r. ⌜ r < 2 ^ 16 ⌝ }
 {
-    x as usize
+    word as usize
 }
 
 // The byte at i.

@@ -13,7 +13,7 @@ use Rattle.model.specs.Plan.{Plan, count, badEntry, badRepeat, unreturned, entr
 use Rattle.model.specs.Labels.{breaks, labelRules}
 use Rattle.rings.specs.Tables.{startOf, startsOf, table}
 use Rattle.rings.proofs.Rows.{start-more, count-rows}
-use Rattle.labels.specs.Held.{held}
+use Rattle.rings.specs.Tables.{held}
 use Rattle.framing.proofs.Offsets.{take-stretch}
 use Rattle.sheet.specs.declared.Sheet.{Sheet}
 use Rattle.sheet.specs.Sheets.{heldCount, heldLabels}

@@ -11,10 +11,11 @@ use Rattle.model.specs.Plan.{Plan}
 use Rattle.model.specs.File as file
 use Rattle.model.specs.Calls.{planOf, writeCall}
 use Rattle.rings.specs.Tables.{startOf}
+use Rattle.rings.specs.Tables as flat
 use Rattle.writing.specs.declared.Parts.{Parts}
 use Rattle.writing.specs.declared.Written as writing
 use Rattle.writing.specs.declared.Written.the-variants.{Length, Short}
-use Rattle.writing.specs.Files.{planHeld, dartsHeld, labelsHeld, chartHeld, sheetHeld, outcomeOf, bufferAfter}
+use Rattle.writing.specs.Files.{dartsHeld, labelsHeld, chartHeld, sheetHeld, outcomeOf, bufferAfter}
 use Rattle.writing.proofs.Held.{kept-all, plan-all}
 use Rattle.sheet.specs.declared.Sheet.{Sheet}
 use Rattle.sheet.specs.declared.Stage.{Stage}
@@ -31,7 +32,7 @@ abbrev pub sheetIn : Parts → Sheet → file.Sheet
 sheetIn q s = sheetHeld q (s .n) (s .sizes) (s .entries) (s .labels) (s .w) (s .h) (s .xs) (s .ys)
 
 module _ (s : Sheet) where
-  plan-in : s .n ≤ 200 → planHeld (s .sizes) (s .entries) (s .n) ≡ heldPlan s
+  plan-in : s .n ≤ 200 → flat.held (s .sizes) (s .entries) (s .n) ≡ heldPlan s
   unfolding heldPlan
   plan-in h = plan-all (s .sizes) (s .entries) (s .n) h
 

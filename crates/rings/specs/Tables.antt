@@ -1,5 +1,5 @@
 -- A plan in flat arrays: the size of each ring, and the entries of all rings in context order.
-use Prim.Native.Nat.{ℕ, _+_}
+use Prim.Native.Nat.{ℕ, _+_, min}
 use mathlib.Core.List.{List, [], _∷_, map}
 use mathlib.Core.Bool.{cond}
 use lib.ListN.{getD, take}
@@ -32,3 +32,7 @@ rows starts sizes es n = record { rings = map (λ (u : ℕ). stretch es (getD st
 -- The plan of n contexts that sizes and entries hold
 unfoldable pub table : List ℕ → List ℕ → ℕ → Plan
 table sizes es n = rows (startsOf sizes) sizes es n
+
+-- the same for every n: of more than 200 contexts there are the first 200, since the arrays end there
+unfoldable pub held : List ℕ → List ℕ → ℕ → Plan
+held sizes es n = table sizes es (min n 200)

@@ -27,7 +27,7 @@ use Rattle.sweep.specs.Swept.{sweepOf, outcomeOf}
 use Rattle.sweep.specs.Run.{bare, swept, endedAs}
 use Rattle.rings.specs.Tables.{startsOf, rows, table}
 use Rattle.rings.proofs.Rows.{count-rows}
-use Rattle.labels.specs.Held.{held}
+use Rattle.rings.specs.Tables.{held}
 use Rattle.labels.proofs.Places.{held-small}
 use Rattle.fit.proofs.Fits.{fit-says}
 use Rattle.sweep.proofs.Draws.{as-table, start-next, start-le}

@@ -110,11 +110,24 @@ fn print_answer(answer: writing::Written) {
     }
 }
 
+// How many bytes are written, or would be.
+fn size_in(answer: writing::Written) -> usize {
+    match answer {
+        writing::Written::Length(k) => k,
+        writing::Written::Short(k) => k,
+    }
+}
+
 // The plan alone, written as a file into a buffer.
-fn write_alone<'a>(out: &mut [u8], sizes: &'a [u8], entries: &'a [u16], n: usize) {
+fn write_alone<'a>(
+    out: &mut [u8],
+    sizes: &'a [u8],
+    entries: &'a [u16],
+    n: usize,
+) -> writing::Written {
     let none = [0u8; 1];
     let nowhere = [0u16; 1];
-    let answer = writing::write_file(
+    writing::write_file(
         out,
         writing::Parts::PlanOnly,
         n,
@@ -125,8 +138,7 @@ fn write_alone<'a>(out: &mut [u8], sizes: &'a [u8], entries: &'a [u16], n: usize
         0,
         &nowhere,
         &nowhere,
-    );
-    print_answer(answer);
+    )
 }
 
 // The plan alone, written as a file into the first bytes of a buffer.
@@ -134,7 +146,8 @@ fn write_part<'a>(space: &mut [u8], size: usize, sizes: &'a [u8], entries: &'a [
     if space.len() < size {
         return;
     }
-    write_alone(&mut space[..size], sizes, entries, n);
+    let answer = write_alone(&mut space[..size], sizes, entries, n);
+    print_answer(answer);
 }
 
 // The plan alone, written as a file into a buffer that just fits, and into one that is a byte short.
@@ -149,8 +162,8 @@ fn print_buffers<'a>(sizes: &'a [u8], entries: &'a [u16], n: usize, size: usize)
 // How many bytes the plan alone takes when it is written, and how many of them are the file's.
 fn print_written<'a>(file: &'a [u8], sizes: &'a [u8], entries: &'a [u16], n: usize) {
     let mut space = io::buffer();
-    writing::write_plan(&mut space, 0, n, sizes, entries);
-    let size = writing::plan_length(sizes, n);
+    let answer = write_alone(&mut space, sizes, entries, n);
+    let size = size_in(answer);
     print(b" bytes ", size);
     print(b" same ", same_bytes(file, &space, size));
     print_buffers(sizes, entries, n, size);

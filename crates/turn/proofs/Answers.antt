@@ -20,7 +20,7 @@ use Rattle.model.specs.Labels.{labelOf, turned, put, breaks, labelRules}
 use Rattle.model.specs.Turn.{badPair, quarters, turnDart, turnEdges, turn}
 use Rattle.rings.specs.Tables.{startOf, startsOf, table}
 use Rattle.rings.proofs.Rows.{count-rows}
-use Rattle.labels.specs.Held.{held}
+use Rattle.rings.specs.Tables.{held}
 use Rattle.labels.proofs.Places.{held-small}
 use Rattle.labels.proofs.Darts.{label-behind, put-behind, rules-behind}
 use Rattle.turn.specs.declared.TurnAnswer.{TurnAnswer}

@@ -6,15 +6,14 @@ use native.Mathlib.Omega.{arith}
 use lib.ListN.{length, take, drop}
 use lib.Seq.{drop-cons}
 use Rattle.lists.specs.Spans.{stretch}
-use Rattle.rings.specs.Tables.{startOf, table}
-use Rattle.writing.specs.Files.{kept, planHeld, dartsHeld, labelsHeld, chartHeld}
+use Rattle.rings.specs.Tables.{startOf, table, held}
+use Rattle.writing.specs.Files.{kept, dartsHeld, labelsHeld, chartHeld}
 
 pub kept-all : (n : ℕ) → n ≤ 200 → kept n ≡ n
-unfolding kept
 kept-all n h = omega arith
 
-pub plan-all : (sizes es : List ℕ) (n : ℕ) → n ≤ 200 → planHeld sizes es n ≡ table sizes es n
-unfolding planHeld
+pub plan-all : (sizes es : List ℕ) (n : ℕ) → n ≤ 200 → held sizes es n ≡ table sizes es n
+unfolding held
 plan-all sizes es n h = ap (table sizes es) (kept-all n h)
 
 -- a stretch inside a list is a part of it

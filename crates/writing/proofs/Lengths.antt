@@ -11,9 +11,9 @@ use Rattle.lists.proofs.Spans.{length-stretch}
 use Rattle.lists.proofs.Words.{length-bytes}
 use Rattle.model.specs.Plan.{count}
 use Rattle.model.specs.File.{entry, points, chartOut, ringsOut, planOut, encode}
-use Rattle.rings.specs.Tables.{startOf, startsOf, rows, table}
+use Rattle.rings.specs.Tables.{startOf, startsOf, rows, table, held}
 use Rattle.rings.proofs.Rows.{start-first, start-more}
-use Rattle.writing.specs.Files.{kept, dartsHeld, planHeld, labelsHeld, chartHeld, sheetHeld}
+use Rattle.writing.specs.Files.{kept, dartsHeld, labelsHeld, chartHeld, sheetHeld}
 use Rattle.writing.specs.declared.Parts.{Parts}
 use Rattle.writing.specs.declared.Parts.the-variants.{PlanOnly, WithLabels, WithChart}
 
@@ -52,8 +52,8 @@ length-table sizes es n =
     let b = length-bytes (count (table sizes es n) ∷ []) in
     omega arith
 
-pub length-plan : (sizes es : List ℕ) (n k m : ℕ) → k ≡ kept n → m ≡ dartsHeld sizes n → 6 + 4 * k + 2 * m ≡ length (planOut (planHeld sizes es n))
-unfolding planHeld dartsHeld
+pub length-plan : (sizes es : List ℕ) (n k m : ℕ) → k ≡ kept n → m ≡ dartsHeld sizes n → 6 + 4 * k + 2 * m ≡ length (planOut (held sizes es n))
+unfolding held dartsHeld
 length-plan sizes es n k m p q = let l = length-table sizes es (kept n) in omega arith
 
 pub length-labels : (sizes ls : List ℕ) (n m : ℕ) → m ≡ dartsHeld sizes n → 4 + m ≡ length (entry 3 (labelsHeld sizes ls n))
@@ -82,7 +82,7 @@ length-chart w h xs ys n k q =
 -- the whole file, by its parts
 module _ (n : ℕ) (sizes es ls : List ℕ) (w h : ℕ) (xs ys : List ℕ) where
   abbrev P : List ℕ
-  P = planOut (planHeld sizes es n)
+  P = planOut (held sizes es n)
 
   abbrev L : List ℕ
   L = entry 3 (labelsHeld sizes ls n)

@@ -16,9 +16,9 @@ use Rattle.model.specs.Outcome.{Outcome, accepted, refused}
 use Rattle.model.specs.Plan.{count}
 use Rattle.model.specs.File.{Sheet, entry, points, chartOut, ringsOut, planOut, encode}
 use Rattle.model.specs.Calls.{planOf, writeCall}
-use Rattle.rings.specs.Tables.{startOf, startsOf, rows, table}
+use Rattle.rings.specs.Tables.{startOf, startsOf, rows, table, held}
 use Rattle.rings.proofs.Rows.{count-rows}
-use Rattle.writing.specs.Files.{kept, dartsHeld, planHeld, labelsHeld, chartHeld, sheetHeld, outcomeOf, bufferAfter}
+use Rattle.writing.specs.Files.{kept, dartsHeld, labelsHeld, chartHeld, sheetHeld, outcomeOf, bufferAfter}
 use Rattle.writing.specs.declared.Parts.{Parts}
 use Rattle.writing.specs.declared.Parts.the-variants.{PlanOnly, WithLabels, WithChart}
 use Rattle.writing.specs.declared.Written.the-variants.{Length, Short}
@@ -66,8 +66,8 @@ table-row sizes es u i k h p q =
 -- ---- the three parts
 pub plan-join : (d : List ℕ) (i : ℕ) (sizes es : List ℕ) (n k : ℕ) {d₁ d₂ e : List ℕ} {i₁ i₂ : ℕ} → k ≡ kept n
     → d₁ ≡ sets d i (bytes ((2 + 2) ∷ 1 ∷ [])) → i₁ ≡ i + 4 → d₂ ≡ sets d₁ i₁ (bytes (k ∷ [])) → i₂ ≡ i + 6 → e ≡ sets d₂ i₂ (ringsOut (table sizes es k .rings))
-    → e ≡ sets d i (planOut (planHeld sizes es n))
-unfolding planOut planHeld table
+    → e ≡ sets d i (planOut (held sizes es n))
+unfolding planOut held table
 plan-join d i sizes es n k {d₁} {d₂} {e} {i₁} q p₁ a p₂ b p₃ =
     let c : k ≡ count (table sizes es k) = sym (count-rows (startsOf sizes) sizes es k) in
     let two = length-bytes (count (table sizes es k) ∷ []) in
@@ -101,7 +101,7 @@ chart-join d i w h xs ys n k {d₁} {d₂} {d₃} {e} {i₁} {i₂} {i₃} q p�
 -- ---- the whole file
 module _ (n : ℕ) (sizes es ls : List ℕ) (w h : ℕ) (xs ys : List ℕ) where
   abbrev P : List ℕ
-  P = planOut (planHeld sizes es n)
+  P = planOut (held sizes es n)
 
   abbrev L : List ℕ
   L = entry 3 (labelsHeld sizes ls n)

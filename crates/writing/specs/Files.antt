@@ -6,19 +6,15 @@ use Rattle.model.specs.Outcome.{Outcome, accepted, refused}
 use Rattle.model.specs.Plan.{Plan}
 use Rattle.model.specs.Chart.{Chart}
 use Rattle.model.specs.File.{Sheet, opened, labelled, charted}
-use Rattle.rings.specs.Tables.{startOf, table}
+use Rattle.rings.specs.Tables.{startOf, held}
 use Rattle.writing.specs.declared.Parts.{Parts}
 use Rattle.writing.specs.declared.Parts.the-variants.{PlanOnly, WithLabels, WithChart}
 use Rattle.writing.specs.declared.Written.{Written}
 use Rattle.writing.specs.declared.Written.the-variants.{Length, Short}
 
 -- how many contexts are written: n, and 200 where n is above, since the arrays end there
-unfoldable pub kept : ℕ → ℕ
+abbrev pub kept : ℕ → ℕ
 kept n = min n 200
-
--- the plan that sizes and entries hold
-unfoldable pub planHeld : List ℕ → List ℕ → ℕ → Plan
-planHeld sizes es n = table sizes es (kept n)
 
 -- how many darts its rings have
 unfoldable pub dartsHeld : List ℕ → ℕ → ℕ
@@ -34,9 +30,9 @@ chartHeld w h xs ys n = record { w = w; h = h; xs = stretch xs 0 (kept n); ys = 
 
 -- The sheet that the arrays hold, with the parts that it has
 unfoldable pub sheetHeld : Parts → ℕ → List ℕ → List ℕ → List ℕ → ℕ → ℕ → List ℕ → List ℕ → Sheet
-sheetHeld PlanOnly n sizes es ls w h xs ys = opened (planHeld sizes es n)
-sheetHeld WithLabels n sizes es ls w h xs ys = labelled (planHeld sizes es n) (labelsHeld sizes ls n)
-sheetHeld WithChart n sizes es ls w h xs ys = charted (planHeld sizes es n) (labelsHeld sizes ls n) (chartHeld w h xs ys n)
+sheetHeld PlanOnly n sizes es ls w h xs ys = opened (held sizes es n)
+sheetHeld WithLabels n sizes es ls w h xs ys = labelled (held sizes es n) (labelsHeld sizes ls n)
+sheetHeld WithChart n sizes es ls w h xs ys = charted (held sizes es n) (labelsHeld sizes ls n) (chartHeld w h xs ys n)
 
 -- What 01 says of an answer: the file's length with the buffer afterwards, or 16 with the bytes needed
 unfoldable pub outcomeOf : Written → List ℕ → Outcome (ℕ × List ℕ)

@@ -8,8 +8,8 @@ ghost use Rattle.lists.specs.Spans.{stretch};
 ghost use Rattle.lists.specs.Words.{bytes};
 ghost use Rattle.model.specs.File.{entry, points, chartOut, ringsOut, planOut, encode};
 ghost use Rattle.model.specs.Calls.{writeCall};
-ghost use Rattle.rings.specs.Tables.{table};
-ghost use Rattle.writing.specs.Files.{kept, dartsHeld, planHeld, labelsHeld, chartHeld, sheetHeld, outcomeOf, bufferAfter};
+ghost use Rattle.rings.specs.Tables.{table, held};
+ghost use Rattle.writing.specs.Files.{kept, dartsHeld, labelsHeld, chartHeld, sheetHeld, outcomeOf, bufferAfter};
 
 // The parts that a file has.
 pub enum Parts {
@@ -48,15 +48,15 @@ fn darts_of(sizes: &[u8], n: usize) -> usize
 }
 
 // The length of the plan's records.
-pub fn plan_length(sizes: &[u8], n: usize) -> usize
-    ensures { λ r. ⌜ ((es : List ℕ) → r ≡ length (planOut (planHeld (now (sizes .entry)) es n))) ⌝ }
+fn plan_length(sizes: &[u8], n: usize) -> usize
+    ensures { λ r. ⌜ ((es : List ℕ) → r ≡ length (planOut (held (now (sizes .entry)) es n))) ⌝ }
     ensures { λ r. ⌜ r < 2 ^ 17 ⌝ }
 {
     6 + 4 * kept_of(n) + 2 * darts_of(sizes, n)
 }
 
 // The length of the record of the labels.
-pub fn labels_length(sizes: &[u8], n: usize) -> usize
+fn labels_length(sizes: &[u8], n: usize) -> usize
     ensures { λ r. ⌜ ((ls : List ℕ) → r ≡ length (entry 3 (labelsHeld (now (sizes .entry)) ls n))) ⌝ }
     ensures { λ r. ⌜ r < 2 ^ 16 ⌝ }
 {
@@ -64,7 +64,7 @@ pub fn labels_length(sizes: &[u8], n: usize) -> usize
 }
 
 // The length of the record of the chart.
-pub fn chart_length(n: usize) -> usize
+fn chart_length(n: usize) -> usize
     ensures { λ r. ⌜ ((w : ℕ) (h : ℕ) (xs : List ℕ) (ys : List ℕ) → r ≡ length (entry 4 (bytes (chartOut (chartHeld w h xs ys n))))) ⌝ }
     ensures { λ r. ⌜ r < 2 ^ 10 ⌝ }
 {
@@ -72,7 +72,7 @@ pub fn chart_length(n: usize) -> usize
 }
 
 // The length of the file.
-pub fn file_length(parts: Parts, n: usize, sizes: &[u8]) -> usize
+fn file_length(parts: Parts, n: usize, sizes: &[u8]) -> usize
     ensures { λ r. ⌜ ((es : List ℕ) (ls : List ℕ) (w : ℕ) (h : ℕ) (xs : List ℕ) (ys : List ℕ) → r ≡ length (encode (sheetHeld parts n (now (sizes .entry)) es ls w h xs ys))) ⌝ }
 {
     let plan = plan_length(sizes, n);
@@ -173,8 +173,8 @@ fn put_rings<'a>(out: &mut [u8], at: usize, sizes: &'a [u8], entries: &'a [u16],
 }
 
 // The plan's records from a place of the buffer on; bytes outside it are passed over.
-pub fn write_plan<'a>(out: &mut [u8], at: u32, n: usize, sizes: &'a [u8], entries: &'a [u16])
-    ensures { λ r. ⌜ now (out .exit) ≡ sets (now (out .entry)) at (planOut (planHeld (now (sizes .entry)) (now (entries .entry)) n)) ⌝ }
+fn write_plan<'a>(out: &mut [u8], at: u32, n: usize, sizes: &'a [u8], entries: &'a [u16])
+    ensures { λ r. ⌜ now (out .exit) ≡ sets (now (out .entry)) at (planOut (held (now (sizes .entry)) (now (entries .entry)) n)) ⌝ }
 {
     let to = at as usize;
     let count = kept_of(n);
@@ -184,7 +184,7 @@ pub fn write_plan<'a>(out: &mut [u8], at: u32, n: usize, sizes: &'a [u8], entrie
 }
 
 // The record of the labels from a place of the buffer on; bytes outside it are passed over.
-pub fn write_labels<'a>(out: &mut [u8], at: u32, n: usize, sizes: &'a [u8], labels: &'a [u8])
+fn write_labels<'a>(out: &mut [u8], at: u32, n: usize, sizes: &'a [u8], labels: &'a [u8])
     ensures { λ r. ⌜ now (out .exit) ≡ sets (now (out .entry)) at (entry 3 (labelsHeld (now (sizes .entry)) (now (labels .entry)) n)) ⌝ }
 {
     let to = at as usize;
@@ -194,15 +194,7 @@ pub fn write_labels<'a>(out: &mut [u8], at: u32, n: usize, sizes: &'a [u8], labe
 }
 
 // The record of the chart from a place of the buffer on; bytes outside it are passed over.
-pub fn write_chart<'a>(
-    out: &mut [u8],
-    at: u32,
-    n: usize,
-    w: u16,
-    h: u16,
-    xs: &'a [u16],
-    ys: &'a [u16],
-)
+fn write_chart<'a>(out: &mut [u8], at: u32, n: usize, w: u16, h: u16, xs: &'a [u16], ys: &'a [u16])
     ensures { λ r. ⌜ now (out .exit) ≡ sets (now (out .entry)) at (entry 4 (bytes (chartOut (chartHeld w h (now (xs .entry)) (now (ys .entry)) n)))) ⌝ }
 {
     let to = at as usize;

@@ -3,7 +3,7 @@ use mathlib.Core.Path.{ap, _∙_}
 use Prim.Native.Nat.{ℕ, min}
 use Rattle.lists.specs.Ranges.{lowest}
 use Rattle.model.specs.Labels.{breaks}
-use Rattle.labels.specs.Held as flat
+use Rattle.rings.specs.Tables as flat
 use borrow.Author.Needs.{needs}
 use Rattle.calls.proofs.breach_of.Statement.{statement}
 use Rattle.calls.proofs.breach_of.Tie as tie

@@ -8,12 +8,10 @@ use Rattle.writing.proofs.kept_of.Lts as lts
 
 -- src/lib.rt:28:1
 returns : tie.Need-returns
-unfolding kept
 returns c = omega arith
 
 -- src/lib.rt:28:1
 returns-2 : tie.Need-returns-2
-unfolding kept
 returns-2 c = omega arith
 
 pub kept-of-spec : {M : Type 1} → statement M

@@ -3,7 +3,7 @@ use mathlib.Core.Path.{_∙_}
 use Rattle.lists.specs.Ranges.{lowest}
 use Rattle.model.specs.Labels.{breaks}
 use Rattle.rings.specs.Tables.{table}
-use Rattle.labels.specs.Held.{held}
+use Rattle.rings.specs.Tables.{held}
 use native.Mathlib.Omega.{arith}
 use borrow.Author.Needs.{needs}
 use Rattle.labels.proofs.rules.rules_place.Statement.{statement}
