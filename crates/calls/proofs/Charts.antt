@@ -15,9 +15,9 @@ use Rattle.model.specs.Plan.{Plan}
 use Rattle.model.specs.Chart.{Chart, chart, leastPlacement, slope}
 use Rattle.model.specs.File as file
 use Rattle.model.specs.Calls.{labelsOf, chartCall}
-use Rattle.rings.specs.Tables.{startOf, table}
+use Rattle.rings.specs.Tables.{startOf, table, inBounds}
 use Rattle.placement.specs.declared.Drawn.{Drawn}
-use Rattle.placement.specs.Drawing.{chartOn, inBounds, chartFor, drawnAs, drawnOf}
+use Rattle.placement.specs.Drawing.{chartOn, chartFor, drawnAs, drawnOf}
 use Rattle.sheet.specs.declared.Sheet.{Sheet}
 use Rattle.sheet.specs.declared.Stage.the-variants.{Charted}
 use Rattle.sheet.specs.Sheets.{heldCount, heldPlan, heldLabels, fits, reads, pack, packed}

@@ -13,10 +13,10 @@ use Rattle.model.specs.Turn.{turn}
 use Rattle.model.specs.File as file
 use Rattle.model.specs.Calls.{labelsOf, turnCall}
 use Rattle.model.proofs.Outcomes.{bind-at, bind-off}
-use Rattle.rings.specs.Tables.{startOf}
+use Rattle.rings.specs.Tables.{startOf, inBounds}
 use Rattle.turn.specs.declared.TurnAnswer.{TurnAnswer}
 use Rattle.turn.specs.declared.TurnAnswer.the-variants.{Labelled}
-use Rattle.turn.specs.Turned.{fit, labelsIn, turnOf, outcomeOf}
+use Rattle.turn.specs.Turned.{labelsIn, turnOf, outcomeOf}
 use Rattle.sheet.specs.declared.Sheet.{Sheet}
 use Rattle.sheet.specs.Sheets.{heldCount, heldPlan, heldLabels, reads, stageRead, rank, packed}
 use Rattle.sheet.proofs.Reading.{labels-early, labels-there, fits-there, few, room}
@@ -39,7 +39,7 @@ module _ (s : Sheet) (items : List ℕ) (direction : ℕ) where
     turn-there = bind-at (labelsOf (reads s)) (heldPlan s, heldLabels s) stored (labels-there s h)
 
     turn-fit : 1 ≤ rank (stageRead s) → turnOf (s .sizes) (s .entries) (s .n) (s .labels) items direction ≡ worked
-    unfolding turnOf fit labelsIn heldPlan heldLabels heldCount
+    unfolding turnOf inBounds labelsIn heldPlan heldLabels heldCount
     turn-fit q =
         let f = fits-there s q in
         ap (λ (t : Bool). cond t worked (refused 13 0)) (yes-and (leb (s .n) 200) (leb (startOf (s .sizes) (s .n)) 1186) (le-leb (s .n) 200 (few s f)) (le-leb (startOf (s .sizes) (s .n)) 1186 (room s f)))

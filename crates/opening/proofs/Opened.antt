@@ -22,11 +22,11 @@ use Rattle.model.specs.Calls.{judge, openCall}
 use Rattle.model.proofs.Outcomes.{not-both, same-refusal, then-accepted, require-passed, rule-passes}
 use Rattle.model.proofs.FileWrite.{PlanFits, Fits}
 use Rattle.model.proofs.FileRead.{read-fits}
-use Rattle.rings.specs.Tables.{startOf, startsOf, table}
+use Rattle.rings.specs.Tables.{startOf, startsOf, table, inBounds}
 use Rattle.rings.specs.Lent.{wordsAt, bodyAt, lent}
 use Rattle.lent.proofs.Rings.{length-words-at, getD-words-at, count-lent}
 use Rattle.lent.proofs.Copied.{entry-count-lent}
-use Rattle.placement.specs.Drawing.{chartOn, inBounds, chartFor, drawnAs}
+use Rattle.placement.specs.Drawing.{chartOn, chartFor, drawnAs}
 use Rattle.placement.specs.declared.Drawn.{Drawn}
 use Rattle.framing.specs.Offsets.{wordAt}
 use Rattle.framing.specs.Layouts.{planIn, labelsIn, chartFrom, foundAs, sheetIn, tidyAs, tidied, Enough}

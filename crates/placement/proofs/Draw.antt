@@ -16,12 +16,12 @@ use Rattle.model.specs.Plan.{Plan, count, entryCount, dartCount, north, east, s
 use Rattle.model.specs.Chart.{Chart, Constraint, x, y, meets, isAt, isPlacement, leastNumbers, leastPlacement, slope, chart, sameChart, tie}
 use Rattle.model.proofs.Least.{least-length}
 use Rattle.model.proofs.Placements.{Placed, placed, chart-is, chart-11}
-use Rattle.rings.specs.Tables.{startOf, startsOf, rows, table}
+use Rattle.rings.specs.Tables.{startOf, startsOf, rows, table, inBounds}
 use Rattle.rings.proofs.Rows.{start-first, start-more, count-rows}
 use Rattle.placement.specs.declared.Drawn.{Drawn}
 use Rattle.solver.specs.declared.Numbers.{Numbers}
 use Rattle.solver.specs.Constraints.{listedFrom, listed, constraintAt, solved, numbersOf, ties, compass, asked}
-use Rattle.placement.specs.Drawing.{chartOn, inBounds, chartFor, drawnAs, drawnOf, drawnIf, standsAt, squared}
+use Rattle.placement.specs.Drawing.{chartOn, chartFor, drawnAs, drawnOf, drawnIf, standsAt, squared}
 use Rattle.solver.proofs.Arrays.{getD-padded, stretch-padded}
 use Rattle.placement.proofs.Asking.{starts-at, entries-total}
 

@@ -8,16 +8,12 @@ use Rattle.lists.specs.Spans.{stretch, zeros, padded}
 use Rattle.model.specs.Outcome.{Outcome, accepted, refused}
 use Rattle.model.specs.Plan.{north, east, south, west}
 use Rattle.model.specs.Chart.{Chart, leastPlacement, slope}
-use Rattle.rings.specs.Tables.{startOf, table}
+use Rattle.rings.specs.Tables.{table, inBounds}
 use Rattle.placement.specs.declared.Drawn.{Drawn}
 
 -- the chart of n contexts that numbers and arrays hold; what lies outside an array reads as 0
 unfoldable pub chartOn : ℕ → ℕ → ℕ → List ℕ → List ℕ → Chart
 chartOn n w h xs ys = record { w = w; h = h; xs = stretch xs 0 n; ys = stretch ys 0 n }
-
--- the table has at most 200 contexts and 1186 entries, as many as an accepted plan can have
-unfoldable pub inBounds : List ℕ → ℕ → Bool
-inBounds sizes n = leb n 200 && leb (startOf sizes n) 1186
 
 -- The chart of the plan that sizes and entries hold. A larger table than any accepted plan's is refused with 11.
 unfoldable pub chartFor : List ℕ → List ℕ → ℕ → List ℕ → Outcome Chart

@@ -7,9 +7,9 @@ ghost use Rattle.lists.specs.Spans.{stretch};
 ghost use Rattle.model.specs.Outcome.{refused};
 ghost use Rattle.model.specs.Labels.{labelOf};
 ghost use Rattle.model.specs.Chart.{meets, leastNumbers, sameChart};
-ghost use Rattle.rings.specs.Tables.{startOf, startsOf, table};
+ghost use Rattle.rings.specs.Tables.{startOf, startsOf, table, inBounds};
 ghost use Rattle.solver.specs.Constraints.{numbersOf, listed, compass, asked, tiedTo, endOf, gapOf, keptOf};
-ghost use Rattle.placement.specs.Drawing.{chartOn, inBounds, chartFor, drawnAs, drawnOf, drawnIf, standsAt, squared};
+ghost use Rattle.placement.specs.Drawing.{chartOn, chartFor, drawnAs, drawnOf, drawnIf, standsAt, squared};
 
 // The slope that a line must at least have.
 const SLOPE: u8 = 0;

@@ -1,9 +1,9 @@
 -- A plan in flat arrays: the size of each ring, and the entries of all rings in context order.
 use Prim.Native.Nat.{ℕ, _+_, min}
 use mathlib.Core.List.{List, [], _∷_, map}
-use mathlib.Core.Bool.{cond}
+use mathlib.Core.Bool.{Bool, cond, _&&_}
 use lib.ListN.{getD, take}
-use lib.Dec.{ltb}
+use lib.Dec.{ltb, leb}
 use Rattle.lists.specs.Ranges.{from}
 use Rattle.lists.specs.Spans.{stretch}
 use Rattle.model.specs.Plan.{Plan}
@@ -36,3 +36,7 @@ table sizes es n = rows (startsOf sizes) sizes es n
 -- the same for every n: of more than 200 contexts there are the first 200, since the arrays end there
 unfoldable pub held : List ℕ → List ℕ → ℕ → Plan
 held sizes es n = table sizes es (min n 200)
+
+-- the rings fit into the arrays: at most 200 of them, with at most 1186 entries, as many as an accepted plan can have
+unfoldable pub inBounds : List ℕ → ℕ → Bool
+inBounds sizes n = leb n 200 && leb (startOf sizes n) 1186

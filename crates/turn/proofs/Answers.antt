@@ -18,7 +18,7 @@ use Rattle.model.specs.Outcome.{accepted, refused, _>>_, require}
 use Rattle.model.specs.Plan.{Plan, Dart, count, entryCount}
 use Rattle.model.specs.Labels.{labelOf, turned, put, breaks, labelRules}
 use Rattle.model.specs.Turn.{badPair, quarters, turnDart, turnEdges, turn}
-use Rattle.rings.specs.Tables.{startOf, startsOf, table}
+use Rattle.rings.specs.Tables.{startOf, startsOf, table, inBounds}
 use Rattle.rings.proofs.Rows.{count-rows}
 use Rattle.rings.specs.Tables.{held}
 use Rattle.labels.proofs.Places.{held-small}
@@ -27,7 +27,7 @@ use Rattle.turn.specs.declared.TurnAnswer.{TurnAnswer}
 use Rattle.turn.specs.declared.TurnAnswer.the-variants.{Labelled, BadList, Broken, Unfit}
 use Rattle.turn.specs.declared.Turned.{Turned}
 use Rattle.turn.specs.Run.{kept}
-use Rattle.turn.specs.Turned.{fit, labelsIn, turnOf, outcomeOf, arrayAfter}
+use Rattle.turn.specs.Turned.{labelsIn, turnOf, outcomeOf, arrayAfter}
 use Rattle.turn.proofs.Named.{turn-long}
 use Rattle.turn.proofs.Turns.{count-table}
 
@@ -126,18 +126,18 @@ module _ (sizes es : List ℕ) (n : ℕ) (labels items : List ℕ) (direction : 
   refusal a k at e q is = subst Answers (sym is) (q ∙ sym e, ap (arrayAfter labels) (sym e))
 
   -- rings that do not fit
-  unfit : {r : Turned} → fit sizes n ≡ false → r ≡ kept Unfit labels → Answers r
+  unfit : {r : Turned} → inBounds sizes n ≡ false → r ≡ kept Unfit labels → Answers r
   unfolding turnOf outcomeOf
   unfit e = refusal Unfit 13 0 (ap (λ (t : Bool). cond t (turn (table sizes es n) (labelsIn sizes n labels) items direction) (refused 13 0)) e) refl
 
   -- more than 200 rings
   pub answer-many : {r : Turned} → 200 < n → r ≡ kept Unfit labels → Answers r
-  unfolding fit
+  unfolding inBounds
   answer-many h = unfit (rw (lt-leb n 200 h))
 
   -- more than 1186 entries
   pub answer-long : {k : ℕ} {r : Turned} → n ≤ 200 → k ≡ startOf sizes n → 1186 < k → r ≡ kept Unfit labels → Answers r
-  unfolding fit
+  unfolding inBounds
   answer-long small e h = unfit (rw (le-leb n 200 small, lt-leb (startOf sizes n) 1186 (omega arith)))
 
   module _ (small : n ≤ 200) {k : ℕ} (total : k ≡ startOf sizes n) (few : k ≤ 1186) (full : length labels ≡ 1186) where
@@ -155,7 +155,7 @@ module _ (sizes es : List ℕ) (n : ℕ) (labels items : List ℕ) (direction : 
 
     -- what fits is turned by the model
     fits : turnOf sizes es n labels items direction ≡ turn P Old items direction
-    unfolding turnOf fit
+    unfolding turnOf inBounds
     fits = rw (le-leb n 200 small, le-leb (startOf sizes n) 1186 (omega arith))
 
     -- as many labels as the sizes say

@@ -1,19 +1,14 @@
 -- What the engine's turn answers, by the model.
 use Prim.Native.Nat.{ℕ}
 use mathlib.Core.List.{List, _++_}
-use mathlib.Core.Bool.{Bool, cond, _&&_}
+use mathlib.Core.Bool.{cond}
 use lib.ListN.{length, drop}
-use lib.Dec.{leb}
 use Rattle.lists.specs.Spans.{stretch}
 use Rattle.model.specs.Outcome.{Outcome, accepted, refused}
 use Rattle.model.specs.Turn.{turn}
-use Rattle.rings.specs.Tables.{startOf, table}
+use Rattle.rings.specs.Tables.{startOf, table, inBounds}
 use Rattle.turn.specs.declared.TurnAnswer.{TurnAnswer}
 use Rattle.turn.specs.declared.TurnAnswer.the-variants.{Labelled, BadList, Broken, Unfit}
-
--- The rings fit the engine's arrays: at most 200 of them, with at most 1186 entries
-unfoldable pub fit : List ℕ → ℕ → Bool
-fit sizes n = leb n 200 && leb (startOf sizes n) 1186
 
 -- the labels that an array holds: one for each entry of the first n rings
 unfoldable pub labelsIn : List ℕ → ℕ → List ℕ → List ℕ
@@ -21,7 +16,7 @@ labelsIn sizes n labels = stretch labels 0 (startOf sizes n)
 
 -- The turn of the labels that an array holds; rings that do not fit, which no call leaves on a sheet, are answered by 13
 unfoldable pub turnOf : List ℕ → List ℕ → ℕ → List ℕ → List ℕ → ℕ → Outcome (List ℕ)
-turnOf sizes entries n labels items direction = cond (fit sizes n) (turn (table sizes entries n) (labelsIn sizes n labels) items direction) (refused 13 0)
+turnOf sizes entries n labels items direction = cond (inBounds sizes n) (turn (table sizes entries n) (labelsIn sizes n labels) items direction) (refused 13 0)
 
 -- 01's number and values for each answer
 unfoldable pub outcomeOf : TurnAnswer → List ℕ → Outcome (List ℕ)

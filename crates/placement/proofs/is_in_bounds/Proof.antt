@@ -4,7 +4,7 @@ use mathlib.Core.List.{List}
 use lib.ListN.{getD}
 use Prim.Native.Nat.{ℕ, _-_}
 use mathlib.Core.Path.{ap, _∙_}
-use Rattle.placement.specs.Drawing.{inBounds}
+use Rattle.rings.specs.Tables.{inBounds}
 use native.Mathlib.Omega.{arith}
 use borrow.Author.Needs.{needs}
 use Rattle.placement.proofs.is_in_bounds.Statement.{statement}
