@@ -1,13 +1,13 @@
 -- The engine's answer is the model's: the label rules on an array that holds labels, and each case of the answer.
 use Prim.Native.Nat.{ℕ, zero, suc, _+_, _-_, _≤_, _<_, min}
 use mathlib.Core.Path.{_≡_, refl, sym, ap, _∙_, subst}
-use mathlib.Core.Logic.{_⊎_, inl, inr, ⊎-elim}
+use mathlib.Core.Logic.{_⊎_, inl, inr}
 use mathlib.Core.List.{List, [], _∷_, _++_}
 use mathlib.Core.Bool.{Bool, true, false, cond, not, _&&_, _||_, false≢true, true≢false}
 use native.Mathlib.Omega.{arith}
 use lib.ListN.{length, getD, take, drop, length-drop, List·getD-eq-default}
 use lib.Seq.{drop-append-le, take-append-le}
-use lib.Dec.{eqb, ltb, leb}
+use lib.Dec.{eqb, ltb}
 use borrow.Author.Tests.{ltb-true, ltb-false, le-leb, lt-leb}
 use Rattle.lists.specs.Tests.{any}
 use Rattle.lists.specs.Ranges.{firstFrom, lowest}
@@ -17,7 +17,7 @@ use Rattle.lists.proofs.Loops.{padded-none}
 use Rattle.model.specs.Outcome.{Outcome, accepted, refused, _>>=_, _>>_, require, taken}
 use Rattle.model.specs.Plan.{Plan, count, entries, ring, border, entryCount}
 use Rattle.model.specs.Labels.{borderLabel, unlabelled, start, labelsAround, labelOf, turned, badDart, fourRuns, due, notDue, badRing, breaks, labelRules}
-use Rattle.model.specs.Sweep.{sweep, firstState, sweepFrom}
+use Rattle.model.specs.Sweep.{sweep}
 use Rattle.sweep.specs.declared.SweepAnswer.{SweepAnswer}
 use Rattle.sweep.specs.declared.SweepAnswer.the-variants.{Labelled, Stuck, Broken, Unfit}
 use Rattle.sweep.specs.declared.Swept.{Swept}

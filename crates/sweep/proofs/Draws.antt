@@ -1,11 +1,10 @@
 -- Labels put on edges one after the other, on the darts of a plan and in an array that holds its labels.
 use Prim.Native.Nat.{ℕ, zero, suc, _+_, _-_, _≤_, _<_}
-use mathlib.Core.Path.{_≡_, refl, sym, ap, _∙_, subst}
-use mathlib.Core.List.{List, [], _∷_, _++_, map, append-nil, append-assoc}
+use mathlib.Core.Path.{_≡_, refl, sym, ap, _∙_}
+use mathlib.Core.List.{List, [], _∷_, _++_, map, append-nil}
 use mathlib.Core.Bool.{Bool, true, false, cond}
 use native.Mathlib.Omega.{arith}
-use native.Mathlib.Numerals.{add-one}
-use lib.ListN.{length, getD, set, take, drop, length-append, length-set, take-append-drop}
+use lib.ListN.{length, getD, set, take, drop, length-append, length-set, take-append-drop, length-map}
 use lib.Seq.{set-append-left, take-suc, take-length}
 use Rattle.lists.specs.Parts.{concat, indexOf, steps}
 use Rattle.lists.specs.Spans.{stretch, span, zeros, padded}
@@ -19,7 +18,6 @@ use Rattle.model.proofs.Plans.{adjacent-from, adjacent-mem}
 use Rattle.rings.specs.Tables.{startsOf, sizeOf, rows, table}
 use Rattle.labels.proofs.Places.{put-there, put-none}
 use Rattle.sweep.specs.Run.{edge, dart, fan}
-use lib.ListN.{length-map}
 
 -- the plan of the starts that the sizes give
 pub as-table : (starts sizes es : List ℕ) (n : ℕ) → starts ≡ startsOf sizes → rows starts sizes es n ≡ table sizes es n

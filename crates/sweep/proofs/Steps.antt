@@ -1,33 +1,37 @@
 -- The engine's steps are the model's, from the first frontier until the sweep is finished or stuck.
 use Prim.Native.Nat.{ℕ, zero, suc, _+_, _-_, _≤_, _<_}
 use mathlib.Core.Path.{_≡_, refl, sym, ap, _∙_, subst}
-use mathlib.Core.Logic.{_⊎_, inl, inr, ⊎-elim}
-use mathlib.Core.List.{List, [], _∷_, _++_, append-nil}
+use mathlib.Core.Logic.{_⊎_, inl, inr}
+use mathlib.Core.List.{List, [], _∷_, _++_}
 use mathlib.Core.Bool.{Bool, true, false, cond, not}
 use native.Mathlib.Omega.{arith}
-use lib.ListN.{length, getD, take, drop, length-append, drop-of-length-le, length-take}
-use lib.Seq.{slice, take-all, take-nil, take-length, length-take-le}
+use lib.ListN.{length, take, drop, length-append, drop-of-length-le, length-take}
+use lib.Seq.{slice, take-nil}
 use borrow.Author.Tests.{not-true, not-false}
 use Rattle.lists.specs.Parts.{steps}
-use Rattle.lists.specs.Spans.{stretch, span, zeros, padded}
+use Rattle.lists.specs.Spans.{stretch, span, padded}
 use Rattle.model.specs.Outcome.{Outcome, accepted, refused, _>>=_}
-use Rattle.model.specs.Plan.{Plan, Dart, count, ring, north, east, south, west, entryCount}
+use Rattle.model.specs.Plan.{Plan, count, ring, north, east, south, west, entryCount}
 use Rattle.model.specs.Labels.{up, right}
 use Rattle.model.specs.Sweep.{State, labelEdges, product, top, bareLabels, firstState, listed, finished, finish, eligible, choose, choices, advance, sweepFrom}
 use Rattle.model.proofs.Outcomes.{not-both, same-value}
-use Rattle.model.proofs.Choices.{chosen, none-chosen, Chosen}
+use Rattle.model.proofs.Choices.{chosen, Chosen}
 use Rattle.frontier.specs.declared.Line.{Line}
-use Rattle.frontier.specs.declared.Found.{Found}
-use Rattle.frontier.specs.declared.Found.the-variants.{At, Nothing}
-use Rattle.frontier.specs.Front.{Sane, Rep, Front}
-use Rattle.frontier.specs.Search.{foundAs}
-use Rattle.frontier.specs.Run as lines
-use Rattle.frontier.proofs.Pairs.{stretch-part, stretch-all, gathered, next-front, open-is}
+use Rattle.choice.specs.declared.Found.{Found}
+use Rattle.choice.specs.declared.Found.the-variants.{At, Nothing}
+use Rattle.frontier.specs.Front.{Sane, Front}
+use Rattle.choice.specs.Search.{foundAs}
+use Rattle.frontier.proofs.Lines.{stretch-part, stretch-all}
+use Rattle.pairs.proofs.Pairs.{gathered, next-front}
+use Rattle.frontier.proofs.Finishing.{open-is}
 use Rattle.sweep.specs.declared.Ended.{Ended}
-use Rattle.sweep.specs.Run.{fan, stepLabels, finishLabels, firstLabels, firstLine, unfinished, listing, replaced, stuck, swept, endedAs}
+use Rattle.sweep.specs.Run.{fan, stepLabels, finishLabels, firstLabels, stuck, swept, endedAs}
+use Rattle.frontier.specs.Run.{firstLine, unfinished}
+use Rattle.pairs.specs.Run.{listing, replaced}
 use Rattle.sweep.proofs.Draws.{edges-length, edges-padded, product-one}
 use Rattle.sweep.proofs.Unlabelled.{bare-long}
-use Rattle.sweep.proofs.Beginning.{firstFront, first-front, first-at, first-len}
+use Rattle.frontier.proofs.Beginning.{firstFront, first-front, first-at, first-len}
+use Rattle.sweep.specs.Run as run
 
 -- ---- a part of the frontier, in the array that holds it
 part-drop : (a k : ℕ) (f : List ℕ) → take k (drop a f) ≡ drop a (take (a + k) f)
@@ -94,8 +98,7 @@ module _ {p : Plan} {k : ℕ} {v : Line} {ls : List ℕ} (inv : Running p k v ls
   f = s .frontier
 
   is-finished : {t : Bool} → unfinished p (v .at) (v .len) ≡ t → not (finished p f) ≡ t
-  unfolding unfinished
-  is-finished e = sym (open-is p sane s v (inv .front)) ∙ e
+  is-finished e = sym (open-is p s v (inv .front)) ∙ e
 
   step : (k′ : ℕ) → k ≡ suc k′ → swept p ≡ cond (finished p f) (accepted (finish p s)) (choose p s (choices f) >>= (λ (c : ℕ × ℕ). sweepFrom p k′ (advance p s (c .0) (c .1))))
   unfolding sweepFrom
@@ -147,7 +150,7 @@ module _ {p : Plan} {k : ℕ} {v : Line} {ls : List ℕ} (inv : Running p k v ls
 
     pub running-on : {k′ : ℕ} {g w : Line} {b : List ℕ} → k ≡ suc k′ → unfinished p (v .at) (v .len) ≡ true
         → g ≡ listing p (v .at) (v .marks) (suc i) j → b ≡ stepLabels p (v .at) g i j ls → w ≡ replaced (v .at) (v .len) (suc i) j g → Running p k′ w b
-    unfolding listing replaced stepLabels advance foundAs
+    unfolding stepLabels advance foundAs
     running-on {k′} {g} {w} {b} z u gathers labelled moved =
         let two = taken .positions .apart in
         let last = taken .positions .inside in
@@ -155,14 +158,14 @@ module _ {p : Plan} {k : ℕ} {v : Line} {ls : List ℕ} (inv : Running p k v ls
         let l = listed p f i j in
         let on = not-true (finished p f) (is-finished u) in
         let rep = inv .front .rep in
-        let list = lines.listing p (v .at) (v .marks) (suc i) j in
+        let list = listing p (v .at) (v .marks) (suc i) j in
         let size : length l - 0 ≡ length l = omega arith in
         let one : i + 1 ≡ suc i = omega arith in
         let next : j + 1 ≡ suc j = omega arith in
         let ups = product l (slice (suc i) j f) in
         record {
           state = advance p s i j;
-          front = subst (Front (advance p s i j)) (sym (moved ∙ ap (lines.replaced (v .at) (v .len) (suc i) j) gathers)) (next-front p sane s v (inv .front) i j two last (taken .fits));
+          front = subst (Front (advance p s i j)) (sym (moved ∙ ap (replaced (v .at) (v .len) (suc i) j) gathers)) (next-front p sane s v (inv .front) i j two last (taken .fits));
           labels =
               labelled
               ∙ ap (λ (m : Line). labelEdges p right (steps (span (v .at) i (j + 1))) (labelEdges p up (product (span (m .at) 0 (m .len)) (span (v .at) (i + 1) j)) ls)) gathers

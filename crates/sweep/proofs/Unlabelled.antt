@@ -1,15 +1,15 @@
 -- The labels before the sweep, put into an array ring by ring.
 use Prim.Native.Nat.{ℕ, zero, suc, _+_, _-_, _≤_, _<_}
-use mathlib.Core.Path.{_≡_, refl, sym, ap, _∙_, subst}
+use mathlib.Core.Path.{_≡_, refl, sym, ap, _∙_}
 use mathlib.Core.List.{List, [], _∷_, _++_, map, append-nil, append-assoc}
 use mathlib.Core.Bool.{cond, _&&_}
 use native.Mathlib.Omega.{arith}
-use lib.ListN.{length, getD, set, take, length-append, length-map, length-take, List·getD-map}
+use lib.ListN.{length, getD, set, take, length-append, length-map, List·getD-map}
 use lib.Seq.{take-suc, take-all, length-take-le}
 use Rattle.lists.specs.Ranges.{from}
 use Rattle.lists.specs.Parts.{concat}
 use Rattle.lists.specs.Spans.{zeros, padded}
-use Rattle.lists.proofs.Concats.{map-append, concat-append}
+use Rattle.lists.proofs.Concats.{map-append}
 use Rattle.lists.proofs.Loops.{padded-put, padded-none}
 use Rattle.model.specs.Plan.{Plan, Dart, count, ring, border, dartsFrom, darts, entryCount}
 use Rattle.model.specs.Labels.{start, borderLabel, unlabelled}

@@ -1,0 +1,48 @@
+-- What the code computes, step by step, when it asks whether a context may come before the list.
+use Prim.Native.Nat.{ℕ, _-_, _≤_, _<_}
+use mathlib.Core.Path.{_≡_, ap, sym, _∙_}
+use mathlib.Core.List.{List}
+use mathlib.Core.Bool.{Bool, true, false}
+use lib.ListN.{length, getD}
+use borrow.Author.Tests.{eq-eqb, ne-eqb, lt-ltb, le-ltb}
+use Rattle.model.specs.Plan.{Plan, ring}
+use Rattle.lists.specs.Folds.{some}
+use Rattle.choice.specs.Run.{knot, tangled, blocked, same}
+
+-- ---- may a context come before the list?
+pub tangled-of : (p : Plan) (on : List ℕ) (c first fj : ℕ) {q : ℕ} → q ≡ length (ring p c) → some (λ (t : ℕ). knot on first fj (getD (ring p c) t 0)) 0 q ≡ tangled p on c first fj
+unfolding tangled
+tangled-of p on c first fj s = ap (some (λ (t : ℕ). knot on first fj (getD (ring p c) t 0)) 0) s
+
+module _ (p : Plan) (on seen high : List ℕ) (any : Bool) (first c fj j : ℕ) where
+  pub blocked-same : same any first c ≡ true → false ≡ blocked p on seen high any first c fj j
+  unfolding blocked
+  blocked-same e = sym (rw e)
+
+  module _ (other : same any first c ≡ false) where
+    pub blocked-edge : c < 4 → true ≡ blocked p on seen high any first c fj j
+    unfolding blocked
+    blocked-edge h = sym (rw (other, lt-ltb c 4 h))
+
+    module _ (inner : 4 ≤ c) where
+      pub blocked-old : (getD seen c 0 ≡ 0 → ⊥) → true ≡ blocked p on seen high any first c fj j
+      unfolding blocked
+      blocked-old h = sym (rw (other, le-ltb c 4 inner, ne-eqb (getD seen c 0) 0 h))
+
+      module _ (new : getD seen c 0 ≡ 0) where
+        pub blocked-twice : (getD on c 0 ≡ 0 → ⊥) → true ≡ blocked p on seen high any first c fj j
+        unfolding blocked
+        blocked-twice h = sym (rw (other, le-ltb c 4 inner, eq-eqb (getD seen c 0) 0 new, ne-eqb (getD on c 0) 0 h))
+
+        module _ (once : getD on c 0 ≡ 0) where
+          pub blocked-right : 1 < getD high c 0 - j → true ≡ blocked p on seen high any first c fj j
+          unfolding blocked
+          blocked-right h = sym (rw (other, le-ltb c 4 inner, eq-eqb (getD seen c 0) 0 new, eq-eqb (getD on c 0) 0 once, lt-ltb 1 (getD high c 0 - j) h))
+
+          pub blocked-knotted : getD high c 0 - j ≤ 1 → any ≡ true → tangled p on c first fj ≡ blocked p on seen high any first c fj j
+          unfolding blocked
+          blocked-knotted h e = sym (rw (other, le-ltb c 4 inner, eq-eqb (getD seen c 0) 0 new, eq-eqb (getD on c 0) 0 once, le-ltb 1 (getD high c 0 - j) h, e))
+
+          pub blocked-free : getD high c 0 - j ≤ 1 → any ≡ false → false ≡ blocked p on seen high any first c fj j
+          unfolding blocked
+          blocked-free h e = sym (rw (other, le-ltb c 4 inner, eq-eqb (getD seen c 0) 0 new, eq-eqb (getD on c 0) 0 once, le-ltb 1 (getD high c 0 - j) h, e))
