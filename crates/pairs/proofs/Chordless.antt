@@ -109,7 +109,7 @@ module _ (p : Plan) (g : List ℕ) (small : Small g) where
           let r = ring p (getD A k 0) in
           let m : List·Memᴰ (getD g l 0) r = subst (λ (u : ℕ). List·Memᴰ (getD g l 0) (ring p u)) (sym (getD-padded 512 g k)) (adjacent-mem p (getD g k 0) (getD g l 0) y) in
           let (x, x-in, x-is) = mem-getD r (getD g l 0) m in
-          let far = some-none (λ (t : ℕ). ltb 2 (getD place (getD r t 0) 0 - k)) 0 (length r - 0) (some-none (chordAt p place A) 0 (length g - 0) e k (omega arith) (omega arith)) x (omega arith) (omega arith) in
+          let far = some-none (λ (t : ℕ). ltb 2 (getD place (getD r t 0) 0 - k)) 0 (length r - 0) (some-none (chordAt p place A) 0 (length g - 2 - 0) e k (omega arith) (omega arith)) x (omega arith) (omega arith) in
           let top = placed-here .top l q in
           let same : getD place (getD A l 0) 0 ≡ getD place (getD r x 0) 0 = ap (λ (c : ℕ). getD place c 0) (getD-padded 512 g l ∙ sym x-is) in
           both (ltb 2 (getD place (getD r x 0) 0 - k)) (lt-ltb 2 (getD place (getD r x 0) 0 - k) (omega arith)) far
@@ -118,7 +118,7 @@ module _ (p : Plan) (g : List ℕ) (small : Small g) where
   unfolding chorded chordAt
   some-says e =
       let place = placed A (length g) in
-      let (k, _, k-in, y) = some-one (chordAt p place A) 0 (length g - 0) e in
+      let (k, _, k-in, y) = some-one (chordAt p place A) 0 (length g - 2 - 0) e in
       let r = ring p (getD A k 0) in
       let (x, _, x-in, z) = some-one (λ (t : ℕ). ltb 2 (getD place (getD r t 0) 0 - k)) 0 (length r - 0) y in
       let far = ltb-true 2 (getD place (getD r x 0) 0 - k) z in

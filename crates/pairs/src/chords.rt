@@ -49,7 +49,7 @@ fn chord_at<'a>(
     false
 }
 
-// Has the frontier of m contexts a chord?
+// Has the frontier of m contexts a chord? The last two positions have no other two or more further on.
 fn chorded<'a>(
     starts: &'a [u16],
     sizes: &'a [u8],
@@ -61,8 +61,9 @@ fn chorded<'a>(
     ensures { λ r. ⌜ r ≡ run.chorded (rows (now (starts .entry)) (now (sizes .entry)) (now (entries .entry)) n) (now (f .entry)) m ⌝ }
 {
     let place = placed(f, m);
+    let e = lists::minus(m, 2);
     let mut k = 0;
-    while k < m {
+    while k < e {
         if chord_at(starts, sizes, entries, n, &place, f, k) {
             return true;
         }
