@@ -1,13 +1,15 @@
--- What the code computes, step by step, when it asks whether a context may come before the list.
+-- What the code computes, step by step, when it asks whether a context may come before the list, and whether a pair may be eligible.
 use Prim.Native.Nat.{ℕ, _-_, _≤_, _<_}
 use mathlib.Core.Path.{_≡_, ap, sym, _∙_}
 use mathlib.Core.List.{List}
-use mathlib.Core.Bool.{Bool, true, false}
+use mathlib.Core.Bool.{Bool, true, false, not}
+use native.Mathlib.Omega.{arith}
 use lib.ListN.{length, getD}
 use borrow.Author.Tests.{eq-eqb, ne-eqb, lt-ltb, le-ltb}
 use Rattle.model.specs.Plan.{Plan, ring}
 use Rattle.lists.specs.Folds.{some}
-use Rattle.choice.specs.Run.{knot, tangled, blocked, same}
+use Rattle.choice.specs.declared.Trail.{Trail}
+use Rattle.choice.specs.Run.{promising, knot, tangled, blocked, same}
 
 -- ---- may a context come before the list?
 pub tangled-of : (p : Plan) (on : List ℕ) (c first fj : ℕ) {q : ℕ} → q ≡ length (ring p c) → some (λ (t : ℕ). knot on first fj (getD (ring p c) t 0)) 0 q ≡ tangled p on c first fj
@@ -46,3 +48,13 @@ module _ (p : Plan) (on seen high : List ℕ) (any : Bool) (first c fj j : ℕ) 
           pub blocked-free : getD high c 0 - j ≤ 1 → any ≡ false → false ≡ blocked p on seen high any first c fj j
           unfolding blocked
           blocked-free h e = sym (rw (other, le-ltb c 4 inner, eq-eqb (getD seen c 0) 0 new, eq-eqb (getD on c 0) 0 once, le-ltb 1 (getD high c 0 - j) h, e))
+
+-- ---- may a pair be eligible?
+module _ (p : Plan) (f : List ℕ) (t : Trail) (k j : ℕ) where
+  pub promising-no : t .lo < k - 1 → false ≡ promising p f t k j
+  unfolding promising
+  promising-no h = sym (rw (lt-ltb (t .lo) (k - 1) h))
+
+  pub promising-rest : {i u w : ℕ} {b : Bool} → i ≡ k - 1 → i ≤ t .lo → u ≡ getD f i 0 → w ≡ getD f j 0 → b ≡ tangled p (t .on) u (t .first) w → not b ≡ promising p f t k j
+  unfolding promising
+  promising-rest {i} z h x y e = ap not (e ∙ (λ d. tangled p (t .on) ((x ∙ ap (λ (l : ℕ). getD f l 0) z) d) (t .first) (y d))) ∙ sym (rw (le-ltb (t .lo) (k - 1) (omega arith)))

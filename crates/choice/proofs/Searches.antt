@@ -3,7 +3,7 @@ use Prim.Native.Nat.{ℕ, zero, suc, _+_, _-_, _≤_, _<_}
 use mathlib.Core.Path.{_≡_, refl, ap, sym, _∙_, subst}
 use mathlib.Core.Logic.{_⊎_, inl, inr, _≢_}
 use mathlib.Core.List.{List, [], _∷_, _++_, reverse, append-assoc, List·Memᴰ, List·Memᴰ·head, Memᴰ·append-right}
-use mathlib.Core.Bool.{Bool, true, false, cond, not, false≢true}
+use mathlib.Core.Bool.{Bool, true, false, cond, not, false≢true, true≢false}
 use native.Mathlib.Omega.{arith}
 use lib.ListN.{length, getD, set, length-append}
 use lib.Seq.{getD-append-add, getD-append-seam}
@@ -20,7 +20,7 @@ use Rattle.lists.proofs.Joins.{mem-join}
 use Rattle.model.specs.Plan.{Plan, ring, adjacent, between, border}
 use Rattle.model.specs.Sweep.{State, below, listed, replaced, eligible, choose, choices}
 use Rattle.model.proofs.Plans.{mem-adjacent}
-use Rattle.model.proofs.Eligible.{getD-mem, mem-getD, squeeze-mem, chordless-apart, replaced-list, replaced-right, replaced-length, something-below, eligible-clear, Clear}
+use Rattle.model.proofs.Eligible.{getD-mem, mem-getD, squeeze-mem, chordless-apart, replaced-left, replaced-list, replaced-right, replaced-length, something-below, eligible-clear, Clear}
 use Rattle.model.proofs.Choices.{Positions, chosen-taken, none-taken}
 use Rattle.lists.specs.Folds.{each}
 use Rattle.frontier.specs.declared.Line.{Line}
@@ -68,6 +68,11 @@ raw-split p f a (suc x) y =
 
 pub raw-more : (p : Plan) (f : List ℕ) (k j : ℕ) → k < j → raw p f k (j - k) ≡ below p f k ++ raw p f (suc k) (j - suc k)
 raw-more p f k j h = let z : j - k ≡ suc (j - suc k) = omega arith in ap (raw p f k) z
+
+-- where a joined list is empty, its front is
+front-empty : (l m : List ℕ) → l ++ m ≡ [] → empty l ≡ true
+front-empty [] m e = refl
+front-empty (a ∷ l) m e = absurd (let z : suc (length (l ++ m)) ≡ 0 = ap length e in omega arith)
 
 -- a context that is not the first of a list is put before the squeezed list
 squeeze-cons : (c : ℕ) (l : List ℕ) (any : Bool) (first : ℕ) → (any ≡ false → l ≡ []) → (any ≡ true → (rest : List ℕ) × (l ≡ first ∷ rest)) → same any first c ≡ false → squeeze (c ∷ l) ≡ c ∷ squeeze l
@@ -278,6 +283,58 @@ module _ (p : Plan) (sane : Sane p) (s : State) (v : Line) (fr : Front s v) (hig
           let clear = eligible-clear p s i j (record { apart = two; inside = within }) e k c (omega arith) (omega arith) c-in in
           both (adjacent p (getD f (t .lo) 0) c) (ap (λ (u : ℕ). adjacent p u c) (sym (at-same (t .lo))) ∙ a) (clear .left-clear (t .lo) h)
 
+  -- the context at i lists one of the list but the first, or that at j: i is not eligible
+  module _ (i : ℕ) (two : i + 2 ≤ j) (t : Trail) (tr : Trails p (v .at) (v .len) (raw p f (suc i) (j - suc i)) t) (e : eligible p s i j ≡ true) where
+    i-at : getD (replaced f i j (listed p f i j)) i 0 ≡ getD (v .at) i 0
+    i-at = replaced-left f (listed p f i j) i j two within i (omega arith) ∙ sym (at-same i)
+
+    -- the list is not empty
+    some-listed : (b : Bool) → t .some ≡ b → (rest : List ℕ) × (raw p f (suc i) (j - suc i) ≡ t .first ∷ rest)
+    some-listed true q = tr .first q
+    some-listed false q =
+        let none = sym (raw-more p f (suc i) j (omega arith)) ∙ tr .none q in
+        absurd (true≢false (sym (front-empty (below p f (suc i)) (raw p f (suc (suc i)) (j - suc (suc i))) none) ∙ something-below p s i j (record { apart = two; inside = within }) e (suc i) (omega arith) (omega arith)))
+
+    not-stray : (w : ℕ) → List·Memᴰ w (raw p f (suc i) (j - suc i)) → (w ≡ t .first → ⊥) → adjacent p (getD (v .at) i 0) w ≡ true → ⊥
+    unfolding listed
+    not-stray w m n a = go (mem-getD (listed p f i j) w (squeeze-mem (raw p f (suc i) (j - suc i)) w m))
+      where
+        front : (x : ℕ) → getD (squeeze (raw p f (suc i) (j - suc i))) x 0 ≡ w → 1 ≤ x
+        front zero z = absurd (n (sym z ∙ (let (rest, y) = some-listed (t .some) refl in ap (λ (b : List ℕ). getD (squeeze b) 0 0) y)))
+        front (suc x) z = omega arith
+
+        go : (x : ℕ) × (x < length (squeeze (raw p f (suc i) (j - suc i)))) × (getD (squeeze (raw p f (suc i) (j - suc i))) x 0 ≡ w) → ⊥
+        go (x, x-in, x-is) =
+            let long = replaced-length f (squeeze (raw p f (suc i) (j - suc i))) i j two within in
+            let one = front x x-is in
+            let there = replaced-list f (squeeze (raw p f (suc i) (j - suc i))) i j two within x x-in ∙ x-is in
+            both (adjacent p (getD (v .at) i 0) w) a (sym (λ d. adjacent p (i-at d) (there d)) ∙ no-chord i two e i (suc i + x) (omega arith) (omega arith))
+
+    not-across : adjacent p (getD (v .at) i 0) (getD f j 0) ≡ true → ⊥
+    unfolding listed
+    not-across a =
+        let l = squeeze (raw p f (suc i) (j - suc i)) in
+        let (rest, y) = some-listed (t .some) refl in
+        let more : length l ≡ suc (length (squeezeAfter (t .first) rest)) = ap (λ (b : List ℕ). length (squeeze b)) y in
+        let long = replaced-length f l i j two within in
+        let z : j + 0 ≡ j = omega arith in
+        let there = replaced-right f l i j two within 0 ∙ ap (λ (b : ℕ). getD f b 0) z in
+        both (adjacent p (getD (v .at) i 0) (getD f j 0)) a (sym (λ d. adjacent p (i-at d) (there d)) ∙ no-chord i two e i (suc i + length l + 0) (omega arith) (omega arith))
+
+    not-strayed : tangled p (t .on) (getD (v .at) i 0) (t .first) (getD (v .at) j 0) ≡ true → ⊥
+    not-strayed b = go (tangled-says p (t .on) (getD (v .at) i 0) (t .first) (getD (v .at) j 0) b)
+      where
+        go : (w : ℕ) × (adjacent p (getD (v .at) i 0) w ≡ true) × ((w ≡ getD (v .at) j 0) ⊎ ((w ≡ t .first → ⊥) × (getD (t .on) w 0 ≡ 0 → ⊥))) → ⊥
+        go (w, a, inl z) = not-across (ap (adjacent p (getD (v .at) i 0)) (sym (z ∙ at-same j)) ∙ a)
+        go (w, a, inr (n, m)) = not-stray w (tr .marks w m) n a
+
+  pub strayed : (i : ℕ) → i + 2 ≤ j → (t : Trail) → Trails p (v .at) (v .len) (raw p f (suc i) (j - suc i)) t → tangled p (t .on) (getD (v .at) i 0) (t .first) (getD (v .at) j 0) ≡ true → eligible p s i j ≡ false
+  strayed i two t tr b = go (eligible p s i j) refl
+    where
+      go : (x : Bool) → eligible p s i j ≡ x → x ≡ false
+      go false e = refl
+      go true e = absurd (not-strayed i two t tr e b)
+
   -- ---- the search for i: positions from k on are on the list, and no i from k − 1 on is eligible
   pub record Seeking (k : ℕ) (t : Trail) : Type 0 where
     pub trails : Trails p (v .at) (v .len) (raw p f k (j - k)) t
@@ -317,13 +374,17 @@ module _ (p : Plan) (sane : Sane p) (s : State) (v : Line) (fr : Front s v) (hig
           go i a b false e = let l = leb-false k (suc i) e in let z : k′ - 1 ≡ i = omega arith in subst (λ (x : ℕ). eligible p s x j ≡ false) z n
 
       -- the pair is not promising
-      pub seeking-over : promising (r .lo) k′ ≡ false → Seeking k′ r
+      pub seeking-over : promising p (v .at) r k′ j ≡ false → Seeking k′ r
       unfolding promising
-      seeking-over b =
-          let l = leb-false (k′ - 1) (r .lo) b in
-          let m = inv .reached in
-          let z : suc (k′ - 1) ≡ k′ = omega arith in
-          step (passed (k′ - 1) (omega arith) r (subst (λ (n : ℕ). Trails p (v .at) (v .len) (raw p f n (j - n)) r) (sym z) after) l)
+      seeking-over b = step (go (ltb (r .lo) (k′ - 1)) refl (tangled p (r .on) (getD (v .at) (k′ - 1) 0) (r .first) (getD (v .at) j 0)) refl b)
+        where
+          here : Trails p (v .at) (v .len) (raw p f (suc (k′ - 1)) (j - suc (k′ - 1))) r
+          here = let z : suc (k′ - 1) ≡ k′ = omega arith in subst (λ (n : ℕ). Trails p (v .at) (v .len) (raw p f n (j - n)) r) (sym z) after
+
+          go : (x : Bool) → ltb (r .lo) (k′ - 1) ≡ x → (y : Bool) → tangled p (r .on) (getD (v .at) (k′ - 1) 0) (r .first) (getD (v .at) j 0) ≡ y → cond x false (not y) ≡ false → eligible p s (k′ - 1) j ≡ false
+          go true x y z c = let m = inv .reached in passed (k′ - 1) (omega arith) r here (ltb-true (r .lo) (k′ - 1) x)
+          go false x true z c = let m = inv .reached in strayed (k′ - 1) (omega arith) r here z
+          go false x false z c = absurd (true≢false c)
 
       -- it is tested, and is not eligible
       pub seeking-on : fits p v (k′ - 1) j ≡ false → Seeking k′ r

@@ -3,7 +3,7 @@ use Prim.Native.Nat.{ℕ, _-_}
 use mathlib.Core.List.{List}
 use mathlib.Core.Bool.{Bool, true, false, cond, not}
 use lib.ListN.{length, getD}
-use lib.Dec.{eqb, ltb, leb}
+use lib.Dec.{eqb, ltb}
 use Rattle.lists.specs.Folds.{some}
 use Rattle.lists.specs.Spans.{zeros}
 use Rattle.model.specs.Plan.{Plan, ring}
@@ -21,10 +21,6 @@ startTrail m = trail true false 0 m (zeros 256)
 unfoldable pub same : Bool → ℕ → ℕ → Bool
 same any first c = cond any (eqb c first) false
 
--- the lowest position is no lower than k − 1
-unfoldable pub promising : ℕ → ℕ → Bool
-promising lo k = leb (k - 1) lo
-
 -- w is fj, or is marked and not the first
 unfoldable pub knot : List ℕ → ℕ → ℕ → ℕ → Bool
 knot on first fj w = cond (eqb w fj) true (cond (eqb w first) false (not (eqb (getD on w 0) 0)))
@@ -32,6 +28,10 @@ knot on first fj w = cond (eqb w fj) true (cond (eqb w first) false (not (eqb (g
 -- some neighbour of c is fj, or is marked and not the first
 unfoldable pub tangled : Plan → List ℕ → ℕ → ℕ → ℕ → Bool
 tangled p on c first fj = some (λ t. knot on first fj (getD (ring p c) t 0)) 0 (length (ring p c))
+
+-- the pair of positions k − 1 and j may be eligible: no position before k − 1 lists a context of the list, and position k − 1 lists neither the context at j nor one of the list but the first
+unfoldable pub promising : Plan → List ℕ → Trail → ℕ → ℕ → Bool
+promising p f t k j = cond (ltb (t .lo) (k - 1)) false (not (tangled p (t .on) (getD f (k - 1) 0) (t .first) (getD f j 0)))
 
 -- c may not come before the list: a border context, one that is or was on the frontier, one that is on the list and not its first, one with a neighbour on the frontier beyond j, or one with a neighbour that would not be adjacent to it
 unfoldable pub blocked : Plan → List ℕ → List ℕ → List ℕ → Bool → ℕ → ℕ → ℕ → ℕ → Bool

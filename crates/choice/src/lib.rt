@@ -269,12 +269,13 @@ fn extend<'a>(
         ) {
             return made(false, some, first, lo, on);
         }
-        let marks = frontier::put_mark(on, c, 1);
-        on = marks;
         some = true;
         first = c;
         lo = lower(lo, lists::whole(low, c));
         t += 1;
+        if c < 256 {
+            on[c] = 1;
+        }
     }
     made(true, some, first, lo, on)
 }
@@ -290,6 +291,36 @@ fn start(m: usize) -> Trail
         lo: m,
         on: [0u8; 256],
     }
+}
+
+// May the pair of positions k - 1 and j be eligible? No position before k - 1 lists a context of the list, and position k - 1 lists neither the context at j nor one of the list but the first.
+fn promising<'a>(
+    starts: &'a [u16],
+    sizes: &'a [u8],
+    entries: &'a [u16],
+    n: usize,
+    f: &'a [u16],
+    trail: Trail,
+    k: usize,
+    j: usize,
+) -> bool
+    ensures { λ r. ⌜ r ≡ run.promising (rows (now (starts .entry)) (now (sizes .entry)) (now (entries .entry)) n) (now (f .entry)) trail k j ⌝ }
+{
+    let i = lists::minus(k, 1);
+    let on = trail.on;
+    if i > trail.lo {
+        return false;
+    }
+    !tangled(
+        starts,
+        sizes,
+        entries,
+        n,
+        &on,
+        lists::num(f, i),
+        trail.first,
+        lists::num(f, j),
+    )
 }
 
 // One more than the largest i that is eligible with j, on a frontier of m contexts; 0 where there is none.
@@ -332,20 +363,13 @@ fn search<'a>(
         }
         trail = t;
         k -= 1;
-        if promising(t.lo, k) {
+        if promising(starts, sizes, entries, n, f, t, k, j) {
             if pairs::chords::fits(starts, sizes, entries, n, f, m, marks, k - 1, j) {
                 return k;
             }
         }
     }
     0
-}
-
-// Is the lowest position no lower than k - 1?
-fn promising(lo: usize, k: usize) -> bool
-    ensures { λ r. ⌜ r ≡ run.promising lo k ⌝ }
-{
-    lists::minus(k, 1) <= lo
 }
 
 // Of the eligible pairs of a frontier of m contexts that with the largest j, then with the largest i.

@@ -6,6 +6,7 @@ use mathlib.Core.Logic.{⊎-elim, inl, inr}
 use Prim.Native.Nat.{ℕ, _-_, _≤_}
 use native.Mathlib.Omega.{arith}
 use lib.ListN.{length, getD, length-set}
+use lib.Seq.{set-out}
 use borrow.Author.Needs.{needs}
 use Rattle.rings.specs.Tables.{rows}
 use Rattle.frontier.proofs.Moves.{under-turned}
@@ -65,9 +66,6 @@ returns-2 c =
     let last = ap (λ (w : ℕ). run.blocked p (c .before .before .before .before .before .before .before .loop .on) (a .seen .now) (a .high .now) (c .before .before .before .before .before .before .before .loop .some) (c .before .before .before .before .before .before .before .loop .first) (c .before .before .before .before .wide-word .result) w (a .j)) (sym (c .before .before .before .before .before .before .before .before .num2 .ensures .0)) in
     extends-as (c .made2 .ensures) (extends-same (a .trail) (grows-stop (c .before .before .before .before .before .before .before .loop .inv .2) (omega arith) c-is (last ∙ sym (c .before .before .blocked .ensures) ∙ c .before .if2 .taken)))
 
-put-mark-requires : tie.Need-put-mark-requires Inv-loop μ-loop
-put-mark-requires c κs = search needs
-
 whole-requires : tie.Need-whole-requires Inv-loop μ-loop
 whole-requires c κs = search needs
 
@@ -76,6 +74,9 @@ lower-requires c κs = search needs
 
 add-t : tie.Need-add-t Inv-loop μ-loop
 add-t c = search needs
+
+array-write-on : tie.Need-array-write-on Inv-loop μ-loop
+array-write-on c = search needs
 
 loop-less : tie.Need-loop-less Inv-loop μ-loop
 loop-less c = search needs
@@ -86,8 +87,20 @@ loop-again c =
     let p = rows (a .starts .now) (a .sizes .now) (a .entries .now) (a .n) in
     let c-is = c .before .before .before .before .before .before .wide-word .ensures .0 ∙ c .before .before .before .before .before .before .before .onward-at .ensures ∙ ap (λ (l : List ℕ). getD l (c .before .before .before .before .before .before .before .before .before .loop .t) 0) (under-turned p (a .f .now) (a .k) (c .before .before .before .before .before .before .before .before .before .before .before .before .num .ensures .0) (c .before .before .before .before .before .before .before .before .before .before .before .turn-of .ensures .0)) in
     let size = c .before .before .before .before .before .before .before .before .before .before .before .before .before .before .depth .ensures .0 in
-    let least = ⊎-elim (λ h. inl h) (λ h. inr (sym (c .before .whole .ensures) ∙ h)) (c .lower .ensures) in
-    (omega arith, ap length (c .before .before .put-mark .ensures) ∙ simp length-set (c .before .before .before .before .before .before .before .before .before .loop .inv .1), grows-on (c .before .before .before .before .before .before .before .before .before .loop .inv .2) refl (omega arith) c-is (c .before .before .before .before .before .before .before .before .before .before .before .before .before .before .before .before .before .before .before .before .before .before .before .pre) least (c .before .before .put-mark .ensures))
+    let least = ⊎-elim (λ h. inl h) (λ h. inr (sym (c .before .before .whole .ensures) ∙ h)) (c .before .lower .ensures) in
+    (omega arith, simp length-set (c .before .before .before .before .before .before .before .before .before .loop .inv .1), grows-on (c .before .before .before .before .before .before .before .before .before .loop .inv .2) refl (omega arith) c-is (c .before .before .before .before .before .before .before .before .before .before .before .before .before .before .before .before .before .before .before .before .before .before .before .pre) least (refl))
+
+loop-less-2 : tie.Need-loop-less-2 Inv-loop μ-loop
+loop-less-2 c = search needs
+
+loop-again-2 : tie.Need-loop-again-2 Inv-loop μ-loop
+loop-again-2 c =
+    let a = c .before .before .before .before .before .before .before .before .before .before .before .before .before .before .before .before .before .before .before .before .before .before .before .args in
+    let p = rows (a .starts .now) (a .sizes .now) (a .entries .now) (a .n) in
+    let c-is = c .before .before .before .before .before .before .wide-word .ensures .0 ∙ c .before .before .before .before .before .before .before .onward-at .ensures ∙ ap (λ (l : List ℕ). getD l (c .before .before .before .before .before .before .before .before .before .loop .t) 0) (under-turned p (a .f .now) (a .k) (c .before .before .before .before .before .before .before .before .before .before .before .before .num .ensures .0) (c .before .before .before .before .before .before .before .before .before .before .before .turn-of .ensures .0)) in
+    let size = c .before .before .before .before .before .before .before .before .before .before .before .before .before .before .depth .ensures .0 in
+    let least = ⊎-elim (λ h. inl h) (λ h. inr (sym (c .before .before .whole .ensures) ∙ h)) (c .before .lower .ensures) in
+    (omega arith, c .before .before .before .before .before .before .before .before .before .loop .inv .1, grows-on (c .before .before .before .before .before .before .before .before .before .loop .inv .2) refl (omega arith) c-is (c .before .before .before .before .before .before .before .before .before .before .before .before .before .before .before .before .before .before .before .before .before .before .before .pre) least (sym (set-out (c .before .before .before .before .before .before .before .before .before .loop .on) (c .before .before .before .before .before .before .wide-word .result) 1 (let long = c .before .before .before .before .before .before .before .before .before .loop .inv .1 in omega arith))))
 
 made-requires-3 : tie.Need-made-requires-3 Inv-loop μ-loop
 made-requires-3 c κs = search needs
@@ -100,4 +113,4 @@ returns-3 c =
     extends-as (c .made3 .ensures) (extends-same (a .trail) (grows-end (c .before .before .loop .inv .2) refl (omega arith) (omega arith)))
 
 pub extend-spec : {M : Type 1} → statement M
-extend-spec = tie.close (tie.spec Inv-loop μ-loop depth-requires made-requires returns num-requires turn-of-requires num-requires-2 loop-holds onward-at-requires wide-word-requires slice-aggregate-blocked blocked-requires made-requires-2 returns-2 put-mark-requires whole-requires lower-requires add-t loop-less loop-again made-requires-3 returns-3)
+extend-spec = tie.close (tie.spec Inv-loop μ-loop depth-requires made-requires returns num-requires turn-of-requires num-requires-2 loop-holds onward-at-requires wide-word-requires slice-aggregate-blocked blocked-requires made-requires-2 returns-2 whole-requires lower-requires add-t array-write-on loop-less loop-again loop-less-2 loop-again-2 made-requires-3 returns-3)
