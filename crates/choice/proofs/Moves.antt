@@ -12,49 +12,59 @@ use Rattle.choice.specs.declared.Trail.{Trail}
 use Rattle.choice.specs.Run.{promising, knot, tangled, blocked, same}
 
 -- ---- may a context come before the list?
+-- the test of a context, by its ring
 pub tangled-of : (p : Plan) (on : List ℕ) (c first fj : ℕ) {q : ℕ} → q ≡ length (ring p c) → some (λ (t : ℕ). knot on first fj (getD (ring p c) t 0)) 0 q ≡ tangled p on c first fj
 unfolding tangled
 tangled-of p on c first fj s = ap (some (λ (t : ℕ). knot on first fj (getD (ring p c) t 0)) 0) s
 
 module _ (p : Plan) (on seen high : List ℕ) (any : Bool) (first c fj j : ℕ) where
+  -- the first of the list
   pub blocked-same : same any first c ≡ true → false ≡ blocked p on seen high any first c fj j
   unfolding blocked
   blocked-same e = sym (rw e)
 
   module _ (other : same any first c ≡ false) where
+    -- a border context
     pub blocked-edge : c < 4 → true ≡ blocked p on seen high any first c fj j
     unfolding blocked
     blocked-edge h = sym (rw (other, lt-ltb c 4 h))
 
     module _ (inner : 4 ≤ c) where
+      -- a context that is or was on the frontier
       pub blocked-old : (getD seen c 0 ≡ 0 → ⊥) → true ≡ blocked p on seen high any first c fj j
       unfolding blocked
       blocked-old h = sym (rw (other, le-ltb c 4 inner, ne-eqb (getD seen c 0) 0 h))
 
       module _ (new : getD seen c 0 ≡ 0) where
+        -- a context that is on the list
         pub blocked-twice : (getD on c 0 ≡ 0 → ⊥) → true ≡ blocked p on seen high any first c fj j
         unfolding blocked
         blocked-twice h = sym (rw (other, le-ltb c 4 inner, eq-eqb (getD seen c 0) 0 new, ne-eqb (getD on c 0) 0 h))
 
         module _ (once : getD on c 0 ≡ 0) where
+          -- a context with a neighbour beyond j
           pub blocked-right : 1 < getD high c 0 - j → true ≡ blocked p on seen high any first c fj j
           unfolding blocked
           blocked-right h = sym (rw (other, le-ltb c 4 inner, eq-eqb (getD seen c 0) 0 new, eq-eqb (getD on c 0) 0 once, lt-ltb 1 (getD high c 0 - j) h))
 
+          -- a context before a list
           pub blocked-knotted : getD high c 0 - j ≤ 1 → any ≡ true → tangled p on c first fj ≡ blocked p on seen high any first c fj j
           unfolding blocked
           blocked-knotted h e = sym (rw (other, le-ltb c 4 inner, eq-eqb (getD seen c 0) 0 new, eq-eqb (getD on c 0) 0 once, le-ltb 1 (getD high c 0 - j) h, e))
 
+          -- a context before no list
           pub blocked-free : getD high c 0 - j ≤ 1 → any ≡ false → false ≡ blocked p on seen high any first c fj j
           unfolding blocked
           blocked-free h e = sym (rw (other, le-ltb c 4 inner, eq-eqb (getD seen c 0) 0 new, eq-eqb (getD on c 0) 0 once, le-ltb 1 (getD high c 0 - j) h, e))
 
 -- ---- may a pair be eligible?
 module _ (p : Plan) (f : List ℕ) (t : Trail) (k j : ℕ) where
+  -- a position before lists a context of the list
   pub promising-no : t .lo < k - 1 → false ≡ promising p f t k j
   unfolding promising
   promising-no h = sym (rw (lt-ltb (t .lo) (k - 1) h))
 
+  -- what is left to ask of the position
   pub promising-rest : {i u w : ℕ} {b : Bool} → i ≡ k - 1 → i ≤ t .lo → u ≡ getD f i 0 → w ≡ getD f j 0 → b ≡ tangled p (t .on) u (t .first) w → not b ≡ promising p f t k j
   unfolding promising
   promising-rest {i} z h x y e = ap not (e ∙ (λ d. tangled p (t .on) ((x ∙ ap (λ (l : ℕ). getD f l 0) z) d) (t .first) (y d))) ∙ sym (rw (le-ltb (t .lo) (k - 1) (omega arith)))

@@ -40,6 +40,7 @@ use Rattle.pairs.proofs.Pairs.{fits-is, gathered, unchorded}
 use Rattle.choice.proofs.Trails.{set-cases, trails-start}
 
 -- ---- a number in the table of positions is a position of its context
+-- positions put into the table one after the other
 place-real : (f : List ℕ) (a k : ℕ) (place : List ℕ) → ((c t : ℕ) → getD place c 0 ≡ suc t → (t < a) × (getD f t 0 ≡ c))
     → (c t : ℕ) → getD (each (λ (i : ℕ) l. set l (getD f i 0) (suc i)) a k place) c 0 ≡ suc t → (t < a + k) × (getD f t 0 ≡ c)
 unfolding each
@@ -52,6 +53,7 @@ place-real f a (suc k) place h c t e =
     go d u (inl (s, z)) = let w : u ≡ a = omega arith in (omega arith, ap (λ (i : ℕ). getD f i 0) w ∙ sym s)
     go d u (inr q) = let (x, y) = h d u q in (omega arith, y)
 
+-- of the whole table
 placed-real : (f : List ℕ) (m c t : ℕ) → getD (placed f m) c 0 ≡ suc t → (t < m) × (getD f t 0 ≡ c)
 unfolding placed
 placed-real f m c t e =
@@ -59,6 +61,7 @@ placed-real f m c t e =
     (omega arith, y)
 
 -- ---- what is below a range of positions, in two parts
+-- the positions from a on, cut after x of them
 raw-split : (p : Plan) (f : List ℕ) (a x y : ℕ) → raw p f a (x + y) ≡ raw p f a x ++ raw p f (a + x) y
 raw-split p f a zero y = let z : 0 + y ≡ y = omega arith in let w : a + 0 ≡ a = omega arith in (λ i. raw p f (sym w i) (z i))
 raw-split p f a (suc x) y =
@@ -66,6 +69,7 @@ raw-split p f a (suc x) y =
     let w : suc a + x ≡ a + suc x = omega arith in
     ap (raw p f a) z ∙ ap (λ (l : List ℕ). below p f a ++ l) (raw-split p f (suc a) x y) ∙ sym (append-assoc (below p f a) (raw p f (suc a) x) (raw p f (suc a + x) y)) ∙ ap (λ (b : ℕ). below p f a ++ raw p f (suc a) x ++ raw p f b y) w
 
+-- the first of them apart
 pub raw-more : (p : Plan) (f : List ℕ) (k j : ℕ) → k < j → raw p f k (j - k) ≡ below p f k ++ raw p f (suc k) (j - suc k)
 raw-more p f k j h = let z : j - k ≡ suc (j - suc k) = omega arith in ap (raw p f k) z
 
@@ -88,10 +92,12 @@ data Reason (p : Plan) (on seen high : List ℕ) (any : Bool) (first c fj j : �
   right : ltb 1 (getD high c 0 - j) ≡ true → Reason p on seen high any first c fj j
   knotted : any ≡ true → tangled p on c first fj ≡ true → Reason p on seen high any first c fj j
 
+-- a test that does not fail passes
 not-false′ : (t : Bool) → not t ≡ true → t ≡ false
 not-false′ true e = absurd (false≢true e)
 not-false′ false e = refl
 
+-- a context that may not come before the list has a reason
 reason : (p : Plan) (on seen high : List ℕ) (any : Bool) (first c fj j : ℕ) → blocked p on seen high any first c fj j ≡ true → (same any first c ≡ false) × Reason p on seen high any first c fj j
 unfolding blocked
 reason p on seen high any first c fj j e = go (same any first c) refl (ltb c 4) refl (not (eqb (getD seen c 0) 0)) refl (not (eqb (getD on c 0) 0)) refl (ltb 1 (getD high c 0 - j)) refl any refl e
@@ -117,6 +123,7 @@ knot-says on first fj w e = go (eqb w fj) refl (eqb w first) refl (eqb (getD on 
     go false x false y true z e = absurd (false≢true e)
     go false x false y false z e = inr (eqb-false w first y, eqb-false (getD on w 0) 0 z)
 
+-- a neighbour of the context that would not be adjacent to it
 tangled-says : (p : Plan) (on : List ℕ) (c first fj : ℕ) → tangled p on c first fj ≡ true → (w : ℕ) × (adjacent p c w ≡ true) × ((w ≡ fj) ⊎ ((w ≡ first → ⊥) × (getD on w 0 ≡ 0 → ⊥)))
 unfolding tangled
 tangled-says p on c first fj e =
@@ -124,6 +131,7 @@ tangled-says p on c first fj e =
     let (t, _, h, k) = some-one (λ (i : ℕ). knot on first fj (getD r i 0)) 0 (length r - 0) e in
     (getD r t 0, mem-adjacent p c (getD r t 0) (getD-mem r t (omega arith)), knot-says on first fj (getD r t 0) k)
 
+-- what is below, on the array that holds the frontier
 below-padded : (p : Plan) (f : List ℕ) (k : ℕ) → below p (padded 512 f) k ≡ below p f k
 unfolding below
 below-padded p f k = λ i. reverse-between (getD-padded 512 f (suc k) i) (getD-padded 512 f (k - 1) i) (getD-padded 512 f k i)
@@ -132,38 +140,49 @@ below-padded p f k = λ i. reverse-between (getD-padded 512 f (suc k) i) (getD-p
     reverse-between a b u = reverse (between a b (ring p u))
 
 module _ (p : Plan) (sane : Sane p) (s : State) (v : Line) (fr : Front s v) (high : List ℕ) (hi : Highs p (placed (v .at) (v .len)) high) (j : ℕ) (inside : j < v .len) where
+  -- the frontier
   abbrev f : List ℕ
   f = s .frontier
 
+  -- j is a position
   within : j < length f
   within = let e = fr .rep .len in omega arith
 
+  -- the array reads as the frontier
   at-same : (k : ℕ) → getD (v .at) k 0 ≡ getD f k 0
   at-same k = ap (λ (l : List ℕ). getD l k 0) (fr .rep .at) ∙ getD-padded 512 f k
 
+  -- what is below is the same on both
   pub below-same : (k : ℕ) → below p (v .at) k ≡ below p f k
   below-same k = ap (λ (l : List ℕ). below p l k) (fr .rep .at) ∙ below-padded p f k
 
   module _ (i : ℕ) (two : i + 2 ≤ j) (e : eligible p s i j ≡ true) where
+    -- the list
     abbrev l : List ℕ
     l = listed p f i j
 
+    -- i and j are positions
     positions : Positions s i j
     positions = record { apart = two; inside = within }
 
+    -- the list of an eligible pair has no repeat
     once : repeats l ≡ false
     once = clean-once (s .seen) l (gathered p sane s v fr i j two within e .clean)
 
+    -- and the new frontier has no chord
     no-chord : (a b : ℕ) → a + 2 ≤ b → b < length (replaced f i j l) → adjacent p (getD (replaced f i j l) a 0) (getD (replaced f i j l) b 0) ≡ false
     no-chord a b = chordless-apart p (replaced f i j l) (unchorded p sane s v fr i j two within e) a b
 
     module _ (k : ℕ) (low : i < k) (high-k : k < j) (pre post : List ℕ) (c : ℕ) (is : below p f k ≡ pre ++ (c ∷ post)) where
+      -- what comes after c before it is squeezed
       abbrev Q : List ℕ
       Q = post ++ raw p f (suc k) (j - suc k)
 
+      -- c is below position k
       c-below : List·Memᴰ c (below p f k)
       c-below = subst (List·Memᴰ c) (sym is) (Memᴰ·append-right pre (List·Memᴰ·head refl))
 
+      -- what holds of a context of an eligible list
       clear : Clear p s i j k c
       clear = eligible-clear p s i j positions e k c low high-k c-below
 
@@ -187,14 +206,17 @@ module _ (p : Plan) (sane : Sane p) (s : State) (v : Line) (fr : Front s v) (hig
           )
 
       module _ (t : Trail) (tr : Trails p (v .at) (v .len) Q t) (other : same (t .some) (t .first) c ≡ false) where
+        -- the list, up to c and from c on
         joined : (r : List ℕ) × (l ≡ r ++ (c ∷ squeeze Q))
         joined = let (r, q) = ends in (r, q ∙ ap (λ (m : List ℕ). r ++ m) (squeeze-cons c Q (t .some) (t .first) (tr .none) (tr .first) other))
 
+        -- c stands on the list once
         not-twice : List·Memᴰ c Q → ⊥
         not-twice m =
             let (r, q) = joined in
             both (repeats l) (ap repeats q ∙ repeats-right r (c ∷ squeeze Q) (or-left (member c (squeeze Q)) (repeats (squeeze Q)) (mem-member c (squeeze Q) (squeeze-mem Q c m)))) once
 
+        -- where c stands on the new frontier
         c-at : (r : List ℕ) → l ≡ r ++ (c ∷ squeeze Q) → getD (replaced f i j l) (suc i + length r) 0 ≡ c
         c-at r q =
             let size = ap length q ∙ length-append r (c ∷ squeeze Q) in
@@ -230,6 +252,7 @@ module _ (p : Plan) (sane : Sane p) (s : State) (v : Line) (fr : Front s v) (hig
             let there = replaced-right f l i j two within 0 ∙ ap (λ (b : ℕ). getD f b 0) z in
             both (adjacent p c (getD f j 0)) a (sym (λ d. adjacent p (c-at r q d) (there d)) ∙ no-chord (suc i + length r) (suc i + length l + 0) (omega arith) (omega arith))
 
+        -- c has no neighbour that would not be adjacent to it
         not-knotted : t .some ≡ true → tangled p (t .on) c (t .first) (getD (v .at) j 0) ≡ true → ⊥
         not-knotted some b = go (tangled-says p (t .on) c (t .first) (getD (v .at) j 0) b)
           where
@@ -237,6 +260,7 @@ module _ (p : Plan) (sane : Sane p) (s : State) (v : Line) (fr : Front s v) (hig
             go (w, a, inl z) = not-beside some (ap (adjacent p c) (sym (z ∙ at-same j)) ∙ a)
             go (w, a, inr (n, m)) = not-later some w (tr .marks w m) n a
 
+        -- nor one beyond j
         not-right : ltb 1 (getD high c 0 - j) ≡ true → ⊥
         not-right b =
             let far = ltb-true 1 (getD high c 0 - j) b in
@@ -246,11 +270,13 @@ module _ (p : Plan) (sane : Sane p) (s : State) (v : Line) (fr : Front s v) (hig
             let len = fr .rep .len in
             both (adjacent p c (getD f x 0)) (ap (adjacent p c) (sym (at-same x) ∙ x-is) ∙ mem-adjacent p c w m) (clear .right-clear x (omega arith) (omega arith))
 
+        -- nor was c on the frontier
         not-old : eqb (getD (v .marks) c 0) 0 ≡ false → ⊥
         not-old b =
             let small = sane .entry (getD f k 0) c (below-mem p f k c c-below) in
             both (eqb (getD (v .marks) c 0) 0) (fr .marks .mark c (omega arith) ∙ ap not (clear .new)) b
 
+        -- so there is no reason
         no-reason : Reason p (t .on) (v .marks) high (t .some) (t .first) c (getD (v .at) j 0) j → ⊥
         no-reason (edge b) = both (border c) b (clear .inner)
         no-reason (old b) = not-old b
@@ -285,6 +311,7 @@ module _ (p : Plan) (sane : Sane p) (s : State) (v : Line) (fr : Front s v) (hig
 
   -- the context at i lists one of the list but the first, or that at j: i is not eligible
   module _ (i : ℕ) (two : i + 2 ≤ j) (t : Trail) (tr : Trails p (v .at) (v .len) (raw p f (suc i) (j - suc i)) t) (e : eligible p s i j ≡ true) where
+    -- where the context at i stands on the new frontier
     i-at : getD (replaced f i j (listed p f i j)) i 0 ≡ getD (v .at) i 0
     i-at = replaced-left f (listed p f i j) i j two within i (omega arith) ∙ sym (at-same i)
 
@@ -295,6 +322,7 @@ module _ (p : Plan) (sane : Sane p) (s : State) (v : Line) (fr : Front s v) (hig
         let none = sym (raw-more p f (suc i) j (omega arith)) ∙ tr .none q in
         absurd (true≢false (sym (front-empty (below p f (suc i)) (raw p f (suc (suc i)) (j - suc (suc i))) none) ∙ something-below p s i j (record { apart = two; inside = within }) e (suc i) (omega arith) (omega arith)))
 
+    -- the context at i lists none of the list but the first
     not-stray : (w : ℕ) → List·Memᴰ w (raw p f (suc i) (j - suc i)) → (w ≡ t .first → ⊥) → adjacent p (getD (v .at) i 0) w ≡ true → ⊥
     unfolding listed
     not-stray w m n a = go (mem-getD (listed p f i j) w (squeeze-mem (raw p f (suc i) (j - suc i)) w m))
@@ -310,6 +338,7 @@ module _ (p : Plan) (sane : Sane p) (s : State) (v : Line) (fr : Front s v) (hig
             let there = replaced-list f (squeeze (raw p f (suc i) (j - suc i))) i j two within x x-in ∙ x-is in
             both (adjacent p (getD (v .at) i 0) w) a (sym (λ d. adjacent p (i-at d) (there d)) ∙ no-chord i two e i (suc i + x) (omega arith) (omega arith))
 
+    -- nor the context at j
     not-across : adjacent p (getD (v .at) i 0) (getD f j 0) ≡ true → ⊥
     unfolding listed
     not-across a =
@@ -321,6 +350,7 @@ module _ (p : Plan) (sane : Sane p) (s : State) (v : Line) (fr : Front s v) (hig
         let there = replaced-right f l i j two within 0 ∙ ap (λ (b : ℕ). getD f b 0) z in
         both (adjacent p (getD (v .at) i 0) (getD f j 0)) a (sym (λ d. adjacent p (i-at d) (there d)) ∙ no-chord i two e i (suc i + length l + 0) (omega arith) (omega arith))
 
+    -- so the test does not pass
     not-strayed : tangled p (t .on) (getD (v .at) i 0) (t .first) (getD (v .at) j 0) ≡ true → ⊥
     not-strayed b = go (tangled-says p (t .on) (getD (v .at) i 0) (t .first) (getD (v .at) j 0) b)
       where
@@ -328,6 +358,7 @@ module _ (p : Plan) (sane : Sane p) (s : State) (v : Line) (fr : Front s v) (hig
         go (w, a, inl z) = not-across (ap (adjacent p (getD (v .at) i 0)) (sym (z ∙ at-same j)) ∙ a)
         go (w, a, inr (n, m)) = not-stray w (tr .marks w m) n a
 
+  -- Where the test passes, the pair is not eligible
   pub strayed : (i : ℕ) → i + 2 ≤ j → (t : Trail) → Trails p (v .at) (v .len) (raw p f (suc i) (j - suc i)) t → tangled p (t .on) (getD (v .at) i 0) (t .first) (getD (v .at) j 0) ≡ true → eligible p s i j ≡ false
   strayed i two t tr b = go (eligible p s i j) refl
     where
@@ -341,18 +372,22 @@ module _ (p : Plan) (sane : Sane p) (s : State) (v : Line) (fr : Front s v) (hig
     pub none : (i : ℕ) → k ≤ suc i → i + 2 ≤ j → eligible p s i j ≡ false
     pub reached : k ≤ j
 
+  -- before the search
   pub seeking-start : Seeking j (startTrail (v .len))
   seeking-start =
       let z : j - j ≡ 0 = omega arith in
       record { trails = subst (λ (n : ℕ). Trails p (v .at) (v .len) (raw p f j n) (startTrail (v .len))) (sym z) (trails-start (v .len)); none = λ i a b. absurd (omega arith); reached = omega arith }
 
+  -- after the search: there is no i
   pub seeking-end : {k : ℕ} {t : Trail} → Seeking k t → k ≤ 1 → Best p s j 0
   seeking-end inv h = record { none = λ e i b. inv .none i (omega arith) b; some = λ i e. absurd (omega arith) }
 
   module _ {k : ℕ} {t : Trail} (inv : Seeking k t) (h : 1 < k) {k′ : ℕ} (q : k ≡ suc k′) {r : Trail} (ext : Extends p (v .at) (v .len) (v .marks) high j k′ t r) where
+    -- what the trail knew
     before : Trails p (v .at) (v .len) (raw p f (suc k′) (j - suc k′)) t
     before = subst (λ (n : ℕ). Trails p (v .at) (v .len) (raw p f n (j - n)) t) q (inv .trails)
 
+    -- the search stops: there is no i
     pub seeking-stop : r .ok ≡ false → Best p s j 0
     seeking-stop o = record { none = λ e i b. go i b (leb k (suc i)) refl; some = λ i e. absurd (omega arith) }
       where
@@ -361,11 +396,13 @@ module _ (p : Plan) (sane : Sane p) (s : State) (v : Line) (fr : Front s v) (hig
         go i b false e = let l = leb-false k (suc i) e in let m = inv .reached in dead k′ (omega arith) (ext .off (raw p f (suc k′) (j - suc k′)) before o) i (omega arith)
 
     module _ (o : r .ok ≡ true) where
+      -- what the trail knows
       after : Trails p (v .at) (v .len) (raw p f k′ (j - k′)) r
       after =
           let m = inv .reached in
           subst (λ (l : List ℕ). Trails p (v .at) (v .len) l r) (ap (λ (b : List ℕ). b ++ raw p f (suc k′) (j - suc k′)) (below-same k′) ∙ sym (raw-more p f k′ j (omega arith))) (ext .on (raw p f (suc k′) (j - suc k′)) before o)
 
+      -- the pair is not eligible: the search goes on
       step : eligible p s (k′ - 1) j ≡ false → Seeking k′ r
       step n = record { trails = after; none = λ i a b. go i a b (leb k (suc i)) refl; reached = let m = inv .reached in omega arith }
         where
@@ -421,10 +458,12 @@ front-plain fr =
 pub record Choosing (p : Plan) (s : State) (j : ℕ) : Type 0 where
   pub none : (i k : ℕ) → j ≤ k → i + 2 ≤ k → k < length (s .frontier) → eligible p s i k ≡ false
 
+-- before the search
 pub choosing-start : {p : Plan} {s : State} {j : ℕ} → length (s .frontier) ≤ j → Choosing p s j
 choosing-start h = record { none = λ i k a b c. absurd (omega arith) }
 
 module _ {p : Plan} {s : State} {j : ℕ} (inv : Choosing p s j) where
+  -- there is no i for this j: the search goes on
   pub choosing-on : {j′ r : ℕ} → j ≡ suc j′ → Best p s j′ r → r ≡ 0 → Choosing p s j′
   choosing-on {j′} q best z = record { none = λ i k a b c. go i k a b c (leb j k) refl }
     where
@@ -435,6 +474,7 @@ module _ {p : Plan} {s : State} {j : ℕ} (inv : Choosing p s j) where
           let w : j′ ≡ k = omega arith in
           subst (λ (x : ℕ). eligible p s i x ≡ false) w (best .none z i (omega arith))
 
+  -- there is an i: the pair is the one that the model takes
   pub choosing-hit : {j′ r i : ℕ} → j ≡ suc j′ → j′ < length (s .frontier) → Best p s j′ r → r ≡ suc i → foundAs (At i j′) ≡ choose p s (choices (s .frontier))
   unfolding foundAs
   choosing-hit {j′} {r} {i} q h best z =
@@ -450,6 +490,7 @@ module _ {p : Plan} {s : State} {j : ℕ} (inv : Choosing p s j) where
       go a b o n e false x true y false w others = let l = leb-false (suc i) a w in inr (eqb-true b j′ y, omega arith)
       go a b o n e false x false y w w′ others = let l = leb-false j b x in let d : b ≢ j′ = eqb-false b j′ y in inl (omega arith)
 
+  -- after the search: there is no pair
   pub choosing-end : j ≡ 0 → foundAs Nothing ≡ choose p s (choices (s .frontier))
   unfolding foundAs
   choosing-end z = sym (none-taken p s (λ i k o. inv .none i k (omega arith) (o .apart) (o .inside)))

@@ -31,15 +31,18 @@ set-cases l c x d t e = go (eqb d c) refl (ltb c (length l)) refl
         inl (same, sym (getD-set-same l c x 0 (ltb-true c (length l) h)) ∙ ap (λ (i : ℕ). getD (set l c x) i 0) (sym same) ∙ e)
     go true q false h = inr (ap (λ (m : List ℕ). getD m d 0) (sym (set-out l c x (ltb-false c (length l) h))) ∙ e)
 
+-- 0 is no number above 0
 no-zero : (t : ℕ) {A : Type 0} → _≡_ {A = ℕ} 0 (suc t) → A
 no-zero t e = absurd (omega arith)
 
+-- a number that is not 0 is above 0
 some-number : (n : ℕ) → (n ≡ 0 → ⊥) → (t : ℕ) × (n ≡ suc t)
 some-number zero h = absurd (h refl)
 some-number (suc t) h = (t, refl)
 
 module _ {p : Plan} where
   -- ---- the lowest positions
+  -- a table of zeros
   pub lows-start : {f : List ℕ} {m : ℕ} {low : List ℕ} → low ≡ zeros 256 → Lows p f m low
   lows-start e = record { real = λ c t q. no-zero t (sym (getD-none 256 c) ∙ ap (λ (l : List ℕ). getD l c 0) (sym e) ∙ q) }
 
@@ -54,16 +57,20 @@ module _ {p : Plan} where
       go d t (inr q) = h .real d t q
 
   -- ---- the highest positions
+  -- nothing yet
   pub reaches-start : {place : List ℕ} {c : ℕ} → Reaches p place c 0
   reaches-start = record { real = λ t e. no-zero t e }
 
+  -- one more neighbour
   pub reaches-on : {place : List ℕ} {c top x w r : ℕ} → Reaches p place c top → x ≡ getD place w 0 → List·Memᴰ w (ring p c) → (r ≡ top) ⊎ (r ≡ x) → Reaches p place c r
   reaches-on h e n (inl q) = record { real = λ t z. h .real t (sym q ∙ z) }
   reaches-on {w = w} h e n (inr q) = record { real = λ t z. (w, n, sym e ∙ sym q ∙ z) }
 
+  -- a table of zeros
   pub highs-start : {place high : List ℕ} → high ≡ zeros 256 → Highs p place high
   highs-start e = record { real = λ c. record { real = λ t q. no-zero t (sym (getD-none 256 c) ∙ ap (λ (l : List ℕ). getD l c 0) (sym e) ∙ q) } }
 
+  -- the number of one context
   pub highs-put : {place high : List ℕ} {c x : ℕ} → Highs p place high → Reaches p place c x → Highs p place (set high c x)
   highs-put {place} {high} {c} {x} h r = record { real = λ d. record { real = λ t q. go d t (set-cases high c x d t q) } }
     where
@@ -72,13 +79,16 @@ module _ {p : Plan} where
       go d t (inr q) = h .real d .real t q
 
   -- ---- the trail of a list
+  -- the trail of no list
   pub trails-start : {f : List ℕ} (m : ℕ) → Trails p f m [] (startTrail m)
   unfolding startTrail
   trails-start m = record { none = λ e. refl; first = λ e. absurd (false≢true e); marks = λ c h. absurd (h (getD-none 256 c)); lo = λ h. absurd (omega arith) }
 
+  -- a trail knows the same, ok or not
   pub trails-ok : {f : List ℕ} {m : ℕ} {l : List ℕ} {a b s : Bool} {first lo : ℕ} {on : List ℕ} → Trails p f m l (trail a s first lo on) → Trails p f m l (trail b s first lo on)
   trails-ok h = record { none = h .none; first = h .first; marks = h .marks; lo = h .lo }
 
+  -- one context put before the list
   pub trails-push : {f low : List ℕ} {m c lo : ℕ} {l on : List ℕ} {ok : Bool} (t : Trail) → Trails p f m l t → Lows p f m low → (lo ≡ t .lo) ⊎ (getD low c 0 ≡ suc lo) → on ≡ set (t .on) c 1 → Trails p f m (c ∷ l) (trail ok true c lo on)
   trails-push {f} {low} {m} {c} {lo} {l} {on} t h k q e = record { none = λ e. absurd (true≢false e); first = λ e. (l, refl); marks = λ d n. mark d (some-number (getD on d 0) n); lo = λ n. least n q }
     where
@@ -94,6 +104,7 @@ module _ {p : Plan} where
       least n (inr z) = (c, List·Memᴰ·head refl, k .real c lo z .1)
 
 -- ---- what is below a position, put before the list from right to left
+-- what is taken of a ring, reversed, in two parts around an entry
 back-split : (l : List ℕ) (t k : ℕ) → t + suc k ≤ length l → (pre : List ℕ) × (reverse (take (t + suc k) l) ≡ pre ++ (getD l t 0 ∷ reverse (take t l)))
 back-split l t zero h = let z : t + 1 ≡ suc t = omega arith in ([], ap (λ (n : ℕ). reverse (take n l)) z ∙ back-suc l t (omega arith))
 back-split l t (suc k) h =
@@ -105,10 +116,12 @@ back-split l t (suc k) h =
 pub record Grows (p : Plan) (f : List ℕ) (m k : ℕ) (old : Trail) (t : ℕ) (now : Trail) : Type 0 where
   pub holds : (l : List ℕ) → Trails p f m l old → Trails p f m (reverse (take t (under p f k)) ++ l) now
 
+-- before the loop
 pub grows-start : {p : Plan} {f : List ℕ} {m k : ℕ} {old : Trail} → Grows p f m k old 0 old
 grows-start = record { holds = λ l h. h }
 
 module _ {p : Plan} {f : List ℕ} {m k : ℕ} {old : Trail} {t : ℕ} {cur : Trail} (inv : Grows p f m k old t cur) where
+  -- after a turn of the loop
   pub grows-on : {low on : List ℕ} {c lo t′ : ℕ} {ok : Bool} → t′ ≡ t + 1 → t < depth p f k → c ≡ getD (under p f k) t 0 → Lows p f m low → (lo ≡ cur .lo) ⊎ (getD low c 0 ≡ suc lo) → on ≡ set (cur .on) c 1
       → Grows p f m k old t′ (trail ok true c lo on)
   grows-on {low} {on} {c} {lo} {t′} {ok} s h e w q n =
@@ -120,6 +133,7 @@ module _ {p : Plan} {f : List ℕ} {m k : ℕ} {old : Trail} {t : ℕ} {cur : Tr
             (trails-push cur (inv .holds l a) w q n);
       }
 
+  -- after the loop
   pub grows-end : {s : Bool} {first lo : ℕ} {on : List ℕ} → cur ≡ trail true s first lo on → depth p f k ≤ t → t ≤ depth p f k → {seen high : List ℕ} {j : ℕ} → Extends p f m seen high j k old (trail true s first lo on)
   grows-end {s} {first} {lo} {on} e h q =
       let z : t ≡ depth p f k = omega arith in
@@ -128,6 +142,7 @@ module _ {p : Plan} {f : List ℕ} {m k : ℕ} {old : Trail} {t : ℕ} {cur : Tr
         off = λ l a n. absurd (true≢false n);
       }
 
+  -- a context may not come before the list
   pub grows-stop : {s : Bool} {c first lo : ℕ} {on seen high : List ℕ} {j : ℕ} → t < depth p f k → c ≡ getD (under p f k) t 0
       → blocked p (cur .on) seen high (cur .some) (cur .first) c (getD f j 0) j ≡ true → Extends p f m seen high j k old (trail false s first lo on)
   grows-stop {s} {c} {seen = seen} {high = high} {j = j} h e b =
@@ -143,9 +158,11 @@ module _ {p : Plan} {f : List ℕ} {m k : ℕ} {old : Trail} {t : ℕ} {cur : Tr
             (inv .holds l a) b;
       }
 
+-- nothing is below
 pub extends-bare : {p : Plan} {f : List ℕ} {m k : ℕ} {seen high : List ℕ} {j : ℕ} (old : Trail) {s : Bool} {first lo : ℕ} {on : List ℕ} → depth p f k ≡ 0 → Extends p f m seen high j k old (trail false s first lo on)
 extends-bare {p} {f} {k = k} old e = record { on = λ l a n. absurd (false≢true n); off = λ l a _. bare (below-is p f k ∙ ap (λ (i : ℕ). reverse (take i (under p f k))) e) }
 
+-- a trail that was not ok is extended as one that was
 pub extends-same : {p : Plan} {f : List ℕ} {m : ℕ} {seen high : List ℕ} {j k : ℕ} (old : Trail) {r : Trail} → Extends p f m seen high j k (trail true (old .some) (old .first) (old .lo) (old .on)) r → Extends p f m seen high j k old r
 extends-same old e = record { on = λ l a. e .on l (trails-ok a); off = λ l a. e .off l (trails-ok a) }
 

@@ -19,6 +19,7 @@ use Rattle.frontier.specs.declared.Line.{Line}
 use Rattle.lists.proofs.Folds.{all-from, some-same}
 
 -- ---- the finishing test
+-- what is taken of a list is South alone
 same-two : (l : List ℕ) (q : ℕ) → q ≤ length l → sameList (reverse (take q l)) (2 ∷ []) ≡ cond (eqb q 1) (eqb (getD l 0 0) 2) false
 same-two l zero h = refl
 same-two [] (suc q) h = absurd (omega arith)
@@ -29,12 +30,14 @@ same-two (x ∷ l) (suc (suc q)) h =
     rw (ne-eqb (suc (suc q)) 1 (λ z. omega arith)) (ap (λ (m : List ℕ). sameList m (2 ∷ [])) e ∙ and-false (eqb y 2))
 
 module _ (p : Plan) (f : List ℕ) where
+  -- South alone is below a position
   done-is : (k : ℕ) → doneAt p (padded 512 f) k ≡ sameList (below p f k) (2 ∷ [])
   unfolding doneAt
   done-is k =
       (λ i. cond (eqb (depth-padded p f k i) 1) (eqb (getD (under-padded p f k i) 0 0) 2) false)
       ∙ sym (ap (λ (m : List ℕ). sameList m (2 ∷ [])) (below-is p f k) ∙ same-two (under p f k) (depth p f k) (depth-le p f k))
 
+  -- The engine's finishing test on the array that holds a frontier is the model's
   pub unfinished-is : unfinished p (padded 512 f) (length f) ≡ not (finished p f)
   unfolding unfinished finished
   unfinished-is =

@@ -18,18 +18,22 @@ use Rattle.frontier.specs.Run.{line, pushed, fresh}
 use Rattle.model.specs.Sweep.{below}
 
 -- ---- lists of numbers below 200
+-- two such lists joined
 pub small-append : (l m : List ℕ) → Small l → Small m → Small (l ++ m)
 small-append [] m h k = k
 small-append (a ∷ l) m h k = (h .0, small-append l m (h .1) k)
 
+-- an entry of such a list
 pub small-mem : (l : List ℕ) (a : ℕ) → Small l → List·Memᴰ a l → a < 200
 small-mem (b ∷ l) a h (List·Memᴰ·head e) = let z = h .0 in omega arith
 small-mem (b ∷ l) a h (List·Memᴰ·tail m) = small-mem l a (h .1) m
 
+-- a list whose entries are all below 200
 pub mem-small : (l : List ℕ) → ((a : ℕ) → List·Memᴰ a l → a < 200) → Small l
 mem-small [] h = tt
 mem-small (a ∷ l) h = (h a (List·Memᴰ·head refl), mem-small l (λ b m. h b (List·Memᴰ·tail m)))
 
+-- an entry of such a list by its place; past the end stands 0
 pub small-getD : (l : List ℕ) (k : ℕ) → Small l → getD l k 0 < 200
 small-getD [] k h = omega arith
 small-getD (a ∷ l) zero h = h .0
@@ -43,24 +47,25 @@ no-longer l r h =
     omega arith
 
 -- ---- arrays that hold a list
-getD-zeros : (k i : ℕ) → getD (zeros k) i 0 ≡ 0
+-- every entry of zeros is 0
+pub getD-none : (k i : ℕ) → getD (zeros k) i 0 ≡ 0
 unfolding zeros
-getD-zeros zero i = refl
-getD-zeros (suc k) zero = refl
-getD-zeros (suc k) (suc i) = getD-zeros k i
+getD-none zero i = refl
+getD-none (suc k) zero = refl
+getD-none (suc k) (suc i) = getD-none k i
 
+-- a list and zeros after it read as the list
 getD-padding : (l : List ℕ) (k i : ℕ) → getD (l ++ zeros k) i 0 ≡ getD l i 0
-getD-padding [] k i = getD-zeros k i
+getD-padding [] k i = getD-none k i
 getD-padding (a ∷ l) k zero = refl
 getD-padding (a ∷ l) k (suc i) = getD-padding l k i
 
-pub getD-none : (k i : ℕ) → getD (zeros k) i 0 ≡ 0
-getD-none k i = getD-zeros k i
-
+-- an array that holds a list reads as the list
 pub getD-padded : (k : ℕ) (l : List ℕ) (i : ℕ) → getD (padded k l) i 0 ≡ getD l i 0
 unfolding padded
 getD-padded k l i = getD-padding l (k - length l) i
 
+-- a line with an entry put at its end holds the list with it
 pub push-rep : (v : Line) (l : List ℕ) (x : ℕ) → Rep v l → length l < 512 → Rep (pushed v x) (l ++ (x ∷ []))
 unfolding pushed
 push-rep v l x r h =
@@ -70,9 +75,11 @@ push-rep v l x r h =
     rw e (record { ok = r .ok; len = omega arith; at = (λ i. set (r .at i) (r .len i) x) ∙ padded-put 512 l x h; short = omega arith })
 
 -- ---- marks
+-- marks for tests that agree
 pub marks-same : {m : List ℕ} (p q : ℕ → Bool) → ((c : ℕ) → p c ≡ q c) → Marks m p → Marks m q
 marks-same p q h k = record { size = k .size; mark = λ c u. k .mark c u ∙ ap not (h c) }
 
+-- marks with one more context
 pub marks-set : {m : List ℕ} (p : ℕ → Bool) (c x : ℕ) → c < 256 → 0 < x → Marks m p → Marks (set m c x) (λ (d : ℕ). eqb d c || p d)
 marks-set {m} p c x h y k = record { size = simp length-set (k .size); mark = λ d u. go d u (eqb d c) refl }
   where
@@ -81,6 +88,7 @@ marks-set {m} p c x h y k = record { size = simp length-set (k .size); mark = λ
     go d u false e = rw (getD-set-other m c d x 0 (eqb-false d c e)) (k .mark d u)
 
 -- ---- a line that grows
+-- what is put at the end of a line changes no mark
 pub pushed-marks : (v : Line) (x : ℕ) → (pushed v x) .marks ≡ v .marks
 unfolding pushed
 pushed-marks v x = go (ltb (v .len) 512)
@@ -90,15 +98,18 @@ pushed-marks v x = go (ltb (v .len) 512)
     go false = refl
 
 -- ---- an array that holds a list, read back
+-- a stretch of the array is a part of the list
 pub stretch-part : (f : List ℕ) (a k : ℕ) → a + k ≤ length f → stretch (padded 512 f) a k ≡ take k (drop a f)
 unfolding stretch
 stretch-part f a zero h = refl
 stretch-part f a (suc k) h =
     (λ i. getD-padded 512 f a i ∷ stretch-part f (suc a) k (omega arith) i) ∙ sym (ap (take (suc k)) (drop-cons f a 0 (omega arith)))
 
+-- the whole list read back
 pub stretch-all : (f : List ℕ) → stretch (padded 512 f) 0 (length f) ≡ f
 stretch-all f = stretch-part f 0 (length f) (omega arith) ∙ take-all (length f) f (omega arith)
 
+-- a fresh line holds nothing
 pub fresh-rep : (m : List ℕ) → Rep (fresh m) []
 unfolding fresh padded
 fresh-rep m = record { ok = refl; len = refl; at = refl; short = omega arith }

@@ -53,11 +53,14 @@ unfoldable pub unfinished : Plan → List ℕ → ℕ → Bool
 unfinished p f m = some (λ k. not (doneAt p f k)) 1 (m - 1)
 
 -- ---- the first frontier
+-- West, North's inner neighbours from West's side to East's, East
 unfoldable pub front : Plan → Line
 front p = let r = ring p 0 in pushed (down (λ t v. pushed v (getD r (suc t) 0)) (length r - 2) (pushed (fresh (zeros 256)) 3)) 1
 
+-- a mark for each of the first m contexts of f
 unfoldable pub marked : List ℕ → ℕ → List ℕ
 marked f m = through (λ k on. set on (getD f k 0) 1) 0 m (zeros 256)
 
+-- the first frontier, all its contexts marked
 unfoldable pub firstLine : Plan → Line
 firstLine p = let v = front p in line (v .ok) (v .len) (v .at) (marked (v .at) (v .len))

@@ -20,6 +20,7 @@ use Rattle.pairs.proofs.Dirt.{eqb-swap, dirty, dirty-left, dirty-end, c
 use Rattle.frontier.proofs.Lines.{getD-padded, marks-same, marks-set, no-longer, push-rep, pushed-marks, small-append}
 
 -- ---- one entry added
+-- the last entry of a list by its place
 ends-getD : (l : List ℕ) (c : ℕ) → cond (eqb (length l) 0) false (eqb c (getD l (length l - 1) 0)) ≡ endsIn l c
 unfolding endsIn
 ends-getD [] c = refl
@@ -29,6 +30,7 @@ ends-getD (a ∷ b ∷ l) c =
     let y : suc (length l) - 1 ≡ length l = omega arith in
     rw (z, ne-eqb (suc (suc (length l))) 0 (λ h. omega arith)) (sym (rw (y, ne-eqb (suc (length l)) 0 (λ h. omega arith))) ∙ ends-getD (b ∷ l) c)
 
+-- the test of the last entry is that of the list
 last-ends : (v : Line) (l : List ℕ) (c : ℕ) → Rep v l → lastIs v c ≡ endsIn l c
 unfolding lastIs
 last-ends v l c r = (λ i. cond (eqb (r .len i) 0) false (eqb c (getD (r .at i) (r .len i - 1) 0))) ∙ ap (λ (x : ℕ). cond (eqb (length l) 0) false (eqb c x)) (getD-padded 512 l (length l - 1)) ∙ ends-getD l c
@@ -44,6 +46,7 @@ pub record Good (seen : List ℕ) (v : Line) (l : List ℕ) : Type 0 where
 abbrev pub Comes : List ℕ → Line → List ℕ → Type 0
 Comes seen v l = Good seen v l ⊎ ((v .ok ≡ false) × (dirty seen l ≡ true))
 
+-- a context is barred where it is a border context, on the list, or was on the frontier
 barred-is : (seen : List ℕ) (v : Line) (l : List ℕ) (c : ℕ) → c < 200 → Good seen v l → barred v c ≡ (border c || (member c l || member c seen))
 unfolding barred
 barred-is seen v l c h g =
@@ -55,12 +58,14 @@ barred-is seen v l c h g =
     go false = refl
 
 module _ (seen : List ℕ) (v : Line) (l : List ℕ) (c : ℕ) (h : c < 200) (g : Good seen v l) where
+  -- a list that is clean has room for one more
   room : border c ≡ false → (member c l || member c seen) ≡ false → length l < 512
   room b e =
       let x = no-longer (l ++ (c ∷ [])) (clean-once seen (l ++ (c ∷ [])) (clean-end seen l c (g .clean) b e)) (small-append l (c ∷ []) (g .small) (h, tt)) in
       let y = length-append l (c ∷ []) in
       omega arith
 
+  -- a context that is not barred is put on the list
   taken : border c ≡ false → (member c l || member c seen) ≡ false → Good seen (noted (pushed v c) c) (l ++ (c ∷ []))
   unfolding noted
   taken b e =
@@ -83,6 +88,7 @@ module _ (seen : List ℕ) (v : Line) (l : List ℕ) (c : ℕ) (h : c < 200) (g 
       swap : (x : ℕ) → (eqb x c || (member x l || member x seen)) ≡ (member x (l ++ (c ∷ [])) || member x seen)
       swap x = three (eqb x c) (member x l) (member x seen) ∙ ap (λ (t : Bool). t || member x seen) (sym (any-append (eqb x) l (c ∷ [])))
 
+  -- what one context comes to
   pub add-comes : Comes seen (added v c) (joined l c)
   unfolding added joined failed
   add-comes = subst (λ (t : Bool). Comes seen (cond t v (cond (barred v c) (failed v) (noted (pushed v c) c))) (joined l c)) (sym (last-ends v l c (g .rep))) (subst (λ (t : Bool). Comes seen (cond (endsIn l c) v (cond t (failed v) (noted (pushed v c) c))) (joined l c)) (sym (barred-is seen v l c h g)) (go (endsIn l c) (border c) refl (member c l || member c seen) refl))
@@ -95,10 +101,12 @@ module _ (seen : List ℕ) (v : Line) (l : List ℕ) (c : ℕ) (h : c < 200) (g 
       go false false p false q = inl (taken p q)
 
 -- ---- several entries added, left to right
+-- contexts put on the list one after the other
 unfoldable pub addedAll : Line → List ℕ → Line
 addedAll v [] = v
 addedAll v (c ∷ cs) = addedAll (added v c) cs
 
+-- a line that failed stays failed when a context is put at its end
 pushed-off : (v : Line) (c : ℕ) → v .ok ≡ false → (pushed v c) .ok ≡ false
 unfolding pushed
 pushed-off v c e = go (ltb (v .len) 512)
@@ -107,6 +115,7 @@ pushed-off v c e = go (ltb (v .len) 512)
     go true = e
     go false = refl
 
+-- and when a context is added
 added-off : (v : Line) (c : ℕ) → v .ok ≡ false → (added v c) .ok ≡ false
 unfolding added failed noted
 added-off v c e = go (lastIs v c) (barred v c)
@@ -116,14 +125,17 @@ added-off v c e = go (lastIs v c) (barred v c)
     go false true = refl
     go false false = pushed-off v c e
 
+-- and when several are
 pub addedAll-off : (v : Line) (cs : List ℕ) → v .ok ≡ false → (addedAll v cs) .ok ≡ false
 unfolding addedAll
 addedAll-off v [] e = e
 addedAll-off v (c ∷ cs) e = addedAll-off (added v c) cs (added-off v c e)
 
+-- a list that may not be put on the frontier stays one
 pub dirty-more : (seen l cs : List ℕ) → dirty seen (squeeze l) ≡ true → dirty seen (squeeze (l ++ cs)) ≡ true
 dirty-more seen l cs e = let (r, q) = squeeze-more l cs in ap (dirty seen) q ∙ dirty-left seen (squeeze l) r e
 
+-- what several contexts come to
 pub all-come : (seen : List ℕ) (v : Line) (l cs : List ℕ) → Small cs → Good seen v (squeeze l) → Comes seen (addedAll v cs) (squeeze (l ++ cs))
 unfolding addedAll
 all-come seen v l [] h g = inl (subst (λ (m : List ℕ). Good seen v (squeeze m)) (sym (append-nil l)) g)

@@ -32,6 +32,7 @@ pub record Placed (f : List ℕ) (a : ℕ) (place : List ℕ) : Type 0 where
   -- and a position is one of its context
   pub real : (c t : ℕ) → getD place c 0 ≡ suc t → (t < a) × (getD f t 0 ≡ c)
 
+-- one more position
 place-more : (f : List ℕ) (a : ℕ) (place : List ℕ) → getD f a 0 < 256 → Placed f a place → Placed f (suc a) (set place (getD f a 0) (suc a))
 place-more f a place h k = record { size = simp length-set (k .size); top = λ t l. up t l (eqb (getD f t 0) (getD f a 0)) refl; real = λ c t e. down c t e (eqb c (getD f a 0)) refl }
   where
@@ -63,6 +64,7 @@ place-more f a place h k = record { size = simp length-set (k .size); top = λ t
         let (l, q) = k .real c t (sym (getD-set-other place (getD f a 0) c (suc a) 0 (eqb-false c (getD f a 0) y)) ∙ e) in
         (omega arith, q)
 
+-- several more positions
 places : (f : List ℕ) → ((t : ℕ) → getD f t 0 < 256) → (a k : ℕ) (place : List ℕ) → Placed f a place → Placed f (a + k) (each (λ (i : ℕ) l. set l (getD f i 0) (suc i)) a k place)
 unfolding each
 places f h a zero place q = let z : a + 0 ≡ a = omega arith in subst (λ (n : ℕ). Placed f n place) (sym z) q
@@ -70,6 +72,7 @@ places f h a (suc k) place q =
     let z : suc a + k ≡ a + suc k = omega arith in
     subst (λ (n : ℕ). Placed f n (each (λ (i : ℕ) l. set l (getD f i 0) (suc i)) (suc a) k (set place (getD f a 0) (suc a)))) z (places f h (suc a) k (set place (getD f a 0) (suc a)) (place-more f a place (h a) q))
 
+-- the table holds the highest position of each context
 pub placed-is : (f : List ℕ) (m : ℕ) → ((t : ℕ) → getD f t 0 < 256) → Placed f m (placed f m)
 unfolding placed
 placed-is f m h =
@@ -78,6 +81,7 @@ placed-is f m h =
     (places f h 0 (m - 0) (zeros 256) (record { size = length-zeros 256; top = λ t l. absurd (omega arith); real = λ c t e. let y = getD-none 256 c in absurd (omega arith) }))
 
 -- ---- no chord
+-- contexts that are two or more positions apart are no neighbours: there is no chord
 pub no-chord : (p : Plan) (g : List ℕ) → ((k l : ℕ) → k + 2 ≤ l → l < length g → adjacent p (getD g k 0) (getD g l 0) ≡ false) → chordless p g ≡ true
 unfolding chordless
 no-chord p [] h = refl
@@ -92,12 +96,15 @@ no-chord p (a ∷ g) h =
         ap (adjacent p a) (sym (sym (getD-drop 1 g x 0) ∙ e)) ∙ h 0 (suc (1 + x)) (omega arith) (omega arith)
 
 module _ (p : Plan) (g : List ℕ) (small : Small g) where
+  -- the array that holds the frontier
   abbrev A : List ℕ
   A = padded 512 g
 
+  -- its table of positions
   placed-here : Placed A (length g) (placed A (length g))
   placed-here = placed-is A (length g) (λ t. let e = getD-padded 512 g t in let s = small-getD g t small in omega arith)
 
+  -- where the engine finds no chord, there is none
   none-says : chorded p A (length g) ≡ false → (k l : ℕ) → k + 2 ≤ l → l < length g → adjacent p (getD g k 0) (getD g l 0) ≡ false
   unfolding chorded chordAt
   none-says e k l h q = go (adjacent p (getD g k 0) (getD g l 0)) refl
@@ -114,6 +121,7 @@ module _ (p : Plan) (g : List ℕ) (small : Small g) where
           let same : getD place (getD A l 0) 0 ≡ getD place (getD r x 0) 0 = ap (λ (c : ℕ). getD place c 0) (getD-padded 512 g l ∙ sym x-is) in
           both (ltb 2 (getD place (getD r x 0) 0 - k)) (lt-ltb 2 (getD place (getD r x 0) 0 - k) (omega arith)) far
 
+  -- where it finds one, there is one
   some-says : chorded p A (length g) ≡ true → (k : ℕ) × (l : ℕ) × (k + 2 ≤ l) × (l < length g) × (adjacent p (getD g k 0) (getD g l 0) ≡ true)
   unfolding chorded chordAt
   some-says e =
@@ -127,6 +135,7 @@ module _ (p : Plan) (g : List ℕ) (small : Small g) where
       let there : List·Memᴰ (getD g l 0) (ring p (getD g k 0)) = subst (λ (u : ℕ). List·Memᴰ (getD g l 0) (ring p u)) (getD-padded 512 g k) (subst (λ (c : ℕ). List·Memᴰ c r) (sym (sym (getD-padded 512 g l) ∙ l-is)) (getD-mem r x (omega arith))) in
       (k, l, omega arith, l-in, mem-adjacent p (getD g k 0) (getD g l 0) there)
 
+  -- The engine's test is the model's
   pub chorded-is : chorded p A (length g) ≡ not (chordless p g)
   chorded-is = go (chorded p A (length g)) refl
     where

@@ -12,6 +12,7 @@ use Rattle.lists.proofs.Bools.{or-no, or-yes}
 use Rattle.lists.proofs.Tests.{any-append, repeats-append}
 use Rattle.model.specs.Plan.{border}
 
+-- equality is the same both ways
 pub eqb-swap : (a b : ℕ) → eqb a b ≡ eqb b a
 eqb-swap a b = go (eqb a b) refl
   where
@@ -19,13 +20,16 @@ eqb-swap a b = go (eqb a b) refl
     go true e = e ∙ sym (eq-eqb b a (sym (eqb-true a b e)))
     go false e = e ∙ sym (ne-eqb b a (λ h. eqb-false a b e (sym h)))
 
+-- a test or another, the first passes
 pub or-left : (a b : Bool) → a ≡ true → (a || b) ≡ true
 or-left a b e = rw e
 
+-- a test or another, the second passes
 pub or-right : (a b : Bool) → b ≡ true → (a || b) ≡ true
 or-right a b e = rw e (or-true a)
 
 -- ---- a repeat stays one
+-- a repeat in the first part
 pub repeats-left : (l m : List ℕ) → repeats l ≡ true → repeats (l ++ m) ≡ true
 repeats-left [] m e = absurd (let z : _≡_ {A = Bool} false true = e in both-no z)
   where
@@ -37,10 +41,12 @@ repeats-left (a ∷ l) m e = go (repeats-left l m) (or-yes (member a l) (repeats
     go r (inl h) = or-left (member a (l ++ m)) (repeats (l ++ m)) (any-append (eqb a) l m ∙ or-left (member a l) (member a m) h)
     go r (inr h) = or-right (member a (l ++ m)) (repeats (l ++ m)) (r h)
 
+-- a repeat in the second part
 pub repeats-right : (l m : List ℕ) → repeats m ≡ true → repeats (l ++ m) ≡ true
 repeats-right [] m e = e
 repeats-right (a ∷ l) m e = or-right (member a (l ++ m)) (repeats (l ++ m)) (repeats-right l m e)
 
+-- an entry that stands in the list put at its end
 pub repeats-end : (l : List ℕ) (c : ℕ) → member c l ≡ true → repeats (l ++ (c ∷ [])) ≡ true
 repeats-end [] c e = absurd (subst (λ (b : Bool). cond b ⊥ (Unit {0})) e tt)
 repeats-end (a ∷ l) c e = go (repeats-end l c) (or-yes (eqb c a) (member c l) e)
@@ -49,6 +55,7 @@ repeats-end (a ∷ l) c e = go (repeats-end l c) (or-yes (eqb c a) (member c l) 
     go r (inl h) = or-left (member a (l ++ (c ∷ []))) (repeats (l ++ (c ∷ []))) (any-append (eqb a) l (c ∷ []) ∙ or-right (member a l) (member a (c ∷ [])) (or-left (eqb a c) false (eqb-swap a c ∙ h)))
     go r (inr h) = or-right (member a (l ++ (c ∷ []))) (repeats (l ++ (c ∷ []))) (r h)
 
+-- an entry that is not in a list is none of its entries
 none-single : (c : ℕ) (l : List ℕ) → member c l ≡ false → any (λ (x : ℕ). member x (c ∷ [])) l ≡ false
 none-single c [] e = refl
 none-single c (a ∷ l) e =
@@ -60,9 +67,11 @@ unfoldable pub dirty : List ℕ → List ℕ → Bool
 dirty seen l = repeats l || any border l || any (λ (c : ℕ). member c seen) l
 
 module _ (seen : List ℕ) where
+  -- the test of having been on the frontier
   abbrev S : ℕ → Bool
   S c = member c seen
 
+  -- what is put after a list that may not be on the frontier does not mend it
   pub dirty-left : (l m : List ℕ) → dirty seen l ≡ true → dirty seen (l ++ m) ≡ true
   unfolding dirty
   dirty-left l m e = go (or-yes (repeats l || any border l) (any S l) e)
@@ -88,6 +97,7 @@ module _ (seen : List ℕ) where
       go (inl h) = or-left (repeats (l ++ (c ∷ [])) || any border (l ++ (c ∷ []))) (any S (l ++ (c ∷ []))) (or-right (repeats (l ++ (c ∷ []))) (any border (l ++ (c ∷ []))) (any-append border l (c ∷ []) ∙ or-right (any border l) (any border (c ∷ [])) (or-left (border c) false h)))
       go (inr h) = go₂ (or-yes (member c l) (member c seen) h)
 
+  -- an entry that is not barred leaves a clean list clean
   pub clean-end : (l : List ℕ) (c : ℕ) → dirty seen l ≡ false → border c ≡ false → (member c l || member c seen) ≡ false → dirty seen (l ++ (c ∷ [])) ≡ false
   unfolding dirty
   clean-end l c d b e =
@@ -96,10 +106,12 @@ module _ (seen : List ℕ) where
       let (i, o) = or-no (member c l) (member c seen) e in
       rw (repeats-append l (c ∷ []) r refl (none-single c l i), any-append border l (c ∷ []), g, b, any-append S l (c ∷ []), s, o)
 
+  -- a clean list has no repeat
   pub clean-once : (l : List ℕ) → dirty seen l ≡ false → repeats l ≡ false
   unfolding dirty
   clean-once l d = or-no (repeats l) (any border l) (or-no (repeats l || any border l) (any S l) d .0) .0
 
+  -- no context of a clean list was on the frontier
   pub clean-new : (l : List ℕ) → dirty seen l ≡ false → any S l ≡ false
   unfolding dirty
   clean-new l d = or-no (repeats l || any border l) (any S l) d .1
@@ -115,6 +127,7 @@ endsIn (a ∷ b ∷ l) c = endsIn (b ∷ l) c
 unfoldable pub joined : List ℕ → ℕ → List ℕ
 joined l c = cond (endsIn l c) l (l ++ (c ∷ []))
 
+-- squeezed after an entry
 after-end : (a : ℕ) (l : List ℕ) (c : ℕ) → a ∷ squeezeAfter a (l ++ (c ∷ [])) ≡ joined (a ∷ squeezeAfter a l) c
 unfolding joined endsIn
 after-end a [] c = go (eqb a c)
@@ -133,11 +146,13 @@ after-end a (b ∷ l) c = go (eqb a b) (after-end a l c) (after-end b l c)
     go true r s = r
     go false r s = ap {B = List ℕ} (λ x. a ∷ x) s ∙ more (endsIn (b ∷ squeezeAfter b l) c) (squeezeAfter b l)
 
+-- one more entry at the end
 pub squeeze-end : (l : List ℕ) (c : ℕ) → squeeze (l ++ (c ∷ [])) ≡ joined (squeeze l) c
 unfolding joined endsIn
 squeeze-end [] c = refl
 squeeze-end (a ∷ l) c = after-end a l c
 
+-- joining only adds at the end
 joined-more : (l : List ℕ) (c : ℕ) → (r : List ℕ) × (joined l c ≡ l ++ r)
 unfolding joined
 joined-more l c = go (endsIn l c)
@@ -146,6 +161,7 @@ joined-more l c = go (endsIn l c)
     go true = ([], sym (append-nil l))
     go false = (c ∷ [], refl)
 
+-- what is squeezed of a longer list begins with what is squeezed of its beginning
 pub squeeze-more : (l cs : List ℕ) → (r : List ℕ) × (squeeze (l ++ cs) ≡ squeeze l ++ r)
 squeeze-more l [] = ([], ap squeeze (append-nil l) ∙ sym (append-nil (squeeze l)))
 squeeze-more l (c ∷ cs) =
@@ -154,6 +170,7 @@ squeeze-more l (c ∷ cs) =
     (r ++ s, ap squeeze (sym (append-assoc l (c ∷ []) cs)) ∙ q ∙ ap (λ (x : List ℕ). x ++ s) (squeeze-end l c ∙ e) ∙ append-assoc (squeeze l) r s)
 
 -- ---- and at its beginning: what is squeezed stays the end of it
+-- squeezed after an entry
 before-more : (a : ℕ) (l m : List ℕ) → (r : List ℕ) × (a ∷ squeezeAfter a (l ++ m) ≡ r ++ squeeze m)
 before-more a [] [] = (a ∷ [], refl)
 before-more a [] (b ∷ m) = go (eqb a b) refl
@@ -168,6 +185,7 @@ before-more a (b ∷ l) m = go (eqb a b) (before-more a l m) (before-more b l m)
     go true h k = h
     go false h k = let (r, e) = k in (a ∷ r, ap {B = List ℕ} (λ x. a ∷ x) e)
 
+-- what is squeezed of a longer list ends with what is squeezed of its end
 pub squeeze-before : (l m : List ℕ) → (r : List ℕ) × (squeeze (l ++ m) ≡ r ++ squeeze m)
 squeeze-before [] m = ([], refl)
 squeeze-before (a ∷ l) m = before-more a l m

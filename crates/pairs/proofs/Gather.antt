@@ -24,19 +24,23 @@ use Rattle.pairs.proofs.Adding.{Good, addedAll, dirty-more, all-come}
 use Rattle.frontier.proofs.Under.{back-suc, below-is, depth-le, depth-padded, small-below, under-padded}
 
 -- ---- one position
+-- contexts added from the last of the ring on are added from left to right
 down-back : (l : List ℕ) (q : ℕ) (v : Line) → q ≤ length l → down (λ (t : ℕ) w. added w (getD l t 0)) q v ≡ addedAll v (reverse (take q l))
 unfolding down addedAll
 down-back l zero v h = refl
 down-back l (suc q) v h = down-back l q (added v (getD l q 0)) (omega arith) ∙ ap (addedAll v) (sym (back-suc l q h))
 
+-- nothing is taken where no entry is
 empty-back : (l : List ℕ) (q : ℕ) → q ≤ length l → empty (reverse (take q l)) ≡ eqb q 0
 empty-back l zero h = refl
 empty-back l (suc q) h = ap empty (back-suc l q h) ∙ sym (ne-eqb (suc q) 0 (λ e. omega arith))
 
 module _ (p : Plan) (f : List ℕ) where
+  -- nothing is below where the depth is 0
   pub empty-depth : (k : ℕ) → empty (below p f k) ≡ eqb (depth p f k) 0
   empty-depth k = ap empty (below-is p f k) ∙ empty-back (under p f k) (depth p f k) (depth-le p f k)
 
+  -- what is below a position is added, or the list fails
   added-is : (k : ℕ) (v : Line) → v .ok ≡ true → belowAdded p f k v ≡ cond (empty (below p f k)) (failed v) (addedAll v (below p f k))
   unfolding belowAdded backAdded
   added-is k v o =
@@ -44,15 +48,18 @@ module _ (p : Plan) (f : List ℕ) where
       ∙ ap (cond (eqb (depth p f k) 0) (failed v)) (down-back (under p f k) (depth p f k) v (depth-le p f k) ∙ ap (addedAll v) (sym (below-is p f k)))
       ∙ ap (λ (t : Bool). cond t (failed v) (addedAll v (below p f k))) (sym (empty-depth k))
 
+  -- a list that failed stays failed
   below-off : (k : ℕ) (v : Line) → v .ok ≡ false → (belowAdded p f k v) .ok ≡ false
   unfolding belowAdded
   below-off k v o = ap (λ (b : Bool). (cond b (backAdded p f k v) v) .ok) o ∙ o
 
+  -- and so over several positions
   each-off : (a k : ℕ) (v : Line) → v .ok ≡ false → (each (belowAdded p f) a k v) .ok ≡ false
   unfolding each
   each-off a zero v o = o
   each-off a (suc k) v o = each-off (suc a) k (belowAdded p f a v) (below-off a v o)
 
+  -- something is below the position
   abbrev has : ℕ → Bool
   has k = not (empty (below p f k))
 
@@ -67,6 +74,7 @@ module _ (p : Plan) (f : List ℕ) where
         (Good seen v (squeeze (l ++ raw a k)) × (all has (from a k) ≡ true))
         ⊎ ((v .ok ≡ false) × ((all has (from a k) && not (dirty seen (squeeze (l ++ raw a k)))) ≡ false))
 
+    -- one position
     gather-step : (a k : ℕ) (v : Line) (l : List ℕ) → Good seen v (squeeze l)
         → ((w : Line) → Good seen w (squeeze (l ++ below p f a)) → Gathers (suc a) k (each (belowAdded p f) (suc a) k w) (l ++ below p f a))
         → Gathers a (suc k) (each (belowAdded p f) a (suc k) v) l
@@ -91,21 +99,25 @@ module _ (p : Plan) (f : List ℕ) where
             (λ h. inr (each-off (suc a) k (addedAll v (below p f a)) (h .0), bad (all has (from a (suc k))) (dirty-more seen (l ++ below p f a) (raw (suc a) k) (h .1))))
             (all-come seen v l (below p f a) (small-below p f s a) g)
 
+    -- several positions
     gathers : (a k : ℕ) (v : Line) (l : List ℕ) → Good seen v (squeeze l) → Gathers a k (each (belowAdded p f) a k v) l
     unfolding each
     gathers a zero v l g = inl (subst (λ (m : List ℕ). Good seen v (squeeze m)) (sym (append-nil l)) g, refl)
     gathers a (suc k) v l g = gather-step a k v l g (λ w h. gathers (suc a) k w (l ++ below p f a) h)
 
 -- ---- the list of i and j, from the array that holds the frontier
+-- steps that agree, one after the other
 each-same : {A : Type 0} (s t : ℕ → A → A) (a k : ℕ) (v : A) → ((i : ℕ) (w : A) → s i w ≡ t i w) → each s a k v ≡ each t a k v
 unfolding each
 each-same s t a zero v h = refl
 each-same s t a (suc k) v h = ap (each s (suc a) k) (h a v) ∙ each-same s t (suc a) k (t a v) h
 
+-- what is added, on the array that holds the frontier
 below-padded : (p : Plan) (f : List ℕ) (k : ℕ) (v : Line) → belowAdded p (padded 512 f) k v ≡ belowAdded p f k v
 unfolding belowAdded backAdded
 below-padded p f k v = λ i. cond (v .ok) (cond (eqb (depth-padded p f k i) 0) (failed v) (down (λ (t : ℕ) w. added w (getD (under-padded p f k i) t 0)) (depth-padded p f k i) v)) v
 
+-- a fresh list is clean
 pub fresh-good : (seen m : List ℕ) → Marks m (λ (c : ℕ). member c seen) → Good seen (fresh m) []
 unfolding fresh padded dirty
 fresh-good seen m k = record { rep = record { ok = refl; len = refl; at = refl; short = omega arith }; marks = k; small = tt; clean = refl }
@@ -115,6 +127,7 @@ module _ (p : Plan) (s : Sane p) (seen f m : List ℕ) (k : Marks m (λ (c : ℕ
   abbrev pub allowed : Bool
   allowed = all (has p f) (from (suc i) (j - suc i)) && not (dirty seen (listed p f i j))
 
+  -- The engine's list is the model's and allowed, or it failed and the model's is not allowed
   pub listing-comes : (Good seen (listing p (padded 512 f) m (suc i) j) (listed p f i j) × (allowed ≡ true)) ⊎ (((listing p (padded 512 f) m (suc i) j) .ok ≡ false) × (allowed ≡ false))
   unfolding listing listed
   listing-comes =

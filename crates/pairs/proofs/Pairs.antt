@@ -30,6 +30,7 @@ use Rattle.pairs.proofs.Chordless.{chorded-is}
 use Rattle.pairs.specs.Run as run
 
 -- ---- contexts put at the end of a line
+-- a line holds what was put at its end
 append-rep : (src : List ℕ) (a k : ℕ) (v : Line) (l : List ℕ) → Rep v l → length l + k ≤ 512 → Rep (each (λ (i : ℕ) w. pushed w (getD src i 0)) a k v) (l ++ stretch src a k)
 unfolding each stretch
 append-rep src a zero v l r h = subst (Rep v) (sym (append-nil l)) r
@@ -39,12 +40,14 @@ append-rep src a (suc k) v l r h =
     subst (Rep (each (λ (i : ℕ) w. pushed w (getD src i 0)) (suc a) k (pushed v x))) (append-snoc l x (stretch src (suc a) k))
     (append-rep src (suc a) k (pushed v x) (l ++ (x ∷ [])) (push-rep v l x r (omega arith)) (omega arith))
 
+-- and its marks stay
 append-marks : (src : List ℕ) (a k : ℕ) (v : Line) → (each (λ (i : ℕ) w. pushed w (getD src i 0)) a k v) .marks ≡ v .marks
 unfolding each
 append-marks src a zero v = refl
 append-marks src a (suc k) v = append-marks src (suc a) k (pushed v (getD src a 0)) ∙ pushed-marks v (getD src a 0)
 
 module _ (f l : List ℕ) (i j : ℕ) (h : i < j) (q : j ≤ length f) (g : Line) (r : Rep g l) (fit : length l + length f ≤ 512) where
+  -- the line with the list in place holds the frontier with the list in place
   pub replaced-rep : Rep (run.replaced (padded 512 f) (length f) (suc i) j g) (replaced f i j l)
   unfolding run.replaced appended replaced
   replaced-rep =
@@ -64,6 +67,7 @@ module _ (f l : List ℕ) (i j : ℕ) (h : i < j) (q : j ≤ length f) (g : Line
       (stretch-part f j (length f - j) (omega arith) ∙ take-all (length f - j) (drop j f) (let z = length-drop j f in omega arith))
       (append-rep (padded 512 f) j (length f - j) w (take (suc i) f ++ l) two (omega arith))
 
+-- its marks are the list's
 pub replaced-marks : (f : List ℕ) (m a j : ℕ) (g : Line) → (run.replaced f m a j g) .marks ≡ g .marks
 unfolding run.replaced appended fresh
 replaced-marks f m a j g =
@@ -71,21 +75,26 @@ replaced-marks f m a j g =
     let two = each (λ (k : ℕ) w. pushed w (getD (g .at) k 0)) 0 (g .len - 0) one in
     append-marks f j (m - j) two ∙ append-marks (g .at) 0 (g .len - 0) one ∙ append-marks f 0 (a - 0) (line true 0 (zeros 512) (g .marks))
 
+-- every context of it is below 200
 small-replaced : (f l : List ℕ) (i j : ℕ) → Small f → Small l → Small (replaced f i j l)
 unfolding replaced
 small-replaced f l i j h k =
     small-append (take (suc i) f ++ l) (drop j f) (small-append (take (suc i) f) l (mem-small (take (suc i) f) (λ a m. small-mem f a h (mem-take (suc i) f a m))) k) (mem-small (drop j f) (λ a m. small-mem f a h (mem-drop j f a m)))
 
 module _ (p : Plan) (sane : Sane p) (s : State) (v : Line) (fr : Front s v) where
+  -- the frontier
   abbrev f : List ℕ
   f = s .frontier
 
+  -- the list of a pair
   abbrev list : ℕ → ℕ → Line
   list i j = listing p (v .at) (v .marks) (suc i) j
 
+  -- the list is allowed
   abbrev okay : ℕ → ℕ → Bool
   okay i j = allowed p sane (s .seen) f (v .marks) (fr .marks) i j
 
+  -- what the list comes to
   comes : (i j : ℕ) → (Good (s .seen) (list i j) (listed p f i j) × (okay i j ≡ true)) ⊎ (((list i j) .ok ≡ false) × (okay i j ≡ false))
   comes i j =
       subst (λ (a : List ℕ). (Good (s .seen) (listing p a (v .marks) (suc i) j) (listed p f i j) × (okay i j ≡ true)) ⊎ (((listing p a (v .marks) (suc i) j) .ok ≡ false) × (okay i j ≡ false)))
@@ -93,6 +102,7 @@ module _ (p : Plan) (sane : Sane p) (s : State) (v : Line) (fr : Front s v) wher
 
   -- what is listed is new, so there is room for it
   module _ (l : List ℕ) (once : repeats l ≡ false) (new : any (λ (c : ℕ). member c (s .seen)) l ≡ false) (small : Small l) where
+    -- the list has nothing of what came since the start
     apart : any (λ (c : ℕ). member c (fr .news)) l ≡ false
     apart = of-none (λ (c : ℕ). member c (fr .news)) l (λ a m. out a (none-of (λ (c : ℕ). member c (s .seen)) l new a m))
       where
@@ -103,9 +113,11 @@ module _ (p : Plan) (sane : Sane p) (s : State) (v : Line) (fr : Front s v) wher
             go false y = refl
             go true y = both (member a (s .seen)) (mem-member a (s .seen) (subst (List·Memᴰ a) (sym (fr .parts)) (Memᴰ·append-left (fr .olds) (member-mem a (fr .news) y)))) e
 
+    -- nothing that came since the start stands twice
     pub news-once : repeats (l ++ fr .news) ≡ false
     news-once = repeats-append l (fr .news) once (fr .once) apart
 
+    -- so the list and the frontier are short
     pub news-fit : length l + length f ≤ 455
     news-fit =
         let x = no-longer (l ++ fr .news) news-once (small-append l (fr .news) small (fr .few)) in
@@ -114,12 +126,15 @@ module _ (p : Plan) (sane : Sane p) (s : State) (v : Line) (fr : Front s v) wher
         omega arith
 
   module _ (i j : ℕ) (h : i + 2 ≤ j) (q : j < length f) where
+    -- the list of the pair
     abbrev l : List ℕ
     l = listed p f i j
 
+    -- the line after the step
     abbrev next : Line
     next = run.replaced (v .at) (v .len) (suc i) j (list i j)
 
+    -- it holds the new frontier
     new-rep : Good (s .seen) (list i j) l → Rep next (replaced f i j l)
     new-rep g =
         let fit = news-fit l (clean-once (s .seen) l (g .clean)) (clean-new (s .seen) l (g .clean)) (g .small) in
@@ -127,6 +142,7 @@ module _ (p : Plan) (sane : Sane p) (s : State) (v : Line) (fr : Front s v) wher
         (subst (λ (m : ℕ). Rep (run.replaced (padded 512 f) m (suc i) j (list i j)) (replaced f i j l)) (sym (fr .rep .len))
         (replaced-rep f l i j (omega arith) (omega arith) (list i j) (g .rep) (omega arith)))
 
+    -- the test for chords
     sound-is : Good (s .seen) (list i j) l → sound p next ≡ chordless p (replaced f i j l)
     unfolding sound
     sound-is g =
@@ -150,6 +166,7 @@ module _ (p : Plan) (sane : Sane p) (s : State) (v : Line) (fr : Front s v) wher
     unfolding eligible dirty
     gathered e = ⊎-elim (λ w. w .0) (λ w. both (okay i j) (and-yes (okay i j) (chordless p (replaced f i j l)) e .0) (w .1)) (comes i j)
 
+    -- the frontier of an eligible pair has no chord
     pub unchorded : eligible p s i j ≡ true → chordless p (replaced f i j l) ≡ true
     unfolding eligible dirty
     unchorded e = and-yes (okay i j) (chordless p (replaced f i j l)) e .1
