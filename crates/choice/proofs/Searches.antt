@@ -29,8 +29,8 @@ use Rattle.choice.specs.declared.Found.the-variants.{At, Nothing}
 use Rattle.frontier.specs.Front.{Sane, Front}
 use Rattle.frontier.specs.Run.{line}
 use Rattle.pairs.specs.Run.{placed, fits}
-use Rattle.choice.specs.Run.{knot, tangled, blocked, same, promising, startTrail}
-use Rattle.choice.specs.Search.{foundAs, Highs, Trails, Stops, bare, barred, Extends, Best}
+use Rattle.choice.specs.Run.{beyond, knot, tangled, blocked, same, promising, startTrail}
+use Rattle.choice.specs.Search.{foundAs, Trails, Stops, bare, barred, Extends, Best}
 use Rattle.pairs.proofs.Dirt.{repeats-right, or-left, squeeze-before, clean-once}
 use Rattle.frontier.proofs.Lines.{getD-padded, getD-none}
 use Rattle.pairs.proofs.Gather.{raw}
@@ -85,12 +85,12 @@ squeeze-cons c l false first h k e = ap (λ (m : List ℕ). squeeze (c ∷ m)) (
 squeeze-cons c l true first h k e = let (rest, q) = k refl in ap (λ (m : List ℕ). squeeze (c ∷ m)) q ∙ ap (λ (b : Bool). c ∷ cond b (squeezeAfter c rest) (first ∷ squeezeAfter first rest)) e ∙ ap (λ (m : List ℕ). c ∷ squeeze m) (sym q)
 
 -- why a context may not come before the list
-data Reason (p : Plan) (on seen high : List ℕ) (any : Bool) (first c fj j : ℕ) : Type 0 where
-  edge : ltb c 4 ≡ true → Reason p on seen high any first c fj j
-  old : eqb (getD seen c 0) 0 ≡ false → Reason p on seen high any first c fj j
-  twice : eqb (getD on c 0) 0 ≡ false → Reason p on seen high any first c fj j
-  right : ltb 1 (getD high c 0 - j) ≡ true → Reason p on seen high any first c fj j
-  knotted : any ≡ true → tangled p on c first fj ≡ true → Reason p on seen high any first c fj j
+data Reason (p : Plan) (on seen place : List ℕ) (any : Bool) (first c fj j : ℕ) : Type 0 where
+  edge : ltb c 4 ≡ true → Reason p on seen place any first c fj j
+  old : eqb (getD seen c 0) 0 ≡ false → Reason p on seen place any first c fj j
+  twice : eqb (getD on c 0) 0 ≡ false → Reason p on seen place any first c fj j
+  right : beyond p place c j ≡ true → Reason p on seen place any first c fj j
+  knotted : any ≡ true → tangled p on c first fj ≡ true → Reason p on seen place any first c fj j
 
 -- a test that does not fail passes
 not-false′ : (t : Bool) → not t ≡ true → t ≡ false
@@ -98,12 +98,12 @@ not-false′ true e = absurd (false≢true e)
 not-false′ false e = refl
 
 -- a context that may not come before the list has a reason
-reason : (p : Plan) (on seen high : List ℕ) (any : Bool) (first c fj j : ℕ) → blocked p on seen high any first c fj j ≡ true → (same any first c ≡ false) × Reason p on seen high any first c fj j
+reason : (p : Plan) (on seen place : List ℕ) (any : Bool) (first c fj j : ℕ) → blocked p on seen place any first c fj j ≡ true → (same any first c ≡ false) × Reason p on seen place any first c fj j
 unfolding blocked
-reason p on seen high any first c fj j e = go (same any first c) refl (ltb c 4) refl (not (eqb (getD seen c 0) 0)) refl (not (eqb (getD on c 0) 0)) refl (ltb 1 (getD high c 0 - j)) refl any refl e
+reason p on seen place any first c fj j e = go (same any first c) refl (ltb c 4) refl (not (eqb (getD seen c 0) 0)) refl (not (eqb (getD on c 0) 0)) refl (beyond p place c j) refl any refl e
   where
-    go : (a : Bool) → same any first c ≡ a → (b : Bool) → ltb c 4 ≡ b → (d : Bool) → not (eqb (getD seen c 0) 0) ≡ d → (k : Bool) → not (eqb (getD on c 0) 0) ≡ k → (g : Bool) → ltb 1 (getD high c 0 - j) ≡ g → (h : Bool) → any ≡ h
-        → cond a false (cond b true (cond d true (cond k true (cond g true (cond h (tangled p on c first fj) false))))) ≡ true → (same any first c ≡ false) × Reason p on seen high any first c fj j
+    go : (a : Bool) → same any first c ≡ a → (b : Bool) → ltb c 4 ≡ b → (d : Bool) → not (eqb (getD seen c 0) 0) ≡ d → (k : Bool) → not (eqb (getD on c 0) 0) ≡ k → (g : Bool) → beyond p place c j ≡ g → (h : Bool) → any ≡ h
+        → cond a false (cond b true (cond d true (cond k true (cond g true (cond h (tangled p on c first fj) false))))) ≡ true → (same any first c ≡ false) × Reason p on seen place any first c fj j
     go true x b y d z k w g u h v e = absurd (false≢true e)
     go false x true y d z k w g u h v e = (x, edge y)
     go false x false y true z k w g u h v e = (x, old (not-false′ (eqb (getD seen c 0) 0) z))
@@ -139,7 +139,7 @@ below-padded p f k = λ i. reverse-between (getD-padded 512 f (suc k) i) (getD-p
     reverse-between : ℕ → ℕ → ℕ → List ℕ
     reverse-between a b u = reverse (between a b (ring p u))
 
-module _ (p : Plan) (sane : Sane p) (s : State) (v : Line) (fr : Front s v) (high : List ℕ) (hi : Highs p (placed (v .at) (v .len)) high) (j : ℕ) (inside : j < v .len) where
+module _ (p : Plan) (sane : Sane p) (s : State) (v : Line) (fr : Front s v) (place : List ℕ) (hi : place ≡ placed (v .at) (v .len)) (j : ℕ) (inside : j < v .len) where
   -- the frontier
   abbrev f : List ℕ
   f = s .frontier
@@ -261,14 +261,18 @@ module _ (p : Plan) (sane : Sane p) (s : State) (v : Line) (fr : Front s v) (hig
             go (w, a, inr (n, m)) = not-later some w (tr .marks w m) n a
 
         -- nor one beyond j
-        not-right : ltb 1 (getD high c 0 - j) ≡ true → ⊥
+        not-right : beyond p place c j ≡ true → ⊥
+        unfolding beyond
         not-right b =
-            let far = ltb-true 1 (getD high c 0 - j) b in
-            let x : ℕ = getD high c 0 - 1 in
-            let (w, m, z) = hi .real c .real x (omega arith) in
-            let (x-in, x-is) = placed-real (v .at) (v .len) w x z in
+            let r = ring p c in
+            let (y, _, y-in, q) = some-one (λ (i : ℕ). ltb 1 (getD place (getD r i 0) 0 - j)) 0 (length r - 0) b in
+            let w = getD r y 0 in
+            let far = ltb-true 1 (getD place w 0 - j) q in
+            let x : ℕ = getD place w 0 - 1 in
+            let z : getD place w 0 ≡ suc x = omega arith in
+            let (x-in, x-is) = placed-real (v .at) (v .len) w x (ap (λ (l : List ℕ). getD l w 0) (sym hi) ∙ z) in
             let len = fr .rep .len in
-            both (adjacent p c (getD f x 0)) (ap (adjacent p c) (sym (at-same x) ∙ x-is) ∙ mem-adjacent p c w m) (clear .right-clear x (omega arith) (omega arith))
+            both (adjacent p c (getD f x 0)) (ap (adjacent p c) (sym (at-same x) ∙ x-is) ∙ mem-adjacent p c w (getD-mem r y (omega arith))) (clear .right-clear x (omega arith) (omega arith))
 
         -- nor was c on the frontier
         not-old : eqb (getD (v .marks) c 0) 0 ≡ false → ⊥
@@ -277,7 +281,7 @@ module _ (p : Plan) (sane : Sane p) (s : State) (v : Line) (fr : Front s v) (hig
             both (eqb (getD (v .marks) c 0) 0) (fr .marks .mark c (omega arith) ∙ ap not (clear .new)) b
 
         -- so there is no reason
-        no-reason : Reason p (t .on) (v .marks) high (t .some) (t .first) c (getD (v .at) j 0) j → ⊥
+        no-reason : Reason p (t .on) (v .marks) place (t .some) (t .first) c (getD (v .at) j 0) j → ⊥
         no-reason (edge b) = both (border c) b (clear .inner)
         no-reason (old b) = not-old b
         no-reason (twice b) = not-twice (tr .marks c (eqb-false (getD (t .on) c 0) 0 b))
@@ -285,15 +289,15 @@ module _ (p : Plan) (sane : Sane p) (s : State) (v : Line) (fr : Front s v) (hig
         no-reason (knotted a b) = not-knotted a b
 
   -- where a search stops, no lower i is eligible
-  pub dead : (k : ℕ) → k < j → Stops p (v .at) (v .len) (v .marks) high j k (raw p f (suc k) (j - suc k)) → (i : ℕ) → i < k → eligible p s i j ≡ false
+  pub dead : (k : ℕ) → k < j → Stops p (v .at) (v .len) (v .marks) place j k (raw p f (suc k) (j - suc k)) → (i : ℕ) → i < k → eligible p s i j ≡ false
   dead k h stop i q = go (eligible p s i j) refl stop
     where
-      go : (b : Bool) → eligible p s i j ≡ b → Stops p (v .at) (v .len) (v .marks) high j k (raw p f (suc k) (j - suc k)) → b ≡ false
+      go : (b : Bool) → eligible p s i j ≡ b → Stops p (v .at) (v .len) (v .marks) place j k (raw p f (suc k) (j - suc k)) → b ≡ false
       go false e st = refl
       go true e (bare z) =
           both (empty (below p f k)) (ap empty (sym (below-same k) ∙ z)) (something-below p s i j (record { apart = omega arith; inside = within }) e k q h)
       go true e (barred pre post c t z tr b) =
-          let (other, why) = reason p (t .on) (v .marks) high (t .some) (t .first) c (getD (v .at) j 0) j b in
+          let (other, why) = reason p (t .on) (v .marks) place (t .some) (t .first) c (getD (v .at) j 0) j b in
           absurd (no-reason i (omega arith) e k q h pre post c (sym (below-same k) ∙ z) t tr other why)
 
   -- a context of the list is listed left of i: i is not eligible
@@ -382,7 +386,7 @@ module _ (p : Plan) (sane : Sane p) (s : State) (v : Line) (fr : Front s v) (hig
   pub seeking-end : {k : ℕ} {t : Trail} → Seeking k t → k ≤ 1 → Best p s j 0
   seeking-end inv h = record { none = λ e i b. inv .none i (omega arith) b; some = λ i e. absurd (omega arith) }
 
-  module _ {k : ℕ} {t : Trail} (inv : Seeking k t) (h : 1 < k) {k′ : ℕ} (q : k ≡ suc k′) {r : Trail} (ext : Extends p (v .at) (v .len) (v .marks) high j k′ t r) where
+  module _ {k : ℕ} {t : Trail} (inv : Seeking k t) (h : 1 < k) {k′ : ℕ} (q : k ≡ suc k′) {r : Trail} (ext : Extends p (v .at) (v .len) (v .marks) place j k′ t r) where
     -- what the trail knew
     before : Trails p (v .at) (v .len) (raw p f (suc k′) (j - suc k′)) t
     before = subst (λ (n : ℕ). Trails p (v .at) (v .len) (raw p f n (j - n)) t) q (inv .trails)

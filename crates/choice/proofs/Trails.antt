@@ -16,7 +16,7 @@ use Rattle.model.proofs.Plans.{mem-adjacent}
 use Rattle.choice.specs.declared.Trail.{Trail}
 use Rattle.frontier.specs.Run.{depth, under}
 use Rattle.choice.specs.Run.{trail, startTrail, blocked}
-use Rattle.choice.specs.Search.{Lows, Reaches, Highs, Trails, bare, barred, Extends}
+use Rattle.choice.specs.Search.{Lows, Trails, bare, barred, Extends}
 use Rattle.frontier.proofs.Lines.{getD-none}
 use Rattle.frontier.proofs.Under.{below-is, depth-le, back-suc}
 
@@ -55,28 +55,6 @@ module _ {p : Plan} where
           let z : k - 1 ≡ t = omega arith in
           (omega arith, (λ i. adjacent p (getD f (sym z i) 0) (same i)) ∙ ap (λ (w : ℕ). adjacent p w c) (sym e) ∙ mem-adjacent p u c n)
       go d t (inr q) = h .real d t q
-
-  -- ---- the highest positions
-  -- nothing yet
-  pub reaches-start : {place : List ℕ} {c : ℕ} → Reaches p place c 0
-  reaches-start = record { real = λ t e. no-zero t e }
-
-  -- one more neighbour
-  pub reaches-on : {place : List ℕ} {c top x w r : ℕ} → Reaches p place c top → x ≡ getD place w 0 → List·Memᴰ w (ring p c) → (r ≡ top) ⊎ (r ≡ x) → Reaches p place c r
-  reaches-on h e n (inl q) = record { real = λ t z. h .real t (sym q ∙ z) }
-  reaches-on {w = w} h e n (inr q) = record { real = λ t z. (w, n, sym e ∙ sym q ∙ z) }
-
-  -- a table of zeros
-  pub highs-start : {place high : List ℕ} → high ≡ zeros 256 → Highs p place high
-  highs-start e = record { real = λ c. record { real = λ t q. no-zero t (sym (getD-none 256 c) ∙ ap (λ (l : List ℕ). getD l c 0) (sym e) ∙ q) } }
-
-  -- the number of one context
-  pub highs-put : {place high : List ℕ} {c x : ℕ} → Highs p place high → Reaches p place c x → Highs p place (set high c x)
-  highs-put {place} {high} {c} {x} h r = record { real = λ d. record { real = λ t q. go d t (set-cases high c x d t q) } }
-    where
-      go : (d t : ℕ) → ((d ≡ c) × (x ≡ suc t)) ⊎ (getD high d 0 ≡ suc t) → (w : ℕ) × List·Memᴰ w (ring p d) × (getD place w 0 ≡ suc t)
-      go d t (inl (same, at)) = subst (λ (b : ℕ). (w : ℕ) × List·Memᴰ w (ring p b) × (getD place w 0 ≡ suc t)) (sym same) (r .real t at)
-      go d t (inr q) = h .real d .real t q
 
   -- ---- the trail of a list
   -- the trail of no list
@@ -134,7 +112,7 @@ module _ {p : Plan} {f : List ℕ} {m k : ℕ} {old : Trail} {t : ℕ} {cur : Tr
       }
 
   -- after the loop
-  pub grows-end : {s : Bool} {first lo : ℕ} {on : List ℕ} → cur ≡ trail true s first lo on → depth p f k ≤ t → t ≤ depth p f k → {seen high : List ℕ} {j : ℕ} → Extends p f m seen high j k old (trail true s first lo on)
+  pub grows-end : {s : Bool} {first lo : ℕ} {on : List ℕ} → cur ≡ trail true s first lo on → depth p f k ≤ t → t ≤ depth p f k → {seen place : List ℕ} {j : ℕ} → Extends p f m seen place j k old (trail true s first lo on)
   grows-end {s} {first} {lo} {on} e h q =
       let z : t ≡ depth p f k = omega arith in
       record {
@@ -143,9 +121,9 @@ module _ {p : Plan} {f : List ℕ} {m k : ℕ} {old : Trail} {t : ℕ} {cur : Tr
       }
 
   -- a context may not come before the list
-  pub grows-stop : {s : Bool} {c first lo : ℕ} {on seen high : List ℕ} {j : ℕ} → t < depth p f k → c ≡ getD (under p f k) t 0
-      → blocked p (cur .on) seen high (cur .some) (cur .first) c (getD f j 0) j ≡ true → Extends p f m seen high j k old (trail false s first lo on)
-  grows-stop {s} {c} {seen = seen} {high = high} {j = j} h e b =
+  pub grows-stop : {s : Bool} {c first lo : ℕ} {on seen place : List ℕ} {j : ℕ} → t < depth p f k → c ≡ getD (under p f k) t 0
+      → blocked p (cur .on) seen place (cur .some) (cur .first) c (getD f j 0) j ≡ true → Extends p f m seen place j k old (trail false s first lo on)
+  grows-stop {s} {c} {seen = seen} {place = place} {j = j} h e b =
       let long = depth-le p f k in
       let d = depth p f k - suc t in
       let (pre, q) = back-split (under p f k) t d (omega arith) in
@@ -159,13 +137,13 @@ module _ {p : Plan} {f : List ℕ} {m k : ℕ} {old : Trail} {t : ℕ} {cur : Tr
       }
 
 -- nothing is below
-pub extends-bare : {p : Plan} {f : List ℕ} {m k : ℕ} {seen high : List ℕ} {j : ℕ} (old : Trail) {s : Bool} {first lo : ℕ} {on : List ℕ} → depth p f k ≡ 0 → Extends p f m seen high j k old (trail false s first lo on)
+pub extends-bare : {p : Plan} {f : List ℕ} {m k : ℕ} {seen place : List ℕ} {j : ℕ} (old : Trail) {s : Bool} {first lo : ℕ} {on : List ℕ} → depth p f k ≡ 0 → Extends p f m seen place j k old (trail false s first lo on)
 extends-bare {p} {f} {k = k} old e = record { on = λ l a n. absurd (false≢true n); off = λ l a _. bare (below-is p f k ∙ ap (λ (i : ℕ). reverse (take i (under p f k))) e) }
 
 -- a trail that was not ok is extended as one that was
-pub extends-same : {p : Plan} {f : List ℕ} {m : ℕ} {seen high : List ℕ} {j k : ℕ} (old : Trail) {r : Trail} → Extends p f m seen high j k (trail true (old .some) (old .first) (old .lo) (old .on)) r → Extends p f m seen high j k old r
+pub extends-same : {p : Plan} {f : List ℕ} {m : ℕ} {seen place : List ℕ} {j k : ℕ} (old : Trail) {r : Trail} → Extends p f m seen place j k (trail true (old .some) (old .first) (old .lo) (old .on)) r → Extends p f m seen place j k old r
 extends-same old e = record { on = λ l a. e .on l (trails-ok a); off = λ l a. e .off l (trails-ok a) }
 
 -- the same of a trail that is equal
-pub extends-as : {p : Plan} {f : List ℕ} {m : ℕ} {seen high : List ℕ} {j k : ℕ} {t r r′ : Trail} → r′ ≡ r → Extends p f m seen high j k t r → Extends p f m seen high j k t r′
-extends-as {p} {f} {m} {seen} {high} {j} {k} {t} e h = subst (Extends p f m seen high j k t) (sym e) h
+pub extends-as : {p : Plan} {f : List ℕ} {m : ℕ} {seen place : List ℕ} {j k : ℕ} {t r r′ : Trail} → r′ ≡ r → Extends p f m seen place j k t r → Extends p f m seen place j k t r′
+extends-as {p} {f} {m} {seen} {place} {j} {k} {t} e h = subst (Extends p f m seen place j k t) (sym e) h

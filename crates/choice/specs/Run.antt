@@ -29,16 +29,20 @@ knot on first fj w = cond (eqb w fj) true (cond (eqb w first) false (not (eqb (g
 unfoldable pub tangled : Plan → List ℕ → ℕ → ℕ → ℕ → Bool
 tangled p on c first fj = some (λ t. knot on first fj (getD (ring p c) t 0)) 0 (length (ring p c))
 
+-- some neighbour of c stands on the frontier beyond position j; the table has one more than the position of each context
+unfoldable pub beyond : Plan → List ℕ → ℕ → ℕ → Bool
+beyond p place c j = some (λ t. ltb 1 (getD place (getD (ring p c) t 0) 0 - j)) 0 (length (ring p c))
+
 -- the pair of positions k − 1 and j may be eligible: no position before k − 1 lists a context of the list, and position k − 1 lists neither the context at j nor one of the list but the first
 unfoldable pub promising : Plan → List ℕ → Trail → ℕ → ℕ → Bool
 promising p f t k j = cond (ltb (t .lo) (k - 1)) false (not (tangled p (t .on) (getD f (k - 1) 0) (t .first) (getD f j 0)))
 
 -- c may not come before the list: a border context, one that is or was on the frontier, one that is on the list and not its first, one with a neighbour on the frontier beyond j, or one with a neighbour that would not be adjacent to it
 unfoldable pub blocked : Plan → List ℕ → List ℕ → List ℕ → Bool → ℕ → ℕ → ℕ → ℕ → Bool
-blocked p on seen high any first c fj j =
+blocked p on seen place any first c fj j =
     cond (same any first c) false
     (cond (ltb c 4) true
     (cond (not (eqb (getD seen c 0) 0)) true
     (cond (not (eqb (getD on c 0) 0)) true
-    (cond (ltb 1 (getD high c 0 - j)) true
+    (cond (beyond p place c j) true
     (cond any (tangled p on c first fj) false)))))

@@ -5,7 +5,7 @@ use mathlib.Core.List.{List, [], _∷_, _++_, List·Memᴰ}
 use mathlib.Core.Bool.{true, false}
 use lib.ListN.{getD}
 use Rattle.model.specs.Outcome.{Outcome, accepted, refused}
-use Rattle.model.specs.Plan.{Plan, ring, adjacent}
+use Rattle.model.specs.Plan.{Plan, adjacent}
 use Rattle.model.specs.Sweep.{State, below, eligible}
 use Rattle.choice.specs.declared.Trail.{Trail}
 use Rattle.choice.specs.declared.Found.{Found}
@@ -21,14 +21,6 @@ foundAs Nothing = refused 14 0
 pub record Lows (p : Plan) (f : List ℕ) (m : ℕ) (low : List ℕ) : Type 0 where
   pub real : (c t : ℕ) → getD low c 0 ≡ suc t → (t < m) × (adjacent p (getD f t 0) c ≡ true)
 
--- the number stands in the table at a neighbour of c
-pub record Reaches (p : Plan) (place : List ℕ) (c x : ℕ) : Type 0 where
-  pub real : (t : ℕ) → x ≡ suc t → (w : ℕ) × List·Memᴰ w (ring p c) × (getD place w 0 ≡ suc t)
-
--- each number of the table is one that the context reaches
-pub record Highs (p : Plan) (place : List ℕ) (high : List ℕ) : Type 0 where
-  pub real : (c : ℕ) → Reaches p place c (getD high c 0)
-
 -- what a trail knows of a list, in a frontier of m contexts
 pub record Trails (p : Plan) (f : List ℕ) (m : ℕ) (l : List ℕ) (t : Trail) : Type 0 where
   pub none : t .some ≡ false → l ≡ []
@@ -37,14 +29,14 @@ pub record Trails (p : Plan) (f : List ℕ) (m : ℕ) (l : List ℕ) (t : Trail)
   pub lo : t .lo < m → (c : ℕ) × List·Memᴰ c l × (adjacent p (getD f (t .lo) 0) c ≡ true)
 
 -- nothing is below position k, or a context below it may not come before the list
-pub data Stops (p : Plan) (f : List ℕ) (m : ℕ) (seen high : List ℕ) (j k : ℕ) (l : List ℕ) : Type 0 where
-  bare : below p f k ≡ [] → Stops p f m seen high j k l
-  barred : (pre post : List ℕ) (c : ℕ) (t : Trail) → below p f k ≡ pre ++ (c ∷ post) → Trails p f m (post ++ l) t → blocked p (t .on) seen high (t .some) (t .first) c (getD f j 0) j ≡ true → Stops p f m seen high j k l
+pub data Stops (p : Plan) (f : List ℕ) (m : ℕ) (seen place : List ℕ) (j k : ℕ) (l : List ℕ) : Type 0 where
+  bare : below p f k ≡ [] → Stops p f m seen place j k l
+  barred : (pre post : List ℕ) (c : ℕ) (t : Trail) → below p f k ≡ pre ++ (c ∷ post) → Trails p f m (post ++ l) t → blocked p (t .on) seen place (t .some) (t .first) c (getD f j 0) j ≡ true → Stops p f m seen place j k l
 
 -- what a trail comes to when what is below position k is put before the list
-pub record Extends (p : Plan) (f : List ℕ) (m : ℕ) (seen high : List ℕ) (j k : ℕ) (t r : Trail) : Type 0 where
+pub record Extends (p : Plan) (f : List ℕ) (m : ℕ) (seen place : List ℕ) (j k : ℕ) (t r : Trail) : Type 0 where
   pub on : (l : List ℕ) → Trails p f m l t → r .ok ≡ true → Trails p f m (below p f k ++ l) r
-  pub off : (l : List ℕ) → Trails p f m l t → r .ok ≡ false → Stops p f m seen high j k l
+  pub off : (l : List ℕ) → Trails p f m l t → r .ok ≡ false → Stops p f m seen place j k l
 
 -- one more than the largest i that is eligible with j; 0 where there is none
 pub record Best (p : Plan) (s : State) (j r : ℕ) : Type 0 where

@@ -11,7 +11,7 @@ ghost use Rattle.frontier.specs.Run.{line};
 ghost use Rattle.pairs.specs.Run.{placed};
 ghost use Rattle.choice.specs.Run as run;
 ghost use Rattle.frontier.specs.Front.{Sane, Front};
-ghost use Rattle.choice.specs.Search.{foundAs, Lows, Reaches, Highs, Trails, Extends, Best};
+ghost use Rattle.choice.specs.Search.{foundAs, Lows, Trails, Extends, Best};
 use frontier::Line;
 
 // What a search knows of the list so far: whether there is one, its first context, the lowest frontier position that lists some context of it, and a mark for each context of it. It is not ok where the list is good for no pair.
@@ -59,58 +59,6 @@ fn lows<'a>(
     low
 }
 
-// The greater of two numbers.
-fn greater(a: usize, b: usize) -> usize
-    ensures { λ r. ⌜ (r ≡ a) ⊎ (r ≡ b) ⌝ }
-{
-    if a < b { b } else { a }
-}
-
-// The greatest number of the table at a neighbour of c; 0 where there is none.
-fn high_of<'a>(
-    starts: &'a [u16],
-    sizes: &'a [u8],
-    entries: &'a [u16],
-    n: usize,
-    place: &'a [usize],
-    c: usize,
-) -> usize
-    ensures { λ r. ⌜ Reaches (rows (now (starts .entry)) (now (sizes .entry)) (now (entries .entry)) n) (now (place .entry)) c r ⌝ }
-{
-    let q = rings::size_of(sizes, n, c);
-    let mut top = 0;
-    let mut t = 0;
-    while t < q {
-        let w = rings::neighbour_at(starts, sizes, entries, n, c, t);
-        top = greater(top, lists::whole(place, w));
-        t += 1;
-    }
-    top
-}
-
-// For each context that is not seen the greatest number of the table at one of its neighbours; 0 where there is none.
-fn highs<'a>(
-    starts: &'a [u16],
-    sizes: &'a [u8],
-    entries: &'a [u16],
-    n: usize,
-    place: &'a [usize],
-    seen: &'a [u8],
-) -> [usize; 256]
-    ensures { λ r. ⌜ Highs (rows (now (starts .entry)) (now (sizes .entry)) (now (entries .entry)) n) (now (place .entry)) r ⌝ }
-{
-    let mut high = [0usize; 256];
-    let mut d = 0;
-    while d < 200 {
-        let c = d;
-        d += 1;
-        if lists::byte(seen, c) == 0 {
-            high[c] = high_of(starts, sizes, entries, n, place, c);
-        }
-    }
-    high
-}
-
 // Is w fj, or marked and not the first?
 fn knot(on: &[u8], first: usize, fj: usize, w: usize) -> bool
     ensures { λ r. ⌜ r ≡ run.knot (now (on .entry)) first fj w ⌝ }
@@ -153,6 +101,30 @@ fn tangled<'a>(
     false
 }
 
+// Does some neighbour of c stand on the frontier beyond position j?
+fn beyond<'a>(
+    starts: &'a [u16],
+    sizes: &'a [u8],
+    entries: &'a [u16],
+    n: usize,
+    place: &'a [usize],
+    c: usize,
+    j: usize,
+) -> bool
+    ensures { λ r. ⌜ r ≡ run.beyond (rows (now (starts .entry)) (now (sizes .entry)) (now (entries .entry)) n) (now (place .entry)) c j ⌝ }
+{
+    let q = rings::size_of(sizes, n, c);
+    let mut t = 0;
+    while t < q {
+        let w = rings::neighbour_at(starts, sizes, entries, n, c, t);
+        if lists::minus(lists::whole(place, w), j) > 1 {
+            return true;
+        }
+        t += 1;
+    }
+    false
+}
+
 // May c not come before the list?
 fn blocked<'a>(
     starts: &'a [u16],
@@ -161,14 +133,14 @@ fn blocked<'a>(
     n: usize,
     on: &'a [u8],
     seen: &'a [u8],
-    high: &'a [usize],
+    place: &'a [usize],
     some: bool,
     first: usize,
     c: usize,
     fj: usize,
     j: usize,
 ) -> bool
-    ensures { λ r. ⌜ r ≡ run.blocked (rows (now (starts .entry)) (now (sizes .entry)) (now (entries .entry)) n) (now (on .entry)) (now (seen .entry)) (now (high .entry)) some first c fj j ⌝ }
+    ensures { λ r. ⌜ r ≡ run.blocked (rows (now (starts .entry)) (now (sizes .entry)) (now (entries .entry)) n) (now (on .entry)) (now (seen .entry)) (now (place .entry)) some first c fj j ⌝ }
 {
     if same(some, first, c) {
         return false;
@@ -182,7 +154,7 @@ fn blocked<'a>(
     if lists::byte(on, c) != 0 {
         return true;
     }
-    if lists::minus(lists::whole(high, c), j) > 1 {
+    if beyond(starts, sizes, entries, n, place, c, j) {
         return true;
     }
     if some {
@@ -230,14 +202,14 @@ fn extend<'a>(
     f: &'a [u16],
     m: usize,
     seen: &'a [u8],
-    high: &'a [usize],
+    place: &'a [usize],
     low: &'a [usize],
     trail: Trail,
     k: usize,
     j: usize,
 ) -> Trail
     requires { ⌜ Lows (rows (now starts) (now sizes) (now entries) n) (now f) m (now low) ⌝ }
-    ensures { λ r. ⌜ Extends (rows (now (starts .entry)) (now (sizes .entry)) (now (entries .entry)) n) (now (f .entry)) m (now (seen .entry)) (now (high .entry)) j k trail r ⌝ }
+    ensures { λ r. ⌜ Extends (rows (now (starts .entry)) (now (sizes .entry)) (now (entries .entry)) n) (now (f .entry)) m (now (seen .entry)) (now (place .entry)) j k trail r ⌝ }
 {
     let mut on = trail.on;
     let mut some = trail.some;
@@ -260,7 +232,7 @@ fn extend<'a>(
             n,
             &on,
             seen,
-            high,
+            place,
             some,
             first,
             c,
@@ -332,12 +304,12 @@ fn search<'a>(
     f: &'a [u16],
     m: usize,
     marks: [u8; 256],
-    high: &'a [usize],
+    place: &'a [usize],
     low: &'a [usize],
     j: usize,
 ) -> usize
     requires { ⌜ Lows (rows (now starts) (now sizes) (now entries) n) (now f) m (now low) ⌝ }
-    requires { ⌜ Highs (rows (now starts) (now sizes) (now entries) n) (placed (now f) m) (now high) ⌝ }
+    requires { ⌜ now place ≡ placed (now f) m ⌝ }
     requires { ⌜ j < m ⌝ }
     ensures { λ r. ⌜ (Sane (rows (now (starts .entry)) (now (sizes .entry)) (now (entries .entry)) n) → (s : State) → Front s (line true m (now (f .entry)) marks) → Best (rows (now (starts .entry)) (now (sizes .entry)) (now (entries .entry)) n) s j r) ⌝ }
 {
@@ -352,7 +324,7 @@ fn search<'a>(
             f,
             m,
             &marks,
-            high,
+            place,
             low,
             trail,
             k - 1,
@@ -381,16 +353,16 @@ fn best<'a>(
     f: &'a [u16],
     m: usize,
     marks: [u8; 256],
-    high: &'a [usize],
+    place: &'a [usize],
     low: &'a [usize],
 ) -> Found
     requires { ⌜ Lows (rows (now starts) (now sizes) (now entries) n) (now f) m (now low) ⌝ }
-    requires { ⌜ Highs (rows (now starts) (now sizes) (now entries) n) (placed (now f) m) (now high) ⌝ }
+    requires { ⌜ now place ≡ placed (now f) m ⌝ }
     ensures { λ r. ⌜ (Sane (rows (now (starts .entry)) (now (sizes .entry)) (now (entries .entry)) n) → (s : State) → Front s (line true m (now (f .entry)) marks) → foundAs r ≡ choose (rows (now (starts .entry)) (now (sizes .entry)) (now (entries .entry)) n) s (choices (s .frontier))) ⌝ }
 {
     let mut j = m;
     while j > 0 {
-        let i = search(starts, sizes, entries, n, f, m, marks, high, low, j - 1);
+        let i = search(starts, sizes, entries, n, f, m, marks, place, low, j - 1);
         if i > 0 {
             return Found::At(i - 1, j - 1);
         }
@@ -413,7 +385,6 @@ pub fn choose<'a>(
     let marks = v.marks;
     let m = v.len;
     let place = pairs::chords::placed(&f, m);
-    let high = highs(starts, sizes, entries, n, &place, &marks);
     let low = lows(starts, sizes, entries, n, &f, m);
-    best(starts, sizes, entries, n, &f, m, marks, &high, &low)
+    best(starts, sizes, entries, n, &f, m, marks, &place, &low)
 }

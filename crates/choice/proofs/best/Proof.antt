@@ -12,10 +12,10 @@ use Rattle.choice.proofs.best.Statement.{statement}
 use Rattle.choice.proofs.best.Tie as tie
 
 abbrev Inv-loop : tie.InvT-loop
-Inv-loop starts sizes entries n f m marks high low j₀ j = (j ≤ m) × (Sane (rows starts sizes entries n) → (s : State) → Front s (line true m f marks) → Choosing (rows starts sizes entries n) s j)
+Inv-loop starts sizes entries n f m marks place low j₀ j = (j ≤ m) × (Sane (rows starts sizes entries n) → (s : State) → Front s (line true m f marks) → Choosing (rows starts sizes entries n) s j)
 
 abbrev μ-loop : tie.MeasureT-loop
-μ-loop starts sizes entries n f m marks high low j₀ j = j
+μ-loop starts sizes entries n f m marks place low j₀ j = j
 
 loop-holds : tie.Need-loop-holds Inv-loop μ-loop
 loop-holds c = (omega arith, λ sane s fr. choosing-start (let e = fr .rep .len in omega arith))

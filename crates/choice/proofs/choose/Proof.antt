@@ -1,28 +1,14 @@
 -- choose meets its contract.
-use mathlib.Core.Path.{subst}
-use mathlib.Core.List.{List}
-use Prim.Native.Nat.{ℕ}
 use borrow.Author.Needs.{needs}
-use Rattle.rings.specs.Tables.{rows}
-use Rattle.choice.specs.Search.{Highs}
 use Rattle.choice.proofs.Searches.{front-plain}
-use Rattle.choice.proofs.choose.Statement.{statement}
-use Rattle.choice.proofs.choose.Tie as tie
+use Rattle.choice.proofs.Statement.{statement}
+use Rattle.choice.proofs.Tie as tie
 
 slice-aggregate-placed : tie.Need-slice-aggregate-placed
 slice-aggregate-placed c = search needs
 
 placed-requires : tie.Need-placed-requires
 placed-requires c κs = search needs
-
-slice-aggregate-highs : tie.Need-slice-aggregate-highs
-slice-aggregate-highs c = search needs
-
-slice-aggregate-highs-2 : tie.Need-slice-aggregate-highs-2
-slice-aggregate-highs-2 c = search needs
-
-highs-requires : tie.Need-highs-requires
-highs-requires c κs = search needs
 
 slice-aggregate-lows : tie.Need-slice-aggregate-lows
 slice-aggregate-lows c = search needs
@@ -40,12 +26,10 @@ slice-aggregate-best-3 : tie.Need-slice-aggregate-best-3
 slice-aggregate-best-3 c = search needs
 
 best-requires : tie.Need-best-requires
-best-requires c κs =
-    let a = c .before .before .before .before .before .before .before .before .before .before .before .before .before .before .before .args in
-    (c .before .before .before .lows .ensures, subst (λ (l : List ℕ). Highs (rows (a .starts .now) (a .sizes .now) (a .entries .now) (a .n)) l (c .before .before .before .before .before .highs .result)) (c .before .before .before .before .before .before .before .before .placed .ensures) (c .before .before .before .before .before .highs .ensures))
+best-requires c κs = (c .before .before .before .lows .ensures, c .before .before .before .before .before .placed .ensures)
 
 returns : tie.Need-returns
 returns c = λ sane s fr. c .best .ensures sane s (front-plain fr)
 
 pub choose-spec : {M : Type 1} → statement M
-choose-spec = tie.close (tie.spec slice-aggregate-placed placed-requires slice-aggregate-highs slice-aggregate-highs-2 highs-requires slice-aggregate-lows lows-requires slice-aggregate-best slice-aggregate-best-2 slice-aggregate-best-3 best-requires returns)
+choose-spec = tie.close (tie.spec slice-aggregate-placed placed-requires slice-aggregate-lows lows-requires slice-aggregate-best slice-aggregate-best-2 slice-aggregate-best-3 best-requires returns)

@@ -16,10 +16,10 @@ use Rattle.choice.proofs.extend.Tie as tie
 use Rattle.choice.specs.Run as run
 
 abbrev Inv-loop : tie.InvT-loop
-Inv-loop starts sizes entries n f m seen high low k j on₀ some₀ first₀ lo₀ q u x fj t₀ on some first lo t = (t ≤ q) × (length on ≡ 256) × Grows (rows starts sizes entries n) f m k (run.trail true some₀ first₀ lo₀ on₀) t (run.trail true some first lo on)
+Inv-loop starts sizes entries n f m seen place low k j on₀ some₀ first₀ lo₀ q u x fj t₀ on some first lo t = (t ≤ q) × (length on ≡ 256) × Grows (rows starts sizes entries n) f m k (run.trail true some₀ first₀ lo₀ on₀) t (run.trail true some first lo on)
 
 abbrev μ-loop : tie.MeasureT-loop
-μ-loop starts sizes entries n f m seen high low k j on₀ some₀ first₀ lo₀ q u x fj t₀ on some first lo t = q - t
+μ-loop starts sizes entries n f m seen place low k j on₀ some₀ first₀ lo₀ q u x fj t₀ on some first lo t = q - t
 
 depth-requires : tie.Need-depth-requires Inv-loop μ-loop
 depth-requires c κs = search needs
@@ -63,7 +63,7 @@ returns-2 c =
     let p = rows (a .starts .now) (a .sizes .now) (a .entries .now) (a .n) in
     let c-is = c .before .before .before .before .wide-word .ensures .0 ∙ c .before .before .before .before .before .onward-at .ensures ∙ ap (λ (l : List ℕ). getD l (c .before .before .before .before .before .before .before .loop .t) 0) (under-turned p (a .f .now) (a .k) (c .before .before .before .before .before .before .before .before .before .before .num .ensures .0) (c .before .before .before .before .before .before .before .before .before .turn-of .ensures .0)) in
     let size = c .before .before .before .before .before .before .before .before .before .before .before .before .depth .ensures .0 in
-    let last = ap (λ (w : ℕ). run.blocked p (c .before .before .before .before .before .before .before .loop .on) (a .seen .now) (a .high .now) (c .before .before .before .before .before .before .before .loop .some) (c .before .before .before .before .before .before .before .loop .first) (c .before .before .before .before .wide-word .result) w (a .j)) (sym (c .before .before .before .before .before .before .before .before .num2 .ensures .0)) in
+    let last = ap (λ (w : ℕ). run.blocked p (c .before .before .before .before .before .before .before .loop .on) (a .seen .now) (a .place .now) (c .before .before .before .before .before .before .before .loop .some) (c .before .before .before .before .before .before .before .loop .first) (c .before .before .before .before .wide-word .result) w (a .j)) (sym (c .before .before .before .before .before .before .before .before .num2 .ensures .0)) in
     extends-as (c .made2 .ensures) (extends-same (a .trail) (grows-stop (c .before .before .before .before .before .before .before .loop .inv .2) (omega arith) c-is (last ∙ sym (c .before .before .blocked .ensures) ∙ c .before .if2 .taken)))
 
 whole-requires : tie.Need-whole-requires Inv-loop μ-loop
