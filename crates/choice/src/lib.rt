@@ -15,7 +15,7 @@ ghost use Rattle.choice.specs.Search.{foundAs, Lows, Trails, Extends, Be
 use frontier::Line;
 
 // What a search knows of the list so far: whether there is one, its first context, the lowest frontier position that lists some context of it, and a mark for each context of it. It is not ok where the list is good for no pair.
-pub struct Trail {
+struct Trail {
     pub ok: bool,
     pub some: bool,
     pub first: usize,

@@ -1,8 +1,8 @@
 -- choose meets its contract.
 use borrow.Author.Needs.{needs}
 use Rattle.choice.proofs.Searches.{front-plain}
-use Rattle.choice.proofs.Statement.{statement}
-use Rattle.choice.proofs.Tie as tie
+use Rattle.choice.proofs.choose.Statement.{statement}
+use Rattle.choice.proofs.choose.Tie as tie
 
 slice-aggregate-placed : tie.Need-slice-aggregate-placed
 slice-aggregate-placed c = search needs
