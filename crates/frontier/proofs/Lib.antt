@@ -1,9 +1,5 @@
-pub mod Folds
 pub mod Moves
-pub mod Dirt
 pub mod Lines
-pub mod Gather
-pub mod Chordless
-pub mod Pairs
-pub mod Trails
-pub mod Searches
+pub mod Under
+pub mod Finishing
+pub mod Beginning

@@ -1,39 +1,39 @@
--- What a line of the engine holds: a list in an array, and marks. How a list is gathered entry by entry.
+-- What a line of the engine holds: a list in an array, and marks.
 use Prim.Native.Nat.{ℕ, zero, suc, _+_, _-_, _≤_, _<_}
-use mathlib.Core.Path.{_≡_, refl, ap, sym, _∙_, subst}
-use mathlib.Core.Logic.{_⊎_, inl, inr, ⊎-elim, _≢_}
-use mathlib.Core.List.{List, [], _∷_, _++_, append-assoc, append-nil, List·Memᴰ, List·Memᴰ·head, List·Memᴰ·tail}
-use mathlib.Core.Bool.{Bool, true, false, cond, not, _||_, Bool·not-not}
+use mathlib.Core.Path.{_≡_, refl, ap, sym, _∙_}
+use mathlib.Core.List.{List, [], _∷_, _++_, List·Memᴰ, List·Memᴰ·head, List·Memᴰ·tail}
+use mathlib.Core.Bool.{Bool, true, false, cond, not, _||_}
 use native.Mathlib.Omega.{arith}
-use lib.ListN.{length, getD, set, length-append, length-set}
-use lib.Seq.{getD-set-same, getD-set-other}
+use lib.ListN.{length, getD, set, length-append, length-set, take, drop}
+use lib.Seq.{getD-set-same, getD-set-other, drop-cons, take-all}
 use lib.Dec.{eqb, ltb}
-use borrow.Author.Tests.{eq-eqb, ne-eqb, eqb-true, eqb-false, lt-ltb}
+use borrow.Author.Tests.{ne-eqb, eqb-true, eqb-false, lt-ltb}
 use Rattle.lists.specs.Tests.{member, repeats}
-use Rattle.lists.specs.Parts.{squeeze}
-use Rattle.lists.specs.Spans.{zeros, padded}
-use Rattle.lists.proofs.Tests.{any-append}
+use Rattle.lists.specs.Spans.{zeros, padded, stretch}
 use Rattle.lists.proofs.Counts.{counted-le, length-counted}
 use Rattle.lists.proofs.Loops.{padded-put}
-use Rattle.model.specs.Plan.{border}
 use Rattle.frontier.specs.declared.Line.{Line}
 use Rattle.frontier.specs.Front.{Small, Rep, Marks}
-use Rattle.frontier.specs.Run.{line, pushed, failed, lastIs, barred, noted, added}
-use Rattle.frontier.proofs.Dirt.{eqb-swap, dirty, dirty-left, dirty-end, clean-end, clean-once, endsIn, joined, squeeze-end, squeeze-more}
+use Rattle.frontier.specs.Run.{line, pushed, fresh}
+use Rattle.model.specs.Sweep.{below}
 
 -- ---- lists of numbers below 200
+-- two such lists joined
 pub small-append : (l m : List ℕ) → Small l → Small m → Small (l ++ m)
 small-append [] m h k = k
 small-append (a ∷ l) m h k = (h .0, small-append l m (h .1) k)
 
+-- an entry of such a list
 pub small-mem : (l : List ℕ) (a : ℕ) → Small l → List·Memᴰ a l → a < 200
 small-mem (b ∷ l) a h (List·Memᴰ·head e) = let z = h .0 in omega arith
 small-mem (b ∷ l) a h (List·Memᴰ·tail m) = small-mem l a (h .1) m
 
+-- a list whose entries are all below 200
 pub mem-small : (l : List ℕ) → ((a : ℕ) → List·Memᴰ a l → a < 200) → Small l
 mem-small [] h = tt
 mem-small (a ∷ l) h = (h a (List·Memᴰ·head refl), mem-small l (λ b m. h b (List·Memᴰ·tail m)))
 
+-- an entry of such a list by its place; past the end stands 0
 pub small-getD : (l : List ℕ) (k : ℕ) → Small l → getD l k 0 < 200
 small-getD [] k h = omega arith
 small-getD (a ∷ l) zero h = h .0
@@ -47,24 +47,25 @@ no-longer l r h =
     omega arith
 
 -- ---- arrays that hold a list
-getD-zeros : (k i : ℕ) → getD (zeros k) i 0 ≡ 0
+-- every entry of zeros is 0
+pub getD-none : (k i : ℕ) → getD (zeros k) i 0 ≡ 0
 unfolding zeros
-getD-zeros zero i = refl
-getD-zeros (suc k) zero = refl
-getD-zeros (suc k) (suc i) = getD-zeros k i
+getD-none zero i = refl
+getD-none (suc k) zero = refl
+getD-none (suc k) (suc i) = getD-none k i
 
+-- a list and zeros after it read as the list
 getD-padding : (l : List ℕ) (k i : ℕ) → getD (l ++ zeros k) i 0 ≡ getD l i 0
-getD-padding [] k i = getD-zeros k i
+getD-padding [] k i = getD-none k i
 getD-padding (a ∷ l) k zero = refl
 getD-padding (a ∷ l) k (suc i) = getD-padding l k i
 
-pub getD-none : (k i : ℕ) → getD (zeros k) i 0 ≡ 0
-getD-none k i = getD-zeros k i
-
+-- an array that holds a list reads as the list
 pub getD-padded : (k : ℕ) (l : List ℕ) (i : ℕ) → getD (padded k l) i 0 ≡ getD l i 0
 unfolding padded
 getD-padded k l i = getD-padding l (k - length l) i
 
+-- a line with an entry put at its end holds the list with it
 pub push-rep : (v : Line) (l : List ℕ) (x : ℕ) → Rep v l → length l < 512 → Rep (pushed v x) (l ++ (x ∷ []))
 unfolding pushed
 push-rep v l x r h =
@@ -74,9 +75,11 @@ push-rep v l x r h =
     rw e (record { ok = r .ok; len = omega arith; at = (λ i. set (r .at i) (r .len i) x) ∙ padded-put 512 l x h; short = omega arith })
 
 -- ---- marks
+-- marks for tests that agree
 pub marks-same : {m : List ℕ} (p q : ℕ → Bool) → ((c : ℕ) → p c ≡ q c) → Marks m p → Marks m q
 marks-same p q h k = record { size = k .size; mark = λ c u. k .mark c u ∙ ap not (h c) }
 
+-- marks with one more context
 pub marks-set : {m : List ℕ} (p : ℕ → Bool) (c x : ℕ) → c < 256 → 0 < x → Marks m p → Marks (set m c x) (λ (d : ℕ). eqb d c || p d)
 marks-set {m} p c x h y k = record { size = simp length-set (k .size); mark = λ d u. go d u (eqb d c) refl }
   where
@@ -84,41 +87,8 @@ marks-set {m} p c x h y k = record { size = simp length-set (k .size); mark = λ
     go d u true e = rw (eqb-true d c e, getD-set-same m c x 0 (let z = k .size in omega arith)) (ne-eqb x 0 (λ z. omega arith))
     go d u false e = rw (getD-set-other m c d x 0 (eqb-false d c e)) (k .mark d u)
 
--- ---- one entry added
-ends-getD : (l : List ℕ) (c : ℕ) → cond (eqb (length l) 0) false (eqb c (getD l (length l - 1) 0)) ≡ endsIn l c
-unfolding endsIn
-ends-getD [] c = refl
-ends-getD (a ∷ []) c = eqb-swap c a
-ends-getD (a ∷ b ∷ l) c =
-    let z : suc (suc (length l)) - 1 ≡ suc (length l) = omega arith in
-    let y : suc (length l) - 1 ≡ length l = omega arith in
-    rw (z, ne-eqb (suc (suc (length l))) 0 (λ h. omega arith)) (sym (rw (y, ne-eqb (suc (length l)) 0 (λ h. omega arith))) ∙ ends-getD (b ∷ l) c)
-
-last-ends : (v : Line) (l : List ℕ) (c : ℕ) → Rep v l → lastIs v c ≡ endsIn l c
-unfolding lastIs
-last-ends v l c r = (λ i. cond (eqb (r .len i) 0) false (eqb c (getD (r .at i) (r .len i - 1) 0))) ∙ ap (λ (x : ℕ). cond (eqb (length l) 0) false (eqb c x)) (getD-padded 512 l (length l - 1)) ∙ ends-getD l c
-
--- a list that is being gathered: clean so far
-pub record Good (seen : List ℕ) (v : Line) (l : List ℕ) : Type 0 where
-  pub rep : Rep v l
-  pub marks : Marks (v .marks) (λ (c : ℕ). member c l || member c seen)
-  pub small : Small l
-  pub clean : dirty seen l ≡ false
-
--- what adding comes to: it holds the list, or it failed and the list is dirty
-abbrev pub Comes : List ℕ → Line → List ℕ → Type 0
-Comes seen v l = Good seen v l ⊎ ((v .ok ≡ false) × (dirty seen l ≡ true))
-
-barred-is : (seen : List ℕ) (v : Line) (l : List ℕ) (c : ℕ) → c < 200 → Good seen v l → barred v c ≡ (border c || (member c l || member c seen))
-unfolding barred
-barred-is seen v l c h g =
-    ap (λ (t : Bool). cond (ltb c 4) true (not t)) (g .marks .mark c (omega arith))
-    ∙ ap (cond (ltb c 4) true) (Bool·not-not (member c l || member c seen)) ∙ go (ltb c 4)
-  where
-    go : (t : Bool) → cond t true (member c l || member c seen) ≡ (t || (member c l || member c seen))
-    go true = refl
-    go false = refl
-
+-- ---- a line that grows
+-- what is put at the end of a line changes no mark
 pub pushed-marks : (v : Line) (x : ℕ) → (pushed v x) .marks ≡ v .marks
 unfolding pushed
 pushed-marks v x = go (ltb (v .len) 512)
@@ -127,82 +97,19 @@ pushed-marks v x = go (ltb (v .len) 512)
     go true = refl
     go false = refl
 
-module _ (seen : List ℕ) (v : Line) (l : List ℕ) (c : ℕ) (h : c < 200) (g : Good seen v l) where
-  room : border c ≡ false → (member c l || member c seen) ≡ false → length l < 512
-  room b e =
-      let x = no-longer (l ++ (c ∷ [])) (clean-once seen (l ++ (c ∷ [])) (clean-end seen l c (g .clean) b e)) (small-append l (c ∷ []) (g .small) (h, tt)) in
-      let y = length-append l (c ∷ []) in
-      omega arith
+-- ---- an array that holds a list, read back
+-- a stretch of the array is a part of the list
+pub stretch-part : (f : List ℕ) (a k : ℕ) → a + k ≤ length f → stretch (padded 512 f) a k ≡ take k (drop a f)
+unfolding stretch
+stretch-part f a zero h = refl
+stretch-part f a (suc k) h =
+    (λ i. getD-padded 512 f a i ∷ stretch-part f (suc a) k (omega arith) i) ∙ sym (ap (take (suc k)) (drop-cons f a 0 (omega arith)))
 
-  taken : border c ≡ false → (member c l || member c seen) ≡ false → Good seen (noted (pushed v c) c) (l ++ (c ∷ []))
-  unfolding noted
-  taken b e =
-      let r = push-rep v l c (g .rep) (room b e) in
-      record {
-        rep = record { ok = r .ok; len = r .len; at = r .at; short = r .short };
-        marks =
-            subst (λ (m : List ℕ). Marks (set m c 1) (λ (x : ℕ). member x (l ++ (c ∷ [])) || member x seen)) (sym (pushed-marks v c))
-            (marks-same (λ (x : ℕ). eqb x c || (member x l || member x seen)) (λ (x : ℕ). member x (l ++ (c ∷ [])) || member x seen) swap (marks-set (λ (x : ℕ). member x l || member x seen) c 1 (omega arith) (omega arith) (g .marks)));
-        small = small-append l (c ∷ []) (g .small) (h, tt);
-        clean = clean-end seen l c (g .clean) b e;
-      }
-    where
-      three : (p q r : Bool) → (p || (q || r)) ≡ (q || (p || false) || r)
-      three true true r = refl
-      three true false r = refl
-      three false true r = refl
-      three false false r = refl
+-- the whole list read back
+pub stretch-all : (f : List ℕ) → stretch (padded 512 f) 0 (length f) ≡ f
+stretch-all f = stretch-part f 0 (length f) (omega arith) ∙ take-all (length f) f (omega arith)
 
-      swap : (x : ℕ) → (eqb x c || (member x l || member x seen)) ≡ (member x (l ++ (c ∷ [])) || member x seen)
-      swap x = three (eqb x c) (member x l) (member x seen) ∙ ap (λ (t : Bool). t || member x seen) (sym (any-append (eqb x) l (c ∷ [])))
-
-  pub add-comes : Comes seen (added v c) (joined l c)
-  unfolding added joined failed
-  add-comes = subst (λ (t : Bool). Comes seen (cond t v (cond (barred v c) (failed v) (noted (pushed v c) c))) (joined l c)) (sym (last-ends v l c (g .rep))) (subst (λ (t : Bool). Comes seen (cond (endsIn l c) v (cond t (failed v) (noted (pushed v c) c))) (joined l c)) (sym (barred-is seen v l c h g)) (go (endsIn l c) (border c) refl (member c l || member c seen) refl))
-    where
-      go : (t b : Bool) → border c ≡ b → (m : Bool) → (member c l || member c seen) ≡ m
-          → Comes seen (cond t v (cond (b || m) (line false (v .len) (v .at) (v .marks)) (noted (pushed v c) c))) (cond t l (l ++ (c ∷ [])))
-      go true b p m q = inl g
-      go false true p m q = inr (refl, dirty-end seen l c (rw p))
-      go false false p true q = inr (refl, dirty-end seen l c (rw (p, q)))
-      go false false p false q = inl (taken p q)
-
--- ---- several entries added, left to right
-unfoldable pub addedAll : Line → List ℕ → Line
-addedAll v [] = v
-addedAll v (c ∷ cs) = addedAll (added v c) cs
-
-pushed-off : (v : Line) (c : ℕ) → v .ok ≡ false → (pushed v c) .ok ≡ false
-unfolding pushed
-pushed-off v c e = go (ltb (v .len) 512)
-  where
-    go : (u : Bool) → (cond u (line (v .ok) (v .len + 1) (set (v .at) (v .len) c) (v .marks)) (line false (v .len) (v .at) (v .marks))) .ok ≡ false
-    go true = e
-    go false = refl
-
-added-off : (v : Line) (c : ℕ) → v .ok ≡ false → (added v c) .ok ≡ false
-unfolding added failed noted
-added-off v c e = go (lastIs v c) (barred v c)
-  where
-    go : (s t : Bool) → (cond s v (cond t (line false (v .len) (v .at) (v .marks)) (line (pushed v c .ok) (pushed v c .len) (pushed v c .at) (set (pushed v c .marks) c 1)))) .ok ≡ false
-    go true t = e
-    go false true = refl
-    go false false = pushed-off v c e
-
-pub addedAll-off : (v : Line) (cs : List ℕ) → v .ok ≡ false → (addedAll v cs) .ok ≡ false
-unfolding addedAll
-addedAll-off v [] e = e
-addedAll-off v (c ∷ cs) e = addedAll-off (added v c) cs (added-off v c e)
-
-pub dirty-more : (seen l cs : List ℕ) → dirty seen (squeeze l) ≡ true → dirty seen (squeeze (l ++ cs)) ≡ true
-dirty-more seen l cs e = let (r, q) = squeeze-more l cs in ap (dirty seen) q ∙ dirty-left seen (squeeze l) r e
-
-pub all-come : (seen : List ℕ) (v : Line) (l cs : List ℕ) → Small cs → Good seen v (squeeze l) → Comes seen (addedAll v cs) (squeeze (l ++ cs))
-unfolding addedAll
-all-come seen v l [] h g = inl (subst (λ (m : List ℕ). Good seen v (squeeze m)) (sym (append-nil l)) g)
-all-come seen v l (c ∷ cs) h g =
-    subst (λ (m : List ℕ). Comes seen (addedAll (added v c) cs) (squeeze m)) (append-assoc l (c ∷ []) cs)
-    (⊎-elim
-    (λ k. all-come seen (added v c) (l ++ (c ∷ [])) cs (h .1) k)
-    (λ k. inr (addedAll-off (added v c) cs (k .0), dirty-more seen (l ++ (c ∷ [])) cs (k .1)))
-    (subst (λ (m : List ℕ). Comes seen (added v c) m) (sym (squeeze-end l c)) (add-comes seen v (squeeze l) c (h .0) g)))
+-- a fresh line holds nothing
+pub fresh-rep : (m : List ℕ) → Rep (fresh m) []
+unfolding fresh padded
+fresh-rep m = record { ok = refl; len = refl; at = refl; short = omega arith }

@@ -1,4 +1,2 @@
-pub mod Folds
 pub mod Run
 pub mod Front
-pub mod Search

@@ -21,7 +21,7 @@ fn gap<'a>(
     ensures { λ r. ⌜ r < 2 ^ 9 ⌝ }
 {
     let x = rings::index_of(starts, sizes, entries, n, u, lists::wide_word(a));
-    let e = crate::minus(rings::size_of(sizes, n, u), x + 1) + x;
+    let e = lists::minus(rings::size_of(sizes, n, u), x + 1) + x;
     let mut t = 0;
     while t < e {
         if b == crate::onward_at(starts, sizes, entries, n, u, x, t) {
@@ -33,17 +33,21 @@ fn gap<'a>(
 }
 
 // The frontier context before position k.
-pub fn prior(f: &[u16], k: usize) -> u16
+fn prior(f: &[u16], k: usize) -> u16
     ensures { λ r. ⌜ r ≡ getD (now (f .entry)) (k - 1) 0 ⌝ }
 {
-    crate::raw(f, crate::minus(k, 1))
+    lists::word(f, lists::minus(k, 1))
 }
 
 // The frontier context after position k.
-pub fn after(f: &[u16], k: usize) -> u16
+fn after(f: &[u16], k: usize) -> u16
     ensures { λ r. ⌜ r ≡ getD (now (f .entry)) (suc k) 0 ⌝ }
 {
-    if k < f.len() { crate::raw(f, k + 1) } else { 0 }
+    if k < f.len() {
+        lists::word(f, k + 1)
+    } else {
+        0
+    }
 }
 
 // How many contexts are below position k.
@@ -120,7 +124,7 @@ pub fn is_unfinished<'a>(
 ) -> bool
     ensures { λ r. ⌜ r ≡ run.unfinished (rows (now (starts .entry)) (now (sizes .entry)) (now (entries .entry)) n) (now (f .entry)) m ⌝ }
 {
-    let e = crate::minus(m, 1);
+    let e = lists::minus(m, 1);
     let mut k = 1;
     while k < e {
         if !done_at(starts, sizes, entries, n, f, k) {

@@ -16,3 +16,4 @@ pub mod Concats
 pub mod Cycles
 pub mod Stretches
 pub mod Marks
+pub mod Folds

@@ -3,3 +3,4 @@ pub mod Ranges
 pub mod Parts
 pub mod Spans
 pub mod Words
+pub mod Folds

@@ -1,6 +1,6 @@
 // Lists: total accessors of lent arrays, where what lies outside reads as 0. The words and laws of lists that every other crate uses are in specs/ and proofs/.
 ghost use mathlib.Core.Path.{_≡_};
-ghost use Prim.Native.Nat.{_+_, _*_, _<_, _^_, min};
+ghost use Prim.Native.Nat.{_+_, _-_, _*_, _<_, _^_, min};
 ghost use lib.ListN.{getD};
 
 // A byte as a number.
@@ -52,4 +52,26 @@ pub fn lesser(a: usize, b: usize) -> usize
     ensures { λ r. ⌜ r ≡ min a b ⌝ }
 {
     if a < b { a } else { b }
+}
+
+// a less b, or 0.
+pub fn minus(a: usize, b: usize) -> usize
+    ensures { λ r. ⌜ r ≡ a - b ⌝ }
+{
+    if b < a { a - b } else { 0 }
+}
+
+// The number of two bytes at i, as it stands.
+pub fn word(a: &[u16], i: usize) -> u16
+    ensures { λ r. ⌜ r ≡ getD (now (a .entry)) i 0 ⌝ }
+{
+    if i < a.len() { a[i] } else { 0 }
+}
+
+// The whole number at i.
+pub fn whole(a: &[usize], i: usize) -> usize
+    ensures { λ r. ⌜ r ≡ getD (now (a .entry)) i 0 ⌝ }
+{
+    let m = a.len();
+    if i < m { a[i] } else { 0 }
 }

@@ -1,40 +1,46 @@
 -- The engine's steps are the model's, from the first frontier until the sweep is finished or stuck.
 use Prim.Native.Nat.{ℕ, zero, suc, _+_, _-_, _≤_, _<_}
 use mathlib.Core.Path.{_≡_, refl, sym, ap, _∙_, subst}
-use mathlib.Core.Logic.{_⊎_, inl, inr, ⊎-elim}
-use mathlib.Core.List.{List, [], _∷_, _++_, append-nil}
+use mathlib.Core.Logic.{_⊎_, inl, inr}
+use mathlib.Core.List.{List, [], _∷_, _++_}
 use mathlib.Core.Bool.{Bool, true, false, cond, not}
 use native.Mathlib.Omega.{arith}
-use lib.ListN.{length, getD, take, drop, length-append, drop-of-length-le, length-take}
-use lib.Seq.{slice, take-all, take-nil, take-length, length-take-le}
+use lib.ListN.{length, take, drop, length-append, drop-of-length-le, length-take}
+use lib.Seq.{slice, take-nil}
 use borrow.Author.Tests.{not-true, not-false}
 use Rattle.lists.specs.Parts.{steps}
-use Rattle.lists.specs.Spans.{stretch, span, zeros, padded}
+use Rattle.lists.specs.Spans.{stretch, span, padded}
 use Rattle.model.specs.Outcome.{Outcome, accepted, refused, _>>=_}
-use Rattle.model.specs.Plan.{Plan, Dart, count, ring, north, east, south, west, entryCount}
+use Rattle.model.specs.Plan.{Plan, count, ring, north, east, south, west, entryCount}
 use Rattle.model.specs.Labels.{up, right}
 use Rattle.model.specs.Sweep.{State, labelEdges, product, top, bareLabels, firstState, listed, finished, finish, eligible, choose, choices, advance, sweepFrom}
 use Rattle.model.proofs.Outcomes.{not-both, same-value}
-use Rattle.model.proofs.Choices.{chosen, none-chosen, Chosen}
+use Rattle.model.proofs.Choices.{chosen, Chosen}
 use Rattle.frontier.specs.declared.Line.{Line}
-use Rattle.frontier.specs.declared.Found.{Found}
-use Rattle.frontier.specs.declared.Found.the-variants.{At, Nothing}
-use Rattle.frontier.specs.Front.{Sane, Rep, Front}
-use Rattle.frontier.specs.Search.{foundAs}
-use Rattle.frontier.specs.Run as lines
-use Rattle.frontier.proofs.Pairs.{stretch-part, stretch-all, gathered, next-front, open-is}
+use Rattle.choice.specs.declared.Found.{Found}
+use Rattle.choice.specs.declared.Found.the-variants.{At, Nothing}
+use Rattle.frontier.specs.Front.{Sane, Front}
+use Rattle.choice.specs.Search.{foundAs}
+use Rattle.frontier.proofs.Lines.{stretch-part, stretch-all}
+use Rattle.pairs.proofs.Pairs.{gathered, next-front}
+use Rattle.frontier.proofs.Finishing.{open-is}
 use Rattle.sweep.specs.declared.Ended.{Ended}
-use Rattle.sweep.specs.Run.{fan, stepLabels, finishLabels, firstLabels, firstLine, unfinished, listing, replaced, stuck, swept, endedAs}
+use Rattle.sweep.specs.Run.{fan, stepLabels, finishLabels, firstLabels, stuck, swept, endedAs}
+use Rattle.frontier.specs.Run.{firstLine, unfinished}
+use Rattle.pairs.specs.Run.{listing, replaced}
 use Rattle.sweep.proofs.Draws.{edges-length, edges-padded, product-one}
 use Rattle.sweep.proofs.Unlabelled.{bare-long}
-use Rattle.sweep.proofs.Beginning.{firstFront, first-front, first-at, first-len}
+use Rattle.frontier.proofs.Beginning.{firstFront, first-front, first-at, first-len}
+use Rattle.sweep.specs.Run as run
 
 -- ---- a part of the frontier, in the array that holds it
+-- a part of a list, by what is taken first or dropped first
 part-drop : (a k : ℕ) (f : List ℕ) → take k (drop a f) ≡ drop a (take (a + k) f)
 part-drop zero k f = let z : 0 + k ≡ k = omega arith in ap (λ (n : ℕ). take n f) (sym z)
 part-drop (suc a) k [] = take-nil k ∙ sym (ap (λ (n : ℕ). drop (suc a) (take n [])) (let z : suc a + k ≡ suc (a + k) = omega arith in z))
 part-drop (suc a) k (x ∷ f) = let z : suc a + k ≡ suc (a + k) = omega arith in part-drop a k f ∙ ap (λ (n : ℕ). drop (suc a) (take n (x ∷ f))) (sym z)
 
+-- a part of the array that holds the frontier
 span-slice : (f : List ℕ) (a e : ℕ) → a ≤ e → e ≤ length f → span (padded 512 f) a e ≡ slice a e f
 span-slice f a e h k = let z : a + (e - a) ≡ e = omega arith in stretch-part f a (e - a) (omega arith) ∙ part-drop a (e - a) f ∙ ap (λ (n : ℕ). drop a (take n f)) z
 
@@ -43,6 +49,7 @@ span-short : (f : List ℕ) (e : ℕ) → e ≤ 1 → span (padded 512 f) 1 e �
 unfolding stretch
 span-short f e h = let z : e - 1 ≡ 0 = omega arith in ap (stretch (padded 512 f) 1) z ∙ sym (drop-of-length-le (take e f) {i = 1} (let s = length-take e f in omega arith))
 
+-- what is between the ends of the frontier
 span-inner : (f : List ℕ) → span (padded 512 f) 1 (length f - 1) ≡ slice 1 (length f - 1) f
 span-inner f = go (length f) refl
   where
@@ -59,6 +66,7 @@ pub record Running (p : Plan) (k : ℕ) (v : Line) (ls : List ℕ) : Type 0 wher
   pub size : length (state .labels) ≡ entryCount p
   pub same : swept p ≡ sweepFrom p k state
 
+-- what is between the ends of a list
 slice-middle : (a b : ℕ) (l : List ℕ) → slice 1 (length (a ∷ l ++ (b ∷ [])) - 1) (a ∷ l ++ (b ∷ [])) ≡ l
 slice-middle a b l =
     let s = length-append l (b ∷ []) in
@@ -69,6 +77,7 @@ slice-middle a b l =
     front [] = refl
     front (x ∷ l) = ap {B = List ℕ} (λ m. x ∷ m) (front l)
 
+-- before the first step
 pub running-start : {p : Plan} {n : ℕ} {v : Line} {ls : List ℕ} → Sane p → length (ring p 0) ≤ 255 → n ≡ count p → v ≡ firstLine p → ls ≡ firstLabels p (v .at) (v .len) → Running p n v ls
 unfolding swept firstState firstLabels
 running-start {p} {n} {v} {ls} sane long e q w =
@@ -87,20 +96,24 @@ running-start {p} {n} {v} {ls} sane long e q w =
     }
 
 module _ {p : Plan} {k : ℕ} {v : Line} {ls : List ℕ} (inv : Running p k v ls) (sane : Sane p) where
+  -- the state
   abbrev s : State
   s = inv .state
 
+  -- its frontier
   abbrev f : List ℕ
   f = s .frontier
 
+  -- the finishing test
   is-finished : {t : Bool} → unfinished p (v .at) (v .len) ≡ t → not (finished p f) ≡ t
-  unfolding unfinished
-  is-finished e = sym (open-is p sane s v (inv .front)) ∙ e
+  is-finished e = sym (open-is p s v (inv .front)) ∙ e
 
+  -- what is left of the sweep, one step taken apart
   step : (k′ : ℕ) → k ≡ suc k′ → swept p ≡ cond (finished p f) (accepted (finish p s)) (choose p s (choices f) >>= (λ (c : ℕ × ℕ). sweepFrom p k′ (advance p s (c .0) (c .1))))
   unfolding sweepFrom
   step k′ z = inv .same ∙ ap (λ (n : ℕ). sweepFrom p n s) z
 
+  -- the sweep is finished
   pub running-done : {b : List ℕ} → 0 < k → unfinished p (v .at) (v .len) ≡ false → b ≡ finishLabels p (v .at) (v .len) ls → _≡_ {A = Ended} (record { finished = true; labels = b }) (endedAs (swept p))
   unfolding finishLabels endedAs finish
   running-done {b} h u e =
@@ -121,6 +134,7 @@ module _ {p : Plan} {k : ℕ} {v : Line} {ls : List ℕ} (inv : Running p k v ls
       ended : List ℕ → Ended
       ended l = record { finished = true; labels = l }
 
+  -- no pair is eligible
   pub running-stuck : {found : Found} → 0 < k → unfinished p (v .at) (v .len) ≡ true → foundAs found ≡ choose p s (choices f) → found ≡ Nothing → stuck ≡ endedAs (swept p)
   unfolding endedAs foundAs stuck
   running-stuck {found} h u e q =
@@ -133,6 +147,7 @@ module _ {p : Plan} {k : ℕ} {v : Line} {ls : List ℕ} (inv : Running p k v ls
       ∙ ap (λ (o : Outcome (ℕ × ℕ)). o >>= (λ (c : ℕ × ℕ). sweepFrom p (k - 1) (advance p s (c .0) (c .1)))) none))
 
   module _ (i j : ℕ) (e : foundAs (At i j) ≡ choose p s (choices f)) where
+    -- the pair that the model takes
     taken : Chosen p s i j
     unfolding foundAs
     taken = chosen p s i j (sym e)
@@ -145,9 +160,10 @@ module _ {p : Plan} {k : ℕ} {v : Line} {ls : List ℕ} (inv : Running p k v ls
         let c = inv .front .rep .short in
         (omega arith, omega arith)
 
+    -- a step
     pub running-on : {k′ : ℕ} {g w : Line} {b : List ℕ} → k ≡ suc k′ → unfinished p (v .at) (v .len) ≡ true
         → g ≡ listing p (v .at) (v .marks) (suc i) j → b ≡ stepLabels p (v .at) g i j ls → w ≡ replaced (v .at) (v .len) (suc i) j g → Running p k′ w b
-    unfolding listing replaced stepLabels advance foundAs
+    unfolding stepLabels advance foundAs
     running-on {k′} {g} {w} {b} z u gathers labelled moved =
         let two = taken .positions .apart in
         let last = taken .positions .inside in
@@ -155,14 +171,14 @@ module _ {p : Plan} {k : ℕ} {v : Line} {ls : List ℕ} (inv : Running p k v ls
         let l = listed p f i j in
         let on = not-true (finished p f) (is-finished u) in
         let rep = inv .front .rep in
-        let list = lines.listing p (v .at) (v .marks) (suc i) j in
+        let list = listing p (v .at) (v .marks) (suc i) j in
         let size : length l - 0 ≡ length l = omega arith in
         let one : i + 1 ≡ suc i = omega arith in
         let next : j + 1 ≡ suc j = omega arith in
         let ups = product l (slice (suc i) j f) in
         record {
           state = advance p s i j;
-          front = subst (Front (advance p s i j)) (sym (moved ∙ ap (lines.replaced (v .at) (v .len) (suc i) j) gathers)) (next-front p sane s v (inv .front) i j two last (taken .fits));
+          front = subst (Front (advance p s i j)) (sym (moved ∙ ap (replaced (v .at) (v .len) (suc i) j) gathers)) (next-front p sane s v (inv .front) i j two last (taken .fits));
           labels =
               labelled
               ∙ ap (λ (m : Line). labelEdges p right (steps (span (v .at) i (j + 1))) (labelEdges p up (product (span (m .at) 0 (m .len)) (span (v .at) (i + 1) j)) ls)) gathers
@@ -177,11 +193,13 @@ module _ {p : Plan} {k : ℕ} {v : Line} {ls : List ℕ} (inv : Running p k v ls
               ∙ ap (λ (o : Outcome (ℕ × ℕ)). o >>= (λ (c : ℕ × ℕ). sweepFrom p k′ (advance p s (c .0) (c .1)))) (sym e);
         }
 
+  -- no step is left
   pub running-out : k ≡ 0 → stuck ≡ endedAs (swept p)
   unfolding endedAs sweepFrom stuck
   running-out z = sym (ap endedAs (inv .same ∙ ap (λ (n : ℕ). sweepFrom p n s) z))
 
 -- ---- a sweep that does not finish is stuck: 14
+-- a choice is a pair or 14
 choose-14 : (p : Plan) (s : State) (cs : List (ℕ × ℕ)) → (choose p s cs ≡ refused 14 0) ⊎ ((c : ℕ × ℕ) × (choose p s cs ≡ accepted c))
 unfolding choose
 choose-14 p s [] = inl refl
@@ -191,6 +209,7 @@ choose-14 p s (c ∷ cs) = go (eligible p s (c .0) (c .1)) (choose-14 p s cs)
     go true h = inr (c, refl)
     go false h = h
 
+-- what is left of the sweep is labels or 14
 only-14 : (p : Plan) (k : ℕ) (s : State) → (sweepFrom p k s ≡ refused 14 0) ⊎ ((ls : List ℕ) × (sweepFrom p k s ≡ accepted ls))
 unfolding sweepFrom
 only-14 p zero s = inl refl
@@ -209,11 +228,13 @@ only-14 p (suc k) s = go (finished p (s .frontier)) (choose-14 p s (choices (s .
     go false (inl h) r = inl (ap (λ (o : Outcome (ℕ × ℕ)). o >>= (λ (c : ℕ × ℕ). sweepFrom p k (advance p s (c .0) (c .1)))) h)
     go false (inr h) r = later (choose p s (choices (s .frontier)) >>= (λ (c : ℕ × ℕ). sweepFrom p k (advance p s (c .0) (c .1)))) (h .0) (chain (h .0) (h .1)) (r (advance p s (h .0 .0) (h .0 .1)))
 
+-- and so is the whole
 pub swept-14 : (p : Plan) → (swept p ≡ refused 14 0) ⊎ ((ls : List ℕ) × (swept p ≡ accepted ls))
 unfolding swept
 swept-14 p = only-14 p (count p) (firstState p)
 
 -- ---- the labels of a sweep that finishes: one for each entry
+-- finishing adds no label
 finish-long : (p : Plan) (s : State) → length (s .labels) ≡ entryCount p → length (finish p s) ≡ entryCount p
 unfolding finish
 finish-long p s h =
@@ -221,6 +242,7 @@ finish-long p s h =
     let south-darts = product (south ∷ []) (slice 1 (length f - 1) f) in
     edges-length p right (steps f) (labelEdges p up south-darts (s .labels)) ∙ edges-length p up south-darts (s .labels) ∙ h
 
+-- nor does a step
 advance-long : (p : Plan) (s : State) → length (s .labels) ≡ entryCount p → (i j : ℕ) → length (advance p s i j .labels) ≡ entryCount p
 unfolding advance
 advance-long p s h i j =
@@ -228,6 +250,7 @@ advance-long p s h i j =
     let ups = product (listed p f i j) (slice (suc i) j f) in
     edges-length p right (steps (slice i (suc j) f)) (labelEdges p up ups (s .labels)) ∙ edges-length p up ups (s .labels) ∙ h
 
+-- so there are as many labels as entries
 from-long : (p : Plan) (k : ℕ) (s : State) → length (s .labels) ≡ entryCount p → (ls : List ℕ) → sweepFrom p k s ≡ accepted ls → length ls ≡ entryCount p
 unfolding sweepFrom
 from-long p zero s h ls e = not-both e
@@ -239,6 +262,7 @@ from-long p (suc k) s h ls e = go (finished p (s .frontier)) (choose p s (choice
     go false (accepted c) r e = r (advance p s (c .0) (c .1)) (advance-long p s h (c .0) (c .1)) ls e
     go false (refused n at) r e = not-both e
 
+-- of the whole sweep
 pub swept-long : (p : Plan) (ls : List ℕ) → swept p ≡ accepted ls → length ls ≡ entryCount p
 unfolding swept firstState
 swept-long p ls e = from-long p (count p) (firstState p) (edges-length p up (product (top p) (north ∷ [])) (bareLabels p) ∙ bare-long p) ls e

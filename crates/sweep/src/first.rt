@@ -1,4 +1,4 @@
-// The first frontier and the first labels.
+// The labels before the sweep.
 ghost use mathlib.Core.Path.{_≡_};
 ghost use Prim.Native.Nat.{ℕ, _+_, _≤_, _<_};
 ghost use Rattle.lists.specs.Spans.{padded};
@@ -6,51 +6,6 @@ ghost use Rattle.model.specs.Plan.{entryCount};
 ghost use Rattle.model.specs.Sweep.{bareLabels};
 ghost use Rattle.rings.specs.Tables.{rows};
 ghost use Rattle.sweep.specs.Run as run;
-use frontier::Line;
-
-// West, North's inner neighbours from West's side to East's, East.
-fn front<'a>(starts: &'a [u16], sizes: &'a [u8], entries: &'a [u16], n: usize) -> Line
-    ensures { λ r. ⌜ r ≡ run.front (rows (now (starts .entry)) (now (sizes .entry)) (now (entries .entry)) n) ⌝ }
-{
-    let mut v = frontier::list::push(frontier::list::fresh([0u8; 256]), 3);
-    let mut t = frontier::minus(rings::size_of(sizes, n, 0), 2);
-    while t > 0 {
-        v = frontier::list::push(v, frontier::entry_at(starts, sizes, entries, n, 0, t));
-        t -= 1;
-    }
-    frontier::list::push(v, 1)
-}
-
-// A mark for each of the first m contexts.
-fn marked(f: &[u16], m: usize) -> [u8; 256]
-    ensures { λ r. ⌜ r ≡ run.marked (now (f .entry)) m ⌝ }
-{
-    let mut marks = [0u8; 256];
-    let mut k = 0;
-    while k < m {
-        let c = lists::num(f, k);
-        k += 1;
-        if c < 256 {
-            marks[c] = 1;
-        }
-    }
-    marks
-}
-
-// The first frontier, all its contexts marked.
-pub fn first_line<'a>(starts: &'a [u16], sizes: &'a [u8], entries: &'a [u16], n: usize) -> Line
-    ensures { λ r. ⌜ r ≡ run.firstLine (rows (now (starts .entry)) (now (sizes .entry)) (now (entries .entry)) n) ⌝ }
-{
-    let v = front(starts, sizes, entries, n);
-    let at = v.at;
-    let marks = marked(&at, v.len);
-    Line {
-        ok: v.ok,
-        len: v.len,
-        at,
-        marks,
-    }
-}
 
 // 4 between border contexts, 5 elsewhere: no label yet.
 fn bare_label(u: usize, v: usize) -> u8
@@ -91,7 +46,7 @@ fn bare_ring<'a>(
 }
 
 // The labels before the sweep.
-pub fn bare_labels<'a>(
+pub(crate) fn bare_labels<'a>(
     starts: &'a [u16],
     sizes: &'a [u8],
     entries: &'a [u16],

@@ -26,7 +26,7 @@ pub struct Swept {
 }
 
 // The steps ended: finished, with labels, or stuck.
-pub struct Ended {
+struct Ended {
     pub finished: bool,
     pub labels: [u8; 1186],
 }

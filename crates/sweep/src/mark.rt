@@ -11,7 +11,7 @@ ghost use Rattle.rings.specs.Tables.{startsOf, rows};
 ghost use Rattle.sweep.specs.Run as run;
 
 // The labels with l at place i; as they are where i is past the last.
-pub fn store(mut labels: [u8; 1186], i: usize, l: u8) -> [u8; 1186]
+pub(crate) fn store(mut labels: [u8; 1186], i: usize, l: u8) -> [u8; 1186]
     ensures { λ r. ⌜ r ≡ set labels i l ⌝ }
 {
     if i >= 1186 {
@@ -64,7 +64,7 @@ fn edge<'a>(
 }
 
 // The labels with up on the darts from positions a to e - 1 of f to North.
-pub fn to_north<'a>(
+pub(crate) fn to_north<'a>(
     starts: &'a [u16],
     sizes: &'a [u8],
     entries: &'a [u16],
@@ -89,7 +89,7 @@ pub fn to_north<'a>(
 }
 
 // The labels with up on the darts from u to positions a to e - 1 of f.
-pub fn from_one<'a>(
+pub(crate) fn from_one<'a>(
     starts: &'a [u16],
     sizes: &'a [u8],
     entries: &'a [u16],
@@ -115,7 +115,7 @@ pub fn from_one<'a>(
 }
 
 // The labels with up on the darts from the first m of g to positions a to e - 1 of f.
-pub fn from_all<'a>(
+pub(crate) fn from_all<'a>(
     starts: &'a [u16],
     sizes: &'a [u8],
     entries: &'a [u16],
@@ -142,7 +142,7 @@ pub fn from_all<'a>(
 }
 
 // The labels with right on the edges along positions i to e - 1 of f.
-pub fn along<'a>(
+pub(crate) fn along<'a>(
     starts: &'a [u16],
     sizes: &'a [u8],
     entries: &'a [u16],
@@ -156,7 +156,7 @@ pub fn along<'a>(
     requires { ⌜ n ≤ 200 ⌝ }
     ensures { λ r. ⌜ r ≡ labelEdges (rows (now (starts .entry)) (now (sizes .entry)) (now (entries .entry)) n) right (steps (span (now (f .entry)) i e)) labels ⌝ }
 {
-    let last = frontier::minus(e, 1);
+    let last = lists::minus(e, 1);
     let mut t = labels;
     let mut k = i;
     while k < last {

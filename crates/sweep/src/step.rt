@@ -10,9 +10,11 @@ ghost use Rattle.model.specs.Labels.{up, right};
 ghost use Rattle.model.specs.Sweep.{labelEdges, product};
 ghost use Rattle.rings.specs.Tables.{startsOf, rows};
 ghost use Rattle.fit.specs.Fits.{fit};
+ghost use Rattle.frontier.specs.Run.{unfinished};
+ghost use Rattle.pairs.specs.Run.{listing, replaced};
 ghost use Rattle.sweep.specs.Run as run;
 use crate::Ended;
-use frontier::Found;
+use choice::Found;
 use frontier::Line;
 
 // The labels of a step that puts the list g in place of positions i + 1 to j - 1.
@@ -62,14 +64,14 @@ fn finish_labels<'a>(
         2,
         &f,
         1,
-        frontier::minus(v.len, 1),
+        lists::minus(v.len, 1),
     );
     crate::mark::along(starts, sizes, entries, n, b, &f, 0, v.len)
 }
 
 // Is the sweep of the frontier v unfinished?
 fn goes_on<'a>(starts: &'a [u16], sizes: &'a [u8], entries: &'a [u16], n: usize, v: Line) -> bool
-    ensures { λ r. ⌜ r ≡ run.unfinished (rows (now (starts .entry)) (now (sizes .entry)) (now (entries .entry)) n) (v .at) (v .len) ⌝ }
+    ensures { λ r. ⌜ r ≡ unfinished (rows (now (starts .entry)) (now (sizes .entry)) (now (entries .entry)) n) (v .at) (v .len) ⌝ }
 {
     let f = v.at;
     frontier::below::is_unfinished(starts, sizes, entries, n, &f, v.len)
@@ -86,20 +88,20 @@ fn list_of<'a>(
     j: usize,
 ) -> Line
     requires { ⌜ i < 512 ⌝ }
-    ensures { λ r. ⌜ r ≡ run.listing (rows (now (starts .entry)) (now (sizes .entry)) (now (entries .entry)) n) (v .at) (v .marks) (suc i) j ⌝ }
+    ensures { λ r. ⌜ r ≡ listing (rows (now (starts .entry)) (now (sizes .entry)) (now (entries .entry)) n) (v .at) (v .marks) (suc i) j ⌝ }
 {
     let f = v.at;
     let marks = v.marks;
-    frontier::list::listed(starts, sizes, entries, n, &f, marks, i + 1, j)
+    pairs::list::listed(starts, sizes, entries, n, &f, marks, i + 1, j)
 }
 
 // The frontier v with the list g put in place of positions i + 1 to j - 1.
 fn next_line(v: Line, g: Line, i: usize, j: usize) -> Line
     requires { ⌜ i < 512 ⌝ }
-    ensures { λ r. ⌜ r ≡ run.replaced (v .at) (v .len) (suc i) j g ⌝ }
+    ensures { λ r. ⌜ r ≡ replaced (v .at) (v .len) (suc i) j g ⌝ }
 {
     let f = v.at;
-    frontier::list::replaced(&f, v.len, i + 1, j, g)
+    pairs::list::replaced(&f, v.len, i + 1, j, g)
 }
 
 // The first labels: bare, and up on the darts to North.
@@ -116,16 +118,7 @@ fn first_labels<'a>(
 {
     let f = v.at;
     let b = crate::first::bare_labels(starts, sizes, entries, n);
-    crate::mark::to_north(
-        starts,
-        sizes,
-        entries,
-        n,
-        b,
-        &f,
-        1,
-        frontier::minus(v.len, 1),
-    )
+    crate::mark::to_north(starts, sizes, entries, n, b, &f, 1, lists::minus(v.len, 1))
 }
 
 // No labels: the sweep is stuck.
@@ -139,12 +132,12 @@ fn stuck() -> Ended
 }
 
 // The steps of the sweep, at most n of them.
-pub fn run<'a>(starts: &'a [u16], sizes: &'a [u8], entries: &'a [u16], n: usize) -> Ended
+pub(crate) fn run<'a>(starts: &'a [u16], sizes: &'a [u8], entries: &'a [u16], n: usize) -> Ended
     requires { ⌜ now starts ≡ startsOf (now sizes) ⌝ }
     requires { ⌜ fit (rows (now starts) (now sizes) (now entries) n) ≡ true ⌝ }
     ensures { λ r. ⌜ r ≡ run.endedAs (run.swept (rows (now (starts .entry)) (now (sizes .entry)) (now (entries .entry)) n)) ⌝ }
 {
-    let mut v = crate::first::first_line(starts, sizes, entries, n);
+    let mut v = frontier::first::first_line(starts, sizes, entries, n);
     let mut labels = first_labels(starts, sizes, entries, n, v);
     let mut k = n;
     while k > 0 {
@@ -154,7 +147,7 @@ pub fn run<'a>(starts: &'a [u16], sizes: &'a [u8], entries: &'a [u16], n: usize)
                 labels: finish_labels(starts, sizes, entries, n, labels, v),
             };
         }
-        let found = frontier::choose::choose(starts, sizes, entries, n, v);
+        let found = choice::choose(starts, sizes, entries, n, v);
         let Found::At(i, j) = found else {
             return stuck();
         };

@@ -1,9 +1,9 @@
 -- bare meets its contract.
 use mathlib.Core.Path.{refl}
 use Rattle.lists.specs.Spans.{zeros}
-use Rattle.sweep.specs.Run as run
 use Rattle.sweep.proofs.bare.Statement.{statement}
 use Rattle.sweep.proofs.bare.Tie as tie
+use Rattle.sweep.specs.Run as run
 
 returns : tie.Need-returns
 unfolding run.bare zeros

@@ -2,9 +2,9 @@
 use mathlib.Core.Path.{_∙_}
 use borrow.Author.Needs.{needs}
 use Rattle.rings.specs.Tables.{rows}
-use Rattle.frontier.specs.Run as run
 use Rattle.frontier.proofs.below.depth.Statement.{statement}
 use Rattle.frontier.proofs.below.depth.Tie as tie
+use Rattle.frontier.specs.Run as run
 
 num-requires : tie.Need-num-requires
 num-requires c κs = search needs

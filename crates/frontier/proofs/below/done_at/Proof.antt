@@ -4,9 +4,9 @@ use borrow.Author.Needs.{needs}
 use borrow.Author.Tests.{eq-eqb, ne-eqb}
 use Rattle.rings.specs.Tables.{rows}
 use Rattle.frontier.proofs.Moves.{under-turned}
-use Rattle.frontier.specs.Run as run
 use Rattle.frontier.proofs.below.done_at.Statement.{statement}
 use Rattle.frontier.proofs.below.done_at.Tie as tie
+use Rattle.frontier.specs.Run as run
 
 depth-requires : tie.Need-depth-requires
 depth-requires c κs = search needs

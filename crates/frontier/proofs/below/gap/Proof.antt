@@ -10,9 +10,9 @@ use Rattle.model.specs.Plan.{ring, onward}
 use Rattle.rings.specs.Tables.{rows}
 use Rattle.rings.proofs.Rows.{ring-size}
 use Rattle.frontier.proofs.Moves.{onward-turned, onward-long, Gaps, gap-start, gap-hit, gap-on, gap-end}
-use Rattle.frontier.specs.Run as run
 use Rattle.frontier.proofs.below.gap.Statement.{statement}
 use Rattle.frontier.proofs.below.gap.Tie as tie
+use Rattle.frontier.specs.Run as run
 
 abbrev Inv-loop : tie.InvT-loop
 Inv-loop starts sizes entries n u a b x e t₀ t = (e ≡ length (onward a (ring (rows starts sizes entries n) u))) × (t ≤ e) × (e < 512) × Gaps (onward a (ring (rows starts sizes entries n) u)) b t

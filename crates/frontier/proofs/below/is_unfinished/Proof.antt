@@ -5,10 +5,10 @@ use Prim.Native.Nat.{ℕ, _-_}
 use native.Mathlib.Omega.{arith}
 use borrow.Author.Needs.{needs}
 use Rattle.rings.specs.Tables.{rows}
-use Rattle.frontier.proofs.Folds.{Seeks, seeks-start, seeks-hit, seeks-on, seeks-end}
-use Rattle.frontier.specs.Run as run
+use Rattle.lists.proofs.Folds.{Seeks, seeks-start, seeks-hit, seeks-on, seeks-end}
 use Rattle.frontier.proofs.below.is_unfinished.Statement.{statement}
 use Rattle.frontier.proofs.below.is_unfinished.Tie as tie
+use Rattle.frontier.specs.Run as run
 
 abbrev Inv-loop : tie.InvT-loop
 Inv-loop starts sizes entries n f m e k₀ k = (e ≡ m - 1) × Seeks (λ (w : ℕ). not (run.doneAt (rows starts sizes entries n) f w)) 1 (m - 1) k

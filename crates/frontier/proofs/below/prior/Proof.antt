@@ -9,11 +9,11 @@ use Rattle.frontier.proofs.below.prior.Tie as tie
 minus-requires : tie.Need-minus-requires
 minus-requires c κs = search needs
 
-raw-requires : tie.Need-raw-requires
-raw-requires c κs = search needs
+word-requires : tie.Need-word-requires
+word-requires c κs = search needs
 
 returns : tie.Need-returns
-returns c = c .raw .ensures ∙ ap (λ (k : ℕ). getD (c .before .before .before .args .f .now) k 0) (c .before .minus .ensures)
+returns c = c .word .ensures ∙ ap (λ (k : ℕ). getD (c .before .before .before .args .f .now) k 0) (c .before .minus .ensures)
 
 pub prior-spec : {M : Type 1} → statement M
-prior-spec = tie.close (tie.spec minus-requires raw-requires returns)
+prior-spec = tie.close (tie.spec minus-requires word-requires returns)

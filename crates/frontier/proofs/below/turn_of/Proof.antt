@@ -4,9 +4,9 @@ use borrow.Author.Needs.{needs}
 use Rattle.lists.specs.Parts.{indexOf}
 use Rattle.model.specs.Plan.{ring}
 use Rattle.rings.specs.Tables.{rows}
-use Rattle.frontier.specs.Run as run
 use Rattle.frontier.proofs.below.turn_of.Statement.{statement}
 use Rattle.frontier.proofs.below.turn_of.Tie as tie
+use Rattle.frontier.specs.Run as run
 
 num-requires : tie.Need-num-requires
 num-requires c κs = search needs

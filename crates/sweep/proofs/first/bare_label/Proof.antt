@@ -2,9 +2,9 @@
 use mathlib.Core.Path.{sym}
 use native.Mathlib.Omega.{arith}
 use borrow.Author.Tests.{lt-ltb, le-ltb}
-use Rattle.sweep.specs.Run as run
 use Rattle.sweep.proofs.first.bare_label.Statement.{statement}
 use Rattle.sweep.proofs.first.bare_label.Tie as tie
+use Rattle.sweep.specs.Run as run
 
 returns : tie.Need-returns
 unfolding run.bareLabel

@@ -6,9 +6,9 @@ use borrow.Author.Needs.{needs}
 use Rattle.rings.specs.Tables.{rows}
 use Rattle.rings.proofs.Rows.{ring-size}
 use Rattle.sweep.proofs.Unlabelled.{Adding, adding-start, adding-on, adding-end}
-use Rattle.sweep.specs.Run as run
 use Rattle.sweep.proofs.first.bare_ring.Statement.{statement}
 use Rattle.sweep.proofs.first.bare_ring.Tie as tie
+use Rattle.sweep.specs.Run as run
 
 abbrev Inv-loop : tie.InvT-loop
 Inv-loop starts sizes entries n k u q b₀ t₀ b t = (q < 256) × Adding (rows starts sizes entries n) k u b₀ t b

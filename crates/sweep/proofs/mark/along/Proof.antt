@@ -9,9 +9,9 @@ use Rattle.lists.specs.Parts.{steps}
 use Rattle.model.specs.Labels.{right}
 use Rattle.rings.specs.Tables.{rows}
 use Rattle.sweep.proofs.Draws.{Draws, draws-start, draws-on, draws-end, steps-more, steps-end}
-use Rattle.sweep.specs.Run as run
 use Rattle.sweep.proofs.mark.along.Statement.{statement}
 use Rattle.sweep.proofs.mark.along.Tie as tie
+use Rattle.sweep.specs.Run as run
 
 abbrev Inv-loop : tie.InvT-loop
 Inv-loop starts sizes entries n f i e last t₀ k₀ t k = Draws (rows starts sizes entries n) right (steps (span f i e)) t₀ (steps (span f k e)) t

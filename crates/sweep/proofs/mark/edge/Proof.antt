@@ -3,9 +3,9 @@ use mathlib.Core.Path.{ap, _∙_}
 use borrow.Author.Needs.{needs}
 use Rattle.model.specs.Labels.{put}
 use Rattle.rings.specs.Tables.{rows}
-use Rattle.sweep.specs.Run as run
 use Rattle.sweep.proofs.mark.edge.Statement.{statement}
 use Rattle.sweep.proofs.mark.edge.Tie as tie
+use Rattle.sweep.specs.Run as run
 
 add-put-on : tie.Need-add-put-on
 add-put-on c = search needs

@@ -9,9 +9,9 @@ use Rattle.model.specs.Labels.{up}
 use Rattle.model.specs.Sweep.{labelEdges, product}
 use Rattle.rings.specs.Tables.{rows}
 use Rattle.sweep.proofs.Draws.{Draws, draws-start, draws-part, draws-end, product-more, product-end}
-use Rattle.sweep.specs.Run as run
 use Rattle.sweep.proofs.mark.from_all.Statement.{statement}
 use Rattle.sweep.proofs.mark.from_all.Tie as tie
+use Rattle.sweep.specs.Run as run
 
 abbrev Inv-loop : tie.InvT-loop
 Inv-loop starts sizes entries n g m f a e t₀ k₀ t k = Draws (rows starts sizes entries n) up (product (span g 0 m) (span f a e)) t₀ (product (span g k m) (span f a e)) t

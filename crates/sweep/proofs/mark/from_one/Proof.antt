@@ -8,9 +8,9 @@ use Rattle.lists.specs.Spans.{span}
 use Rattle.model.specs.Labels.{up}
 use Rattle.rings.specs.Tables.{rows}
 use Rattle.sweep.proofs.Draws.{Draws, draws-start, draws-on, draws-end, fan-more, fan-end}
-use Rattle.sweep.specs.Run as run
 use Rattle.sweep.proofs.mark.from_one.Statement.{statement}
 use Rattle.sweep.proofs.mark.from_one.Tie as tie
+use Rattle.sweep.specs.Run as run
 
 abbrev Inv-loop : tie.InvT-loop
 Inv-loop starts sizes entries n u f a e t₀ k₀ t k = Draws (rows starts sizes entries n) up (run.fan u (span f a e)) t₀ (run.fan u (span f k e)) t

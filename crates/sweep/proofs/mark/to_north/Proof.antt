@@ -10,9 +10,9 @@ use Rattle.model.specs.Labels.{up}
 use Rattle.model.specs.Sweep.{product}
 use Rattle.rings.specs.Tables.{rows}
 use Rattle.sweep.proofs.Draws.{Draws, draws-start, draws-on, draws-end, north-more, north-end}
-use Rattle.sweep.specs.Run as run
 use Rattle.sweep.proofs.mark.to_north.Statement.{statement}
 use Rattle.sweep.proofs.mark.to_north.Tie as tie
+use Rattle.sweep.specs.Run as run
 
 abbrev Inv-loop : tie.InvT-loop
 Inv-loop starts sizes entries n f a e t₀ k₀ t k = Draws (rows starts sizes entries n) up (product (span f a e) (0 ∷ [])) t₀ (product (span f k e) (0 ∷ [])) t

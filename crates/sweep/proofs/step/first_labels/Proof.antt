@@ -9,9 +9,9 @@ use Rattle.model.specs.Sweep.{labelEdges, product}
 use Rattle.rings.specs.Tables.{rows}
 use Rattle.rings.proofs.Rows.{count-rows}
 use Rattle.fit.proofs.Fits.{fit-says}
-use Rattle.sweep.specs.Run as run
 use Rattle.sweep.proofs.step.first_labels.Statement.{statement}
 use Rattle.sweep.proofs.step.first_labels.Tie as tie
+use Rattle.sweep.specs.Run as run
 
 bare-labels-requires : tie.Need-bare-labels-requires
 bare-labels-requires c κs = fit-says _ (c .before .before .before .before .pre .1) .room

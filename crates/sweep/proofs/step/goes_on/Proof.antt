@@ -1,6 +1,5 @@
 -- step::goes_on meets its contract.
 use borrow.Author.Needs.{needs}
-use Rattle.sweep.specs.Run as run
 use Rattle.sweep.proofs.step.goes_on.Statement.{statement}
 use Rattle.sweep.proofs.step.goes_on.Tie as tie
 
@@ -11,7 +10,6 @@ is-unfinished-requires : tie.Need-is-unfinished-requires
 is-unfinished-requires c κs = search needs
 
 returns : tie.Need-returns
-unfolding run.unfinished
 returns c = c .is-unfinished .ensures
 
 pub goes-on-spec : {M : Type 1} → statement M

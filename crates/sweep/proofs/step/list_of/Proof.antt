@@ -4,8 +4,7 @@ use Prim.Native.Nat.{ℕ, suc, _+_}
 use native.Mathlib.Omega.{arith}
 use borrow.Author.Needs.{needs}
 use Rattle.rings.specs.Tables.{rows}
-use Rattle.sweep.specs.Run as run
-use Rattle.frontier.specs.Run as lines
+use Rattle.pairs.specs.Run.{listing}
 use Rattle.sweep.proofs.step.list_of.Statement.{statement}
 use Rattle.sweep.proofs.step.list_of.Tie as tie
 
@@ -19,11 +18,10 @@ listed-requires : tie.Need-listed-requires
 listed-requires c κs = search needs
 
 returns : tie.Need-returns
-unfolding run.listing
 returns c =
     let a = c .before .before .before .before .before .before .before .args in
     let z : a .i + 1 ≡ suc (a .i) = omega arith in
-    c .listed .ensures ∙ ap (λ (k : ℕ). lines.listing (rows (a .starts .now) (a .sizes .now) (a .entries .now) (a .n)) (a .v .at) (a .v .marks) k (a .j)) z
+    c .listed .ensures ∙ ap (λ (k : ℕ). listing (rows (a .starts .now) (a .sizes .now) (a .entries .now) (a .n)) (a .v .at) (a .v .marks) k (a .j)) z
 
 pub list-of-spec : {M : Type 1} → statement M
 list-of-spec = tie.close (tie.spec slice-aggregate-listed add-listed listed-requires returns)

@@ -3,10 +3,9 @@ use mathlib.Core.Path.{_≡_, ap, _∙_}
 use Prim.Native.Nat.{ℕ, suc, _+_}
 use native.Mathlib.Omega.{arith}
 use borrow.Author.Needs.{needs}
-use Rattle.sweep.specs.Run as run
-use Rattle.frontier.specs.Run as lines
 use Rattle.sweep.proofs.step.next_line.Statement.{statement}
 use Rattle.sweep.proofs.step.next_line.Tie as tie
+use Rattle.pairs.specs.Run.{replaced}
 
 slice-aggregate-replaced : tie.Need-slice-aggregate-replaced
 slice-aggregate-replaced c = search needs
@@ -18,11 +17,10 @@ replaced-requires : tie.Need-replaced-requires
 replaced-requires c κs = search needs
 
 returns : tie.Need-returns
-unfolding run.replaced
 returns c =
     let a = c .before .before .before .args in
     let z : a .i + 1 ≡ suc (a .i) = omega arith in
-    c .replaced .ensures ∙ ap (λ (k : ℕ). lines.replaced (a .v .at) (a .v .len) k (a .j) (a .g)) z
+    c .replaced .ensures ∙ ap (λ (k : ℕ). replaced (a .v .at) (a .v .len) k (a .j) (a .g)) z
 
 pub next-line-spec : {M : Type 1} → statement M
 next-line-spec = tie.close (tie.spec slice-aggregate-replaced add-replaced replaced-requires returns)

@@ -5,8 +5,8 @@ use borrow.Author.Needs.{needs}
 use borrow.Author.Tests.{not-true, not-false}
 use Rattle.rings.specs.Tables.{rows}
 use Rattle.rings.proofs.Rows.{ring-size, count-rows}
-use Rattle.frontier.proofs.Folds.{goes-on}
-use Rattle.frontier.specs.Search.{foundAs}
+use Rattle.lists.proofs.Folds.{goes-on}
+use Rattle.choice.specs.Search.{foundAs}
 use Rattle.fit.proofs.Fits.{fit-says}
 use Rattle.sweep.proofs.Fits.{fit-sane, size-le}
 use Rattle.sweep.proofs.Steps.{Running, running-start, running-done, running-stuck, found-inside, running-on, running-out}

@@ -7,9 +7,9 @@ use Rattle.lists.specs.Parts.{steps}
 use Rattle.model.specs.Labels.{right}
 use Rattle.model.specs.Sweep.{labelEdges}
 use Rattle.rings.specs.Tables.{rows}
-use Rattle.sweep.specs.Run as run
 use Rattle.sweep.proofs.step.step_labels.Statement.{statement}
 use Rattle.sweep.proofs.step.step_labels.Tie as tie
+use Rattle.sweep.specs.Run as run
 
 slice-aggregate-from-all : tie.Need-slice-aggregate-from-all
 slice-aggregate-from-all c = search needs

@@ -1,0 +1,66 @@
+-- first::front meets its contract.
+use mathlib.Core.Path.{_≡_, sym, ap, _∙_}
+use Prim.Native.Nat.{ℕ, suc, _-_}
+use native.Mathlib.Omega.{arith}
+use lib.ListN.{length, getD}
+use borrow.Author.Needs.{needs}
+use Rattle.lists.specs.Spans.{zeros}
+use Rattle.model.specs.Plan.{ring}
+use Rattle.rings.specs.Tables.{rows}
+use Rattle.rings.proofs.Rows.{ring-size}
+use Rattle.lists.proofs.Folds.{Sinks, sinks-from, sinks-on, sinks-end}
+use Rattle.frontier.proofs.first.front.Statement.{statement}
+use Rattle.frontier.proofs.first.front.Tie as tie
+use Rattle.frontier.specs.Run as run
+
+abbrev Inv-loop : tie.InvT-loop
+Inv-loop starts sizes entries n v₀ t₀ v t = Sinks (λ (i : ℕ) w. run.pushed w (getD (ring (rows starts sizes entries n) 0) (suc i) 0)) (length (ring (rows starts sizes entries n) 0) - 2) (run.pushed (run.fresh (zeros 256)) 3) t v
+
+abbrev μ-loop : tie.MeasureT-loop
+μ-loop starts sizes entries n v₀ t₀ v t = t
+
+fresh-requires : tie.Need-fresh-requires Inv-loop μ-loop
+fresh-requires c κs = search needs
+
+push-requires : tie.Need-push-requires Inv-loop μ-loop
+push-requires c κs = search needs
+
+size-of-requires : tie.Need-size-of-requires Inv-loop μ-loop
+size-of-requires c κs = search needs
+
+minus-requires : tie.Need-minus-requires Inv-loop μ-loop
+minus-requires c κs = search needs
+
+loop-holds : tie.Need-loop-holds Inv-loop μ-loop
+unfolding zeros
+loop-holds c =
+    let a = c .before .before .before .before .before .before .before .args in
+    sinks-from (c .minus .ensures ∙ ap (λ (k : ℕ). k - 2) (c .before .size-of .ensures .0 ∙ sym (ring-size (a .starts .now) (a .sizes .now) (a .entries .now) (a .n) 0))) (c .before .before .push .ensures ∙ ap (λ w. run.pushed w 3) (c .before .before .before .fresh .ensures))
+
+entry-at-requires : tie.Need-entry-at-requires Inv-loop μ-loop
+entry-at-requires c κs = search needs
+
+push-requires-2 : tie.Need-push-requires-2 Inv-loop μ-loop
+push-requires-2 c κs = search needs
+
+sub-t : tie.Need-sub-t Inv-loop μ-loop
+sub-t c = search needs
+
+loop-less : tie.Need-loop-less Inv-loop μ-loop
+loop-less c = search needs
+
+loop-again : tie.Need-loop-again Inv-loop μ-loop
+loop-again c =
+    let a = c .before .before .before .before .before .before .before .before .before .before .before .args in
+    let z : c .before .before .before .loop .t ≡ suc (c .before .before .before .loop .t - 1) = omega arith in
+    sinks-on (c .before .before .before .loop .inv) z (c .push2 .ensures ∙ ap (run.pushed (c .before .before .before .loop .v)) (c .before .entry-at .ensures ∙ ap (λ (i : ℕ). getD (ring (rows (a .starts .now) (a .sizes .now) (a .entries .now) (a .n)) 0) i 0) z))
+
+push-requires-3 : tie.Need-push-requires-3 Inv-loop μ-loop
+push-requires-3 c κs = search needs
+
+returns : tie.Need-returns Inv-loop μ-loop
+unfolding run.front
+returns c = c .push3 .ensures ∙ ap (λ w. run.pushed w 1) (sinks-end (c .before .before .loop .inv) (omega arith))
+
+pub front-spec : {M : Type 1} → statement M
+front-spec = tie.close (tie.spec Inv-loop μ-loop fresh-requires push-requires size-of-requires minus-requires loop-holds entry-at-requires push-requires-2 sub-t loop-less loop-again push-requires-3 returns)

@@ -1,0 +1,75 @@
+-- The list of a pair of positions and the frontier with it in place, on arrays: each definition is one function of src/.
+use Prim.Native.Nat.{ℕ, suc, _-_}
+use mathlib.Core.List.{List}
+use mathlib.Core.Bool.{Bool, true, false, cond, not}
+use lib.ListN.{length, getD, set}
+use lib.Dec.{eqb, ltb}
+use Rattle.lists.specs.Folds.{through, down, some}
+use Rattle.lists.specs.Spans.{zeros}
+use Rattle.model.specs.Plan.{Plan, ring}
+use Rattle.frontier.specs.declared.Line.{Line}
+use Rattle.frontier.specs.Run.{line, depth, under, pushed, fresh}
+
+-- ---- lists
+-- the line, failed
+unfoldable pub failed : Line → Line
+failed v = line false (v .len) (v .at) (v .marks)
+
+-- c is the last of the line
+unfoldable pub lastIs : Line → ℕ → Bool
+lastIs v c = cond (eqb (v .len) 0) false (eqb c (getD (v .at) (v .len - 1) 0))
+
+-- c is a border context, or is or was on the frontier, or is on the list
+unfoldable pub barred : Line → ℕ → Bool
+barred v c = cond (ltb c 4) true (not (eqb (getD (v .marks) c 0) 0))
+
+-- the line with c marked
+unfoldable pub noted : Line → ℕ → Line
+noted v c = line (v .ok) (v .len) (v .at) (set (v .marks) c 1)
+
+-- the list with c at its end, unless it stands there; it fails where c may not be on the list
+unfoldable pub added : Line → ℕ → Line
+added v c = cond (lastIs v c) v (cond (barred v c) (failed v) (noted (pushed v c) c))
+
+-- the list with what is below position k, the last of the ring first; it fails where nothing is
+unfoldable pub backAdded : Plan → List ℕ → ℕ → Line → Line
+backAdded p f k v = cond (eqb (depth p f k) 0) (failed v) (down (λ t w. added w (getD (under p f k) t 0)) (depth p f k) v)
+
+-- the same, unless the list failed before
+unfoldable pub belowAdded : Plan → List ℕ → ℕ → Line → Line
+belowAdded p f k v = cond (v .ok) (backAdded p f k v) v
+
+-- the list of positions a to j − 1
+unfoldable pub listing : Plan → List ℕ → List ℕ → ℕ → ℕ → Line
+listing p f marks a j = through (belowAdded p f) a j (fresh marks)
+
+-- the line with positions a to e − 1 of f at its end
+unfoldable pub appended : Line → List ℕ → ℕ → ℕ → Line
+appended v f a e = through (λ k w. pushed w (getD f k 0)) a e v
+
+-- the frontier f of m contexts with the list g in place of positions a to j − 1
+unfoldable pub replaced : List ℕ → ℕ → ℕ → ℕ → Line → Line
+replaced f m a j g = appended (appended (appended (fresh (g .marks)) f 0 a) (g .at) 0 (g .len)) f j m
+
+-- ---- chords
+-- for each context one more than the highest of the first m positions at which it stands
+unfoldable pub placed : List ℕ → ℕ → List ℕ
+placed f m = through (λ k place. set place (getD f k 0) (suc k)) 0 m (zeros 256)
+
+-- some neighbour of the context at position k is two or more positions further on
+unfoldable pub chordAt : Plan → List ℕ → List ℕ → ℕ → Bool
+chordAt p place f k = let r = ring p (getD f k 0) in some (λ t. ltb 2 (getD place (getD r t 0) 0 - k)) 0 (length r)
+
+-- a frontier of m contexts has a chord; the last two positions have no other two or more further on
+unfoldable pub chorded : Plan → List ℕ → ℕ → Bool
+chorded p f m = some (chordAt p (placed f m) f) 0 (m - 2)
+
+-- the line is whole and has no chord
+unfoldable pub sound : Plan → Line → Bool
+sound p v = cond (v .ok) (not (chorded p (v .at) (v .len))) false
+
+-- the pair of positions i and j of the frontier v is eligible
+unfoldable pub fits : Plan → Line → ℕ → ℕ → Bool
+fits p v i j =
+    let g = listing p (v .at) (v .marks) (suc i) j in
+    cond (ltb i j) (cond (g .ok) (sound p (replaced (v .at) (v .len) (suc i) j g)) false) false
