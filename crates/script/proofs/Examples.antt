@@ -1,0 +1,1 @@
+-- Small scripts, computed: their calls, and where they end.

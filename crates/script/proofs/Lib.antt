@@ -1,0 +1,4 @@
+pub mod Turns
+pub mod Items
+pub mod Walk
+pub mod Examples
