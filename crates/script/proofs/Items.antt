@@ -28,9 +28,9 @@ module _ (s : Sheet) (size : ℕ) {q : Option Call} {t : Sheet} {k : ℕ} where
   unfolding stepped sizeIf
   item-malformed e f g = (f ∙ ap (stepped s) (sym e), g ∙ ap (λ (p : Option Call). sizeIf p size) (sym e))
 
-  -- an item that is another one under a condition
-  pub item-same : {p : Option Call} → p ≡ q → t ≡ stepped s p → k ≡ sizeIf p size → (t ≡ stepped s q) × (k ≡ sizeIf q size)
-  item-same e f g = (f ∙ ap (stepped s) e, g ∙ ap (λ (o : Option Call). sizeIf o size) e)
+  -- an item that is the same by another name
+  pub item-same : {p : Option Call} {m : ℕ} → p ≡ q → m ≡ size → t ≡ stepped s p → k ≡ sizeIf p m → (t ≡ stepped s q) × (k ≡ sizeIf q size)
+  item-same e d f g = (f ∙ ap (stepped s) e, g ∙ λ i. sizeIf (e i) (d i))
 
 -- ---- kinds
 module _ (kind : ℕ) (a : List ℕ) where
@@ -79,9 +79,11 @@ module _ (s : List ℕ) where
   unfolding callAt
   item-past h = rw (lt-leb (argumentSize s) (length s - 4) h, and-false)
 
-  pub item-whole : 4 ≤ length s → argumentSize s ≤ length s - 4 → callOf (getD s 0 0) (take (argumentSize s) (drop 4 s)) ≡ callAt s
+  pub item-whole : {kind size : ℕ} → kind ≡ getD s 0 0 → size ≡ argumentSize s → 4 ≤ length s → size ≤ length s - 4 → callOf kind (take (4 + size - 4) (drop 4 s)) ≡ callAt s
   unfolding callAt
-  item-whole h l = rw (le-leb 4 (length s) h, le-leb (argumentSize s) (length s - 4) l)
+  item-whole {kind} {size} e f h l =
+      let m : 4 + size - 4 ≡ argumentSize s = omega arith in
+      rw (le-leb 4 (length s) h, le-leb (argumentSize s) (length s - 4) (omega arith)) (λ i. callOf (e i) (take (m i) (drop 4 s)))
 
   -- an item that is not malformed lies in the script
   pub item-fits : (c : Call) → callAt s ≡ some c → 4 + argumentSize s ≤ length s

@@ -4,8 +4,8 @@ use mathlib.Core.Path.{_≡_, refl, sym, ap, _∙_}
 use mathlib.Core.List.{List, [], _∷_}
 use mathlib.Core.Option.{Option, none, some}
 use native.Mathlib.Omega.{arith}
-use lib.ListN.{length, drop, length-drop, drop-of-length-le}
-use lib.Seq.{drop-drop}
+use lib.ListN.{length, take, drop, length-drop}
+use lib.Seq.{take-all, drop-drop}
 use Rattle.model.specs.CallLists.{Call, call}
 use Rattle.sheet.specs.declared.Sheet.{Sheet}
 use Rattle.guarantee.specs.Engine.{start, left}
@@ -45,6 +45,10 @@ pub runs-start : {b : List ℕ} {s : Sheet} → s ≡ start → Runs b s 0
 unfolding callsOf
 runs-start {b} e = record { reached = omega arith; fuel = length b; enough = omega arith; same = ap (λ (t : Sheet). left t (callsFrom (length b) b)) (sym e); rest = refl }
 
+-- all that is left from an offset on
+pub rest-whole : (b : List ℕ) (at : ℕ) → take (length b - at) (drop at b) ≡ drop at b
+rest-whole b at = take-all (length b - at) (drop at b) (omega (arith, length-drop at b))
+
 module _ {b : List ℕ} {s : Sheet} {at : ℕ} (inv : Runs b s at) where
   -- no call at this offset: the script ends here
   stops : callAt (drop at b) ≡ none → (s ≡ left start (callsOf b)) × (at ≡ endOf b)
@@ -58,37 +62,38 @@ module _ {b : List ℕ} {s : Sheet} {at : ℕ} (inv : Runs b s at) where
   pub runs-end : length b ≤ at → (s ≡ left start (callsOf b)) × (at ≡ endOf b)
   runs-end h = stops (item-short (drop at b) (omega (arith, length-drop at b)))
 
-  -- at a malformed item
-  pub runs-malformed : {size : ℕ} → size ≡ 0 → size ≡ sizeIf (callAt (drop at b)) (4 + argumentSize (drop at b)) → (s ≡ left start (callsOf b)) × (at ≡ endOf b)
-  unfolding sizeIf
-  runs-malformed {size} z e = go (callAt (drop at b)) refl e
-    where
-      go : (q : Option Call) → callAt (drop at b) ≡ q → size ≡ sizeIf q (4 + argumentSize (drop at b)) → (s ≡ left start (callsOf b)) × (at ≡ endOf b)
-      go none p f = stops p
-      go (some c) p f = absurd (omega arith)
+  -- the part of the script from the offset on, as the code lends it
+  module _ {w : List ℕ} (part : w ≡ drop at b) {size : ℕ} (sized : size ≡ sizeIf (callAt w) (4 + argumentSize w)) where
+    -- at a malformed item
+    pub runs-malformed : size ≡ 0 → (s ≡ left start (callsOf b)) × (at ≡ endOf b)
+    unfolding sizeIf
+    runs-malformed z = go (callAt w) refl sized
+      where
+        go : (q : Option Call) → callAt w ≡ q → size ≡ sizeIf q (4 + argumentSize w) → (s ≡ left start (callsOf b)) × (at ≡ endOf b)
+        go none p f = stops (ap callAt (sym part) ∙ p)
+        go (some c) p f = absurd (omega arith)
 
-  -- behind an item
-  pub runs-on : {t : Sheet} {size at′ : ℕ} → at < length b → (size ≡ 0 → ⊥) → size ≡ sizeIf (callAt (drop at b)) (4 + argumentSize (drop at b)) → t ≡ stepped s (callAt (drop at b)) → at′ ≡ at + size → Runs b t at′
-  unfolding left stepped sizeIf
-  runs-on {t} {size} {at′} h n e f g = go (callAt (drop at b)) refl e f
-    where
-      go : (q : Option Call) → callAt (drop at b) ≡ q → size ≡ sizeIf q (4 + argumentSize (drop at b)) → t ≡ stepped s q → Runs b t at′
-      go none p d u = absurd (n d)
-      go (some c) p d u =
-          let w = drop at b in
-          let k = 4 + argumentSize w in
-          let f = inv .fuel - 1 in
-          let reach = inv .reached in
-          let enough = inv .enough in
-          let one : inv .fuel ≡ suc f = omega arith in
-          let long = length-drop at b in
-          let fits = item-fits w c p in
-          let far : at + k ≡ at′ = omega arith in
-          let next : drop k w ≡ drop at′ b = drop-drop k at b ∙ ap (λ (j : ℕ). drop j b) far in
-          record {
-            reached = omega arith;
-            fuel = f;
-            enough = omega arith;
-            same = inv .same ∙ ap (λ (j : ℕ). left s (callsFrom j w)) one ∙ ap (left s) (calls-more f w c p) ∙ λ i. left (sym u i) (callsFrom f (next i));
-            rest = inv .rest ∙ ap (λ (j : ℕ). restFrom j w) one ∙ rest-more f w c p ∙ ap (restFrom f) next;
-          }
+    -- behind an item
+    pub runs-on : {t : Sheet} {at′ : ℕ} → at < length b → (size ≡ 0 → ⊥) → t ≡ stepped s (callAt w) → at′ ≡ at + size → Runs b t at′
+    unfolding left stepped sizeIf
+    runs-on {t} {at′} h n f g = go (callAt w) refl sized f
+      where
+        go : (q : Option Call) → callAt w ≡ q → size ≡ sizeIf q (4 + argumentSize w) → t ≡ stepped s q → Runs b t at′
+        go none p d u = absurd (n d)
+        go (some c) p d u =
+            let k = 4 + argumentSize w in
+            let f = inv .fuel - 1 in
+            let reach = inv .reached in
+            let enough = inv .enough in
+            let one : inv .fuel ≡ suc f = omega arith in
+            let long = ap length part ∙ length-drop at b in
+            let fits = item-fits w c p in
+            let far : at + k ≡ at′ = omega arith in
+            let next : drop k w ≡ drop at′ b = ap (drop k) part ∙ drop-drop k at b ∙ ap (λ (j : ℕ). drop j b) far in
+            record {
+              reached = omega arith;
+              fuel = f;
+              enough = omega arith;
+              same = inv .same ∙ (λ i. left s (callsFrom (one i) (sym part i))) ∙ ap (left s) (calls-more f w c p) ∙ λ i. left (sym u i) (callsFrom f (next i));
+              rest = inv .rest ∙ (λ i. restFrom (one i) (sym part i)) ∙ rest-more f w c p ∙ ap (restFrom f) next;
+            }

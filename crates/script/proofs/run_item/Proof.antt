@@ -1,3 +1,8 @@
+-- run_item meets its contract.
+use mathlib.Core.Path.{_≡_, refl, sym, ap, _∙_}
+use Prim.Native.Nat.{ℕ, _+_}
+use Rattle.script.specs.Scripts.{argumentSize}
+use Rattle.script.proofs.Items.{item-malformed, item-same, item-short, item-past, item-whole}
 use native.Mathlib.Omega.{arith}
 use borrow.Author.Needs.{needs}
 use Rattle.script.proofs.run_item.Statement.{statement}
@@ -9,57 +14,54 @@ use Rattle.script.proofs.argument_size.Reads as argument-size-reads
 use Rattle.script.proofs.malformed.Reads as malformed-reads
 use Rattle.script.proofs.run_call.Reads as run-call-reads
 
--- src/lib.rt:135:9
 malformed-requires : tie.Need-malformed-requires
 malformed-requires c κs = search needs
 
--- src/lib.rt:135:9
 returns : tie.Need-returns
-returns c = search needs
+returns c =
+    let a = c .before .before .before .args in
+    item-malformed (a .sheet) (4 + argumentSize (a .rest .now)) (item-short (a .rest .now) (c .before .if1 .taken)) (c .malformed .ensures .0) (c .malformed .ensures .1)
 
--- src/lib.rt:137:9
 argument-size-requires : tie.Need-argument-size-requires
 argument-size-requires c κs = search needs
 
--- src/lib.rt:138:8
 sub-if2 : tie.Need-sub-if2
 sub-if2 c = search needs
 
--- src/lib.rt:139:9
 malformed-requires-2 : tie.Need-malformed-requires-2
 malformed-requires-2 c κs = search needs
 
--- src/lib.rt:139:9
 returns-2 : tie.Need-returns-2
-returns-2 c = search needs
+returns-2 c =
+    let a = c .before .before .before .before .before .args in
+    item-malformed (a .sheet) (4 + argumentSize (a .rest .now)) (item-past (a .rest .now) (omega arith)) (c .malformed2 .ensures .0) (c .malformed2 .ensures .1)
 
--- src/lib.rt:141:15
 add-end : tie.Need-add-end
 add-end c = search needs
 
--- src/lib.rt:142:20
 sub-argument : tie.Need-sub-argument
 sub-argument c = search needs
 
--- src/lib.rt:142:20
 part-argument-start : tie.Need-part-argument-start
 part-argument-start c = search needs
 
--- src/lib.rt:142:20
 part-argument-end : tie.Need-part-argument-end
 part-argument-end c = search needs
 
--- src/lib.rt:143:21
 byte-requires : tie.Need-byte-requires
 byte-requires c κs = search needs
 
--- src/lib.rt:143:5
 run-call-requires : tie.Need-run-call-requires
 run-call-requires c κs = search needs
 
--- src/lib.rt:130:1
 returns-3 : tie.Need-returns-3
-returns-3 c = search needs
+returns-3 c =
+    let a = c .before .before .before .before .before .before .before .args in
+    let b = a .rest .now in
+    let size = c .before .before .before .before .argument-size .ensures .0 in
+    let head = c .before .before .before .before .before .if1 .left in
+    let room = c .before .before .before .if2 .left in
+    item-same (a .sheet) (4 + argumentSize b) (item-whole b (c .before .byte .ensures .0) size head room) (ap (4 +_) size) (c .run-call .ensures .0) (c .run-call .ensures .1)
 
 pub run-item-spec : {M : Type 1} → statement M
 run-item-spec =
