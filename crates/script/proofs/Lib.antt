@@ -1,4 +1,5 @@
 pub mod Turns
 pub mod Items
 pub mod Walk
-pub mod Examples
+pub mod Written
+pub mod Example

@@ -14,20 +14,20 @@ use Rattle.script.specs.Steps.{stepped, sizeIf}
 use Rattle.script.proofs.Items.{item-short, item-fits}
 
 -- ---- one item of the definitions
-calls-more : (fuel : ℕ) (s : List ℕ) (c : Call) → callAt s ≡ some c → callsFrom (suc fuel) s ≡ c ∷ callsFrom fuel (behind s)
+pub calls-more : (fuel : ℕ) (s : List ℕ) (c : Call) → callAt s ≡ some c → callsFrom (suc fuel) s ≡ c ∷ callsFrom fuel (behind s)
 unfolding callsFrom
 calls-more fuel s c e = ap (λ (q : Option Call). withLater q (callsFrom fuel (behind s))) e
 
-rest-more : (fuel : ℕ) (s : List ℕ) (c : Call) → callAt s ≡ some c → restFrom (suc fuel) s ≡ restFrom fuel (behind s)
+pub rest-more : (fuel : ℕ) (s : List ℕ) (c : Call) → callAt s ≡ some c → restFrom (suc fuel) s ≡ restFrom fuel (behind s)
 unfolding restFrom
 rest-more fuel s c e = ap (λ (q : Option Call). ifCalled q (restFrom fuel (behind s)) s) e
 
-calls-none : (fuel : ℕ) (s : List ℕ) → callAt s ≡ none → callsFrom fuel s ≡ []
+pub calls-none : (fuel : ℕ) (s : List ℕ) → callAt s ≡ none → callsFrom fuel s ≡ []
 unfolding callsFrom
 calls-none zero s e = refl
 calls-none (suc fuel) s e = ap (λ (q : Option Call). withLater q (callsFrom fuel (behind s))) e
 
-rest-none : (fuel : ℕ) (s : List ℕ) → callAt s ≡ none → restFrom fuel s ≡ s
+pub rest-none : (fuel : ℕ) (s : List ℕ) → callAt s ≡ none → restFrom fuel s ≡ s
 unfolding restFrom
 rest-none zero s e = refl
 rest-none (suc fuel) s e = ap (λ (q : Option Call). ifCalled q (restFrom fuel (behind s)) s) e

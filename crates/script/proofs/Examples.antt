@@ -1,1 +1,0 @@
--- Small scripts, computed: their calls, and where they end.
