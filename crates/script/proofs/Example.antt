@@ -3,7 +3,7 @@ use Prim.Native.Nat.{ℕ}
 use mathlib.Core.Path.{_≡_, refl}
 use mathlib.Core.List.{List, [], _∷_}
 use Rattle.lists.specs.Words.{words}
-use Rattle.model.specs.CallLists.{Call, sweep-labels, turn-edges}
+use Rattle.model.specs.CallLists.{sweep-labels, turn-edges}
 use Rattle.script.specs.Scripts.{callsOf, endOf, scripts-computes}
 
 -- the items begin at 0, 4, 13 and 18

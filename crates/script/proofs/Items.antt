@@ -7,7 +7,7 @@ use mathlib.Core.Option.{Option, none, some, Option·none-ne-some}
 use native.Mathlib.Omega.{arith}
 use lib.ListN.{length, getD, take, drop}
 use lib.Dec.{eqb, leb}
-use borrow.Author.Tests.{leb-true, le-leb, lt-leb, eq-eqb, ne-eqb}
+use borrow.Author.Tests.{leb-true, le-leb, lt-leb, ne-eqb}
 use Rattle.lists.proofs.Bools.{and-yes}
 use Rattle.model.specs.CallLists.{Call, open-file, offer-labels, sweep-labels, draw-chart, call}
 use Rattle.sheet.specs.declared.Sheet.{Sheet}
@@ -34,22 +34,27 @@ module _ (s : Sheet) (size : ℕ) {q : Option Call} {t : Sheet} {k : ℕ} where
 
 -- ---- kinds
 module _ (kind : ℕ) (a : List ℕ) where
+  -- kind 1
   pub kind-open : kind ≡ 1 → callOf kind a ≡ some (open-file a)
   unfolding callOf
   kind-open e = rw e
 
+  -- kind 2
   pub kind-offer : kind ≡ 2 → callOf kind a ≡ some (offer-labels a)
   unfolding callOf
   kind-offer e = rw e
 
+  -- kind 4
   pub kind-turn : kind ≡ 4 → turnOf a ≡ callOf kind a
   unfolding callOf
   kind-turn e = rw e
 
+  -- kind 3 with no argument
   pub kind-sweep : kind ≡ 3 → length a ≡ 0 → callOf kind a ≡ some sweep-labels
   unfolding callOf
   kind-sweep e z = rw (e, z)
 
+  -- kind 5 with no argument
   pub kind-chart : kind ≡ 5 → length a ≡ 0 → callOf kind a ≡ some draw-chart
   unfolding callOf
   kind-chart e z = rw (e, z)
@@ -71,14 +76,17 @@ module _ (kind : ℕ) (a : List ℕ) where
 
 -- ---- the item that the bytes begin with
 module _ (s : List ℕ) where
+  -- fewer than 4 bytes
   pub item-short : length s < 4 → callAt s ≡ none
   unfolding callAt
   item-short h = rw (lt-leb 4 (length s) h)
 
+  -- an argument that reaches past the end
   pub item-past : length s - 4 < argumentSize s → callAt s ≡ none
   unfolding callAt
   item-past h = rw (lt-leb (argumentSize s) (length s - 4) h, and-false)
 
+  -- an item that is all there, with its argument as the code lends it
   pub item-whole : {kind size : ℕ} → kind ≡ getD s 0 0 → size ≡ argumentSize s → 4 ≤ length s → size ≤ length s - 4 → callOf kind (take (4 + size - 4) (drop 4 s)) ≡ callAt s
   unfolding callAt
   item-whole {kind} {size} e f h l =

@@ -2,8 +2,8 @@
 use Prim.Native.Nat.{ℕ, _+_, _-_, _*_, _%_, _≤_, _<_}
 use mathlib.Core.Path.{_≡_, refl, sym, ap, _∙_}
 use mathlib.Core.List.{List, map}
-use mathlib.Core.Bool.{Bool, cond, and-false}
-use mathlib.Core.Option.{Option, none, some}
+use mathlib.Core.Bool.{and-false}
+use mathlib.Core.Option.{none, some}
 use native.Mathlib.Omega.{arith}
 use lib.ListN.{length, getD, take, drop, length-drop}
 use lib.Seq.{ext-getD, take-all, take-at}
@@ -14,7 +14,7 @@ use Rattle.lists.specs.Words.{words}
 use Rattle.lists.specs.Spans.{zeros, padded}
 use Rattle.lists.proofs.Ranges.{length-map-from, getD-map-from}
 use Rattle.lists.proofs.Loops.{Fills}
-use Rattle.model.specs.CallLists.{Call, turn-edges}
+use Rattle.model.specs.CallLists.{turn-edges}
 use Rattle.rings.specs.Lent.{wordsAt}
 use Rattle.lent.proofs.Rings.{length-words-at, getD-words-at}
 use Rattle.framing.specs.Offsets.{wordAt}

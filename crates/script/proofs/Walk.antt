@@ -14,19 +14,23 @@ use Rattle.script.specs.Steps.{stepped, sizeIf}
 use Rattle.script.proofs.Items.{item-short, item-fits}
 
 -- ---- one item of the definitions
+-- a call and those that follow it
 pub calls-more : (fuel : ℕ) (s : List ℕ) (c : Call) → callAt s ≡ some c → callsFrom (suc fuel) s ≡ c ∷ callsFrom fuel (behind s)
 unfolding callsFrom
 calls-more fuel s c e = ap (λ (q : Option Call). withLater q (callsFrom fuel (behind s))) e
 
+-- the rest behind an item
 pub rest-more : (fuel : ℕ) (s : List ℕ) (c : Call) → callAt s ≡ some c → restFrom (suc fuel) s ≡ restFrom fuel (behind s)
 unfolding restFrom
 rest-more fuel s c e = ap (λ (q : Option Call). ifCalled q (restFrom fuel (behind s)) s) e
 
+-- no calls from a malformed item on
 pub calls-none : (fuel : ℕ) (s : List ℕ) → callAt s ≡ none → callsFrom fuel s ≡ []
 unfolding callsFrom
 calls-none zero s e = refl
 calls-none (suc fuel) s e = ap (λ (q : Option Call). withLater q (callsFrom fuel (behind s))) e
 
+-- the rest from a malformed item on
 pub rest-none : (fuel : ℕ) (s : List ℕ) → callAt s ≡ none → restFrom fuel s ≡ s
 unfolding restFrom
 rest-none zero s e = refl
@@ -41,6 +45,7 @@ pub record Runs (b : List ℕ) (s : Sheet) (at : ℕ) : Type 0 where
   pub same : left start (callsOf b) ≡ left s (callsFrom fuel (drop at b))
   pub rest : restFrom (length b) b ≡ restFrom fuel (drop at b)
 
+-- at the script's beginning, with a fresh sheet
 pub runs-start : {b : List ℕ} {s : Sheet} → s ≡ start → Runs b s 0
 unfolding callsOf
 runs-start {b} e = record { reached = omega arith; fuel = length b; enough = omega arith; same = ap (λ (t : Sheet). left t (callsFrom (length b) b)) (sym e); rest = refl }

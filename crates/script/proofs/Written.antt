@@ -1,12 +1,11 @@
 -- Every list of calls whose arguments fit an item has a script of bytes: the calls of its script are that list, and the script ends at its length.
-use Prim.Native.Nat.{ℕ, zero, suc, _+_, _-_, _*_, _/_, _%_, _^_, _≤_, _<_}
+use Prim.Native.Nat.{ℕ, zero, suc, _+_, _-_, _/_, _%_, _^_, _≤_, _<_}
 use mathlib.Core.Path.{_≡_, refl, sym, ap, _∙_}
 use mathlib.Core.List.{List, [], _∷_, _++_, List·Memᴰ·head, List·Memᴰ·tail, List·Memᴰ·not-nil}
-use mathlib.Core.Option.{Option, none, some}
+use mathlib.Core.Option.{none, some}
 use native.Mathlib.Omega.{arith}
 use lib.ListN.{length, take, drop, length-append}
 use lib.Seq.{take-append-seam, drop-append-seam}
-use borrow.Author.Tests.{le-leb}
 use Rattle.lists.specs.Words.{words, bytes}
 use Rattle.lists.proofs.Words.{words-bytes, length-bytes}
 use Rattle.model.specs.CallLists.{Call, open-file, offer-labels, sweep-labels, turn-edges, draw-chart}
@@ -45,8 +44,9 @@ turn-read items direction h =
     let long = length-bytes items in
     turn-whole (direction ∷ bytes items) (omega arith) (omega arith) ∙ ap (λ (l : List ℕ). some (turn-edges l direction)) (words-bytes items)
 
--- the item of a call: the call is read back, the rest stands behind it, and it has 4 bytes or more
+-- the item of a call, at the front of a script
 module _ (s : List ℕ) where
+  -- the call is read back
   call-read : (c : Call) → Holds c → callAt (itemOf c ++ s) ≡ some c
   unfolding itemOf callOf
   call-read (open-file b) h = item-read 1 b s
@@ -55,6 +55,7 @@ module _ (s : List ℕ) where
   call-read (turn-edges items direction) h = item-read 4 (direction ∷ bytes items) s ∙ turn-read items direction (h .1)
   call-read draw-chart h = item-read 5 [] s
 
+  -- the rest stands behind it
   call-behind : (c : Call) → behind (itemOf c ++ s) ≡ s
   unfolding itemOf
   call-behind (open-file b) = item-behind 1 b s
@@ -63,6 +64,7 @@ module _ (s : List ℕ) where
   call-behind (turn-edges items direction) = item-behind 4 (direction ∷ bytes items) s
   call-behind draw-chart = item-behind 5 [] s
 
+  -- it has 4 bytes or more
   call-long : (c : Call) → 4 + length s ≤ length (itemOf c ++ s)
   unfolding itemOf
   call-long (open-file b) = omega (arith, length-append b s)
@@ -72,9 +74,11 @@ module _ (s : List ℕ) where
   call-long draw-chart = omega arith
 
 -- ---- the whole script
+-- no call where nothing is left
 none-left : callAt [] ≡ none
 none-left = item-short [] (omega arith)
 
+-- all calls are read back, and nothing is left, with fuel enough
 calls-read : (cs : List Call) → AllHeld cs → (fuel : ℕ) → length (scriptOf cs) ≤ fuel → (callsFrom fuel (scriptOf cs) ≡ cs) × (restFrom fuel (scriptOf cs) ≡ [])
 unfolding scriptOf
 calls-read [] h fuel l = (calls-none fuel [] none-left, rest-none fuel [] none-left)
@@ -97,13 +101,16 @@ unfolding endOf
 script-ends cs h = let e = ap length (calls-read cs h (length (scriptOf cs)) (omega arith) .1) in omega arith
 
 -- ---- the script is a list of bytes
+-- no entries
 below-none : (k : ℕ) → Below k []
 below-none k a m = absurd (List·Memᴰ·not-nil m)
 
+-- one more entry
 below-more : (k b : ℕ) (l : List ℕ) → b < k → Below k l → Below k (b ∷ l)
 below-more k b l p h a (List·Memᴰ·head e) = omega arith
 below-more k b l p h a (List·Memᴰ·tail m) = h a m
 
+-- two lists joined
 below-join : (k : ℕ) (l m : List ℕ) → Below k l → Below k m → Below k (l ++ m)
 below-join k [] m p q = q
 below-join k (a ∷ l) m p q = below-more k a (l ++ m) (p a (List·Memᴰ·head refl)) (below-join k l m (λ b i. p b (List·Memᴰ·tail i)) q)

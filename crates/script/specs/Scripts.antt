@@ -13,7 +13,7 @@ use Rattle.model.specs.CallLists.{Call, open-file, offer-labels, sweep-labels, 
 abbrev pub argumentSize : List ℕ → ℕ
 argumentSize s = getD s 1 0 + 256 * getD s 2 0 + 65536 * getD s 3 0
 
--- a call with no argument
+-- a call that has no argument; none where one is there
 abbrev pub alone : Call → List ℕ → Option Call
 alone c a = cond (eqb (length a) 0) (some c) none
 
@@ -39,7 +39,7 @@ callAt s = cond (leb 4 (length s) && leb (argumentSize s) (length s - 4)) (callO
 abbrev pub behind : List ℕ → List ℕ
 behind s = drop (4 + argumentSize s) s
 
--- a call with those that follow it; none where the item is malformed
+-- a call and those that follow it; no calls where the item is malformed
 abbrev pub withLater : Option Call → List Call → List Call
 withLater none later = []
 withLater (some c) later = c ∷ later
@@ -49,11 +49,12 @@ unfoldable pub callsFrom : ℕ → List ℕ → List Call
 callsFrom zero s = []
 callsFrom (suc fuel) s = let later = callsFrom fuel (behind s) in withLater (callAt s) later
 
--- the bytes from the first malformed item on; none where every item is well formed
+-- what follows an item; the item itself with all behind it where it is malformed
 abbrev pub ifCalled : Option Call → List ℕ → List ℕ → List ℕ
 ifCalled none later s = s
 ifCalled (some c) later s = later
 
+-- the bytes from the first malformed item on, as far as the fuel lasts; no bytes where every item is well formed
 unfoldable pub restFrom : ℕ → List ℕ → List ℕ
 restFrom zero s = s
 restFrom (suc fuel) s = let later = restFrom fuel (behind s) in ifCalled (callAt s) later s

@@ -1,8 +1,7 @@
 -- run_call meets its contract.
-use mathlib.Core.Path.{_≡_, refl, sym, ap, _∙_}
+use mathlib.Core.Path.{refl, _∙_}
 use Rattle.model.specs.CallLists.{open-file, offer-labels, sweep-labels, draw-chart, call}
 use Rattle.script.proofs.Items.{item-ran, item-malformed, item-same, kind-open, kind-offer, kind-turn, kind-sweep, kind-chart, kind-alone, kind-other}
-use native.Mathlib.Omega.{arith}
 use borrow.Author.Needs.{needs}
 use Rattle.script.proofs.run_call.Statement.{statement}
 use Rattle.script.proofs.run_call.Tie as tie

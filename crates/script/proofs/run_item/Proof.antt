@@ -1,6 +1,6 @@
 -- run_item meets its contract.
-use mathlib.Core.Path.{_≡_, refl, sym, ap, _∙_}
-use Prim.Native.Nat.{ℕ, _+_}
+use mathlib.Core.Path.{ap}
+use Prim.Native.Nat.{_+_}
 use Rattle.script.specs.Scripts.{argumentSize}
 use Rattle.script.proofs.Items.{item-malformed, item-same, item-short, item-past, item-whole}
 use native.Mathlib.Omega.{arith}

@@ -1,6 +1,6 @@
 -- run_script meets its contract.
-use mathlib.Core.Path.{_≡_, refl, sym, ap, _∙_}
-use Prim.Native.Nat.{ℕ, _+_, _-_}
+use mathlib.Core.Path.{refl}
+use Prim.Native.Nat.{_+_, _-_}
 use lib.ListN.{length}
 use Rattle.guarantee.proofs.Guarantee.{guarantee}
 use Rattle.script.specs.Scripts.{callsOf}

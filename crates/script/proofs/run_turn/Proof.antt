@@ -1,7 +1,6 @@
 -- run_turn meets its contract.
-use mathlib.Core.Path.{_≡_, refl, sym, ap, _∙_}
-use Prim.Native.Nat.{ℕ, _+_, _*_, _/_}
-use mathlib.Core.List.{List}
+use mathlib.Core.Path.{_∙_}
+use Prim.Native.Nat.{_/_}
 use lib.ListN.{length, getD, take, drop}
 use Rattle.lists.specs.Words.{words}
 use Rattle.model.specs.CallLists.{turn-edges, call}

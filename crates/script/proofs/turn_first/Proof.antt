@@ -1,7 +1,6 @@
 -- turn_first meets its contract.
 use mathlib.Core.Path.{sym}
 use lib.Seq.{length-take-le}
-use native.Mathlib.Omega.{arith}
 use borrow.Author.Needs.{needs}
 use Rattle.script.proofs.turn_first.Statement.{statement}
 use Rattle.script.proofs.turn_first.Tie as tie
