@@ -1,0 +1,3 @@
+pub mod Scripts
+pub mod Written
+pub mod Steps
