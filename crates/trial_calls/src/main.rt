@@ -13,6 +13,7 @@
 //    9 same         compares the sheet with the kept one
 //   10 ring         the context, then the bytes of a file
 //   11 open_write   the length of the buffer, filled with 170 before, then the bytes of a file
+//   12 script       a list of calls of kinds 1 to 5 as one script: the sheet becomes what it leaves on a fresh sheet
 //
 // A kind with no argument named here has an argument of no bytes. Each item gives a line: the call and its answer; where bytes
 // were written or handed back, `of`, their number, a colon and their checksum; then a semicolon and the sheet afterwards: its
@@ -376,8 +377,18 @@ fn run_call(sheet: Sheet, kind: usize, argument: &[u8]) -> Sheet {
     }
 }
 
+// A script: the sheet that it leaves.
+fn run_script(argument: &[u8]) -> Sheet {
+    let ran = script::run_script(argument);
+    print(b"script ends at ", ran.at);
+    ran.sheet
+}
+
 // An item: the sheet afterwards.
 fn run_item(sheet: Sheet, kept: Sheet, kind: usize, argument: &[u8]) -> Sheet {
+    if kind == 12 {
+        return run_script(argument);
+    }
     if 5 < kind {
         run_look(sheet, kept, kind, argument);
         return sheet;
@@ -401,7 +412,7 @@ fn is_turn(size: usize) -> bool {
 // Has an item of this kind an argument of this length?
 fn is_item(kind: usize, size: usize) -> bool {
     match kind {
-        1 | 2 => true,
+        1 | 2 | 12 => true,
         4 => is_turn(size),
         6 => size == 2,
         10 | 11 => 2 <= size,

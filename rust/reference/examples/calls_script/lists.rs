@@ -28,20 +28,48 @@ pub fn call_lists(script: &mut Script) {
     }
 }
 
-/// A random list of calls on a fresh sheet.
+/// A random list of calls on a fresh sheet; then those that change a sheet once more, as one script, whole and damaged.
 fn call_list(script: &mut Script, case: &Case, count: usize, random: &mut Random) {
     script.fresh();
+    let mut calls = Vec::new();
     for _ in 0..count {
+        let mut one = Script::default();
         match random.below(13) {
-            0 | 1 => open_call(script, case, random),
-            2 | 3 => offer_call(script, case, random),
-            4 | 5 => script.chart(),
-            6 => script.scan(),
-            7 => write_call(script, case, random),
-            8 => script.keep(),
-            9 => script.same(),
-            10 => script.sweep(),
-            _ => turn_call(script, case, random),
+            0 | 1 => open_call(&mut one, case, random),
+            2 | 3 => offer_call(&mut one, case, random),
+            4 | 5 => one.chart(),
+            6 => one.scan(),
+            7 => write_call(&mut one, case, random),
+            8 => one.keep(),
+            9 => one.same(),
+            10 => one.sweep(),
+            _ => turn_call(&mut one, case, random),
+        }
+        script.bytes.extend(&one.bytes);
+        if (1..=5).contains(&one.bytes[0]) {
+            calls.extend(one.bytes);
+        }
+    }
+    scripts(script, &calls, random);
+}
+
+/// A script whole and cut; a short one also with an item behind it that is none of its calls.
+fn scripts(script: &mut Script, calls: &[u8], random: &mut Random) {
+    script.script(calls);
+    script.script(&calls[..random.below(calls.len())]);
+    if calls.len() < 2_000 {
+        let long_turn = [&[4, 99, 9, 0], [0; 2403].as_slice()].concat();
+        let ends: [&[u8]; 7] = [
+            &[0, 0, 0, 0],
+            &[6, 2, 0, 0, 9, 0],
+            &[3, 1, 0, 0, 7],
+            &[5, 1, 0, 0, 7],
+            &[4, 0, 0, 0],
+            &[4, 2, 0, 0, 0, 0],
+            &long_turn,
+        ];
+        for end in ends {
+            script.script(&[calls, end, calls].concat());
         }
     }
 }

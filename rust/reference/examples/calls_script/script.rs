@@ -73,6 +73,11 @@ impl Script {
         self.item(10, &[&numbers(&[context]), file]);
     }
 
+    /// A list of calls as one script.
+    pub fn script(&mut self, calls: &[u8]) {
+        self.item(12, &[calls]);
+    }
+
     /// Open a file and write it into a buffer of a length.
     pub fn open_write(&mut self, length: usize, file: &[u8]) {
         self.item(11, &[&numbers(&[length as u16]), file]);

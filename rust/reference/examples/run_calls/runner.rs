@@ -10,6 +10,8 @@ const FILLED: u8 = 170;
 const LONGEST: usize = 131_072;
 /// The longest argument of a turn: a direction and 4,096 numbers.
 const LONGEST_TURN: usize = 8193;
+/// The longest argument of a turn in a script: a direction and 1,200 numbers.
+const LONGEST_IN_SCRIPT: usize = 2401;
 /// A run has fewer items than this.
 const MOST_ITEMS: usize = 100_000;
 
@@ -47,7 +49,7 @@ fn item(script: &[u8]) -> Option<(u8, &[u8], &[u8])> {
     let length = u32::from_le_bytes([head[1], head[2], head[3], 0]) as usize;
     let formed = match head[0] {
         0 | 3 | 5 | 7 | 8 | 9 => length == 0,
-        1 | 2 => true,
+        1 | 2 | 12 => true,
         4 => length % 2 == 1 && length <= LONGEST_TURN,
         6 => length == 2,
         10 | 11 => length >= 2,
@@ -134,6 +136,8 @@ impl Run {
     fn line(&mut self, kind: u8, argument: &[u8]) -> String {
         let call = if kind < 6 {
             self.call(kind, argument)
+        } else if kind == 12 {
+            self.script(argument)
         } else {
             self.look(kind, argument)
         };
@@ -161,6 +165,21 @@ impl Run {
             _ => ("chart", chart(sheet)),
         };
         format!("{name}{}", answered(answer))
+    }
+
+    /// A script: calls from a fresh sheet on, up to the first item that is none of theirs.
+    fn script(&mut self, script: &[u8]) -> String {
+        let mut run = Run::default();
+        let mut rest = script;
+        while let Some((kind @ 1..=5, argument, after)) = item(rest) {
+            if kind == 4 && argument.len() > LONGEST_IN_SCRIPT {
+                break;
+            }
+            run.call(kind, argument);
+            rest = after;
+        }
+        self.sheet = run.sheet;
+        format!("script ends at {}", script.len() - rest.len())
     }
 
     /// A call that never alters a sheet, or keep.
