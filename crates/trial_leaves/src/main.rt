@@ -278,10 +278,17 @@ fn print_flat<'a>(
     }
 }
 
-// What the leaves find in a plan that is framed; `labels` and `chart` are empty where the file has none.
-fn print_plan<'a>(file: &'a [u8], sizes: &'a [u8], n: usize, labels: &'a [u8], chart: &'a [u8]) {
+// What the leaves find in a plan that is framed, behind a name; `labels` and `chart` are empty where the file has none.
+fn print_plan<'a>(
+    name: &'a [u8],
+    file: &'a [u8],
+    sizes: &'a [u8],
+    n: usize,
+    labels: &'a [u8],
+    chart: &'a [u8],
+) {
     let starts = rings::starts_of(sizes);
-    print(b" n ", n);
+    print(name, n);
     if !print_lent_rules(file, &starts, sizes, n) {
         return;
     }
@@ -316,49 +323,26 @@ fn chart_size(n: usize) -> usize {
     4 + 4 * n
 }
 
+// A refusal: its number and its place.
+fn print_refusal(number: u8, place: usize) {
+    print(b"refused ", lists::wide_byte(number));
+    print(b" at ", place);
+}
+
 // A file: the refusal, or what stands in it.
 fn print_file(file: &[u8]) {
     let layout = framing::frame_file(file);
     let found = layout.found;
     let n = layout.n;
     let sizes = layout.sizes;
-    let at = layout.labels;
-    let chart = layout.chart;
+    let none = framing::ring_part(file, 0, 0);
+    let labels = framing::ring_part(file, layout.labels, dart_count(n));
+    let chart = framing::ring_part(file, layout.chart, chart_size(n));
     match found {
-        framing::Found::Refused(number, place) => {
-            print(b"refused ", lists::wide_byte(number));
-            print(b" at ", place);
-        }
-        framing::Found::Opened => {
-            io::write_all(1, b"plan");
-            print_plan(
-                file,
-                &sizes,
-                n,
-                framing::ring_part(file, 0, 0),
-                framing::ring_part(file, 0, 0),
-            );
-        }
-        framing::Found::Labelled => {
-            io::write_all(1, b"labels");
-            print_plan(
-                file,
-                &sizes,
-                n,
-                framing::ring_part(file, at, dart_count(n)),
-                framing::ring_part(file, 0, 0),
-            );
-        }
-        framing::Found::Charted => {
-            io::write_all(1, b"chart");
-            print_plan(
-                file,
-                &sizes,
-                n,
-                framing::ring_part(file, at, dart_count(n)),
-                framing::ring_part(file, chart, chart_size(n)),
-            );
-        }
+        framing::Found::Refused(number, place) => print_refusal(number, place),
+        framing::Found::Opened => print_plan(b"plan n ", file, &sizes, n, none, none),
+        framing::Found::Labelled => print_plan(b"labels n ", file, &sizes, n, labels, none),
+        framing::Found::Charted => print_plan(b"chart n ", file, &sizes, n, labels, chart),
     }
     io::write_all(1, b"\n");
 }

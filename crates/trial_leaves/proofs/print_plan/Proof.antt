@@ -15,76 +15,56 @@ use Rattle.trial_leaves.proofs.print_flat.Reads as print-flat-reads
 use Rattle.trial_leaves.proofs.print_lent_rules.Reads as print-lent-rules-reads
 
 abbrev Inv-loop : tie.InvT-loop
-Inv-loop file sizes n labels chart starts entries₀ u₀ entries u = (u ≤ n) × (length entries ≡ 1186)
+Inv-loop name file sizes n labels chart starts entries₀ u₀ entries u = (u ≤ n) × (length entries ≡ 1186)
 
 abbrev μ-loop : tie.MeasureT-loop
-μ-loop file sizes n labels chart starts entries₀ u₀ entries u = n - u
+μ-loop name file sizes n labels chart starts entries₀ u₀ entries u = n - u
 
--- src/main.rt:133:18
 starts-of-requires : tie.Need-starts-of-requires Inv-loop μ-loop
 starts-of-requires c κs = search needs
 
--- src/main.rt:134:11
-slice-aggregate-print : tie.Need-slice-aggregate-print Inv-loop μ-loop
-slice-aggregate-print c = search needs
-
--- src/main.rt:134:5
 print-requires : tie.Need-print-requires Inv-loop μ-loop
 print-requires c κs = search needs
 
--- src/main.rt:135:32
 slice-aggregate-print-lent-rules : tie.Need-slice-aggregate-print-lent-rules Inv-loop μ-loop
 slice-aggregate-print-lent-rules c = search needs
 
--- src/main.rt:135:9
 print-lent-rules-requires : tie.Need-print-lent-rules-requires Inv-loop μ-loop
 print-lent-rules-requires c κs = search needs
 
--- src/main.rt:136:9
 returns : tie.Need-returns Inv-loop μ-loop
 returns c = search needs
 
--- src/main.rt:140:5
 loop-holds : tie.Need-loop-holds Inv-loop μ-loop
 loop-holds c = search needs
 
--- src/main.rt:141:19
 slice-aggregate-copy-ring : tie.Need-slice-aggregate-copy-ring Inv-loop μ-loop
 slice-aggregate-copy-ring c = search needs
 
--- src/main.rt:141:39
 slice-aggregate-copy-ring-2 : tie.Need-slice-aggregate-copy-ring-2 Inv-loop μ-loop
 slice-aggregate-copy-ring-2 c = search needs
 
--- src/main.rt:141:9
 copy-ring-requires : tie.Need-copy-ring-requires Inv-loop μ-loop
 copy-ring-requires c κs = search needs
 
--- src/main.rt:142:9
 add-u : tie.Need-add-u Inv-loop μ-loop
 add-u c = search needs
 
--- src/main.rt:140:5
 loop-less : tie.Need-loop-less Inv-loop μ-loop
 loop-less c = search needs
 
--- src/main.rt:140:5
 loop-again : tie.Need-loop-again Inv-loop μ-loop
 loop-again c = search needs
 
--- src/main.rt:144:22
 slice-aggregate-print-flat : tie.Need-slice-aggregate-print-flat Inv-loop μ-loop
 slice-aggregate-print-flat c = search needs
 
--- src/main.rt:144:38
 slice-aggregate-print-flat-2 : tie.Need-slice-aggregate-print-flat-2 Inv-loop μ-loop
 slice-aggregate-print-flat-2 c = search needs
 
--- src/main.rt:144:5
 print-flat-requires : tie.Need-print-flat-requires Inv-loop μ-loop
 print-flat-requires c κs = search needs
 
--- src/main.rt:132:1
 returns-2 : tie.Need-returns-2 Inv-loop μ-loop
 returns-2 c = search needs
 
@@ -95,7 +75,6 @@ print-plan-spec =
     Inv-loop
     μ-loop
     starts-of-requires
-    slice-aggregate-print
     print-requires
     slice-aggregate-print-lent-rules
     print-lent-rules-requires

@@ -7,29 +7,27 @@ use Rattle.trial_leaves.proofs.write_part.Statement.{statement}
 use Rattle.trial_leaves.proofs.write_part.Tie as tie
 use Rattle.trial_leaves.proofs.write_part.Reads as reads
 use Rattle.trial_leaves.proofs.write_part.Lts as lts
+use Rattle.trial_leaves.proofs.print_answer.Reads as print-answer-reads
 use Rattle.trial_leaves.proofs.write_alone.Reads as write-alone-reads
 
--- src/main.rt:135:9
 returns : tie.Need-returns
 returns c = search needs
 
--- src/main.rt:137:17
 slice-relend-prefix-write-alone : tie.Need-slice-relend-prefix-write-alone
 slice-relend-prefix-write-alone c = search needs
 
--- src/main.rt:137:17
 slice-aggregate-write-alone : tie.Need-slice-aggregate-write-alone
 slice-aggregate-write-alone c = let a = c .before .before .before .before .before .args in sym (length-take-le (a .size) (a .space .now) (omega arith))
 
--- src/main.rt:137:5
 write-alone-requires : tie.Need-write-alone-requires
 write-alone-requires c κs = search needs
 
--- src/main.rt:133:1
+print-answer-requires : tie.Need-print-answer-requires
+print-answer-requires c κs = search needs
+
 same-length : tie.Need-same-length
 same-length c = search needs
 
--- src/main.rt:133:1
 returns-2 : tie.Need-returns-2
 returns-2 c = search needs
 
@@ -41,5 +39,6 @@ write-part-spec =
     slice-relend-prefix-write-alone
     slice-aggregate-write-alone
     write-alone-requires
+    print-answer-requires
     same-length
     returns-2)
