@@ -1,16 +1,18 @@
 -- Scan as a search context by context: first a, then b, then c; and the tests that the code makes of one triple.
 use Prim.Native.Nat.{ℕ, zero, suc, _+_, _-_, _≤_, _<_}
 use mathlib.Core.Path.{_≡_, refl, sym, ap, _∙_, subst}
-use mathlib.Core.List.{List, [], _∷_, _++_, map}
+use mathlib.Core.List.{List, [], _∷_, _++_, map, List·Memᴰ}
 use mathlib.Core.Bool.{Bool, true, false, cond, not, _&&_, _||_, and-true}
 use mathlib.Core.Option.{Option, none, some}
 use native.Mathlib.Omega.{arith}
 use lib.Dec.{eqb, ltb}
-use borrow.Author.Tests.{ltb-true, lt-ltb, le-ltb, eq-eqb, ne-eqb}
+use borrow.Author.Tests.{ltb-true, ltb-false, lt-ltb, le-ltb, eq-eqb, ne-eqb}
+use Rattle.lists.proofs.Bools.{and-yes}
 use Rattle.lists.specs.Ranges.{from, firstFrom, lowest}
 use Rattle.lists.specs.Parts.{concat}
 use Rattle.lists.proofs.Ranges.{FirstOf, first-found, none-first}
-use Rattle.model.specs.Plan.{Plan, count, adjacent, step, outer, closes, walk, onInnerFace}
+use Rattle.model.proofs.Plans.{adjacent-mem}
+use Rattle.model.specs.Plan.{Plan, count, ring, adjacent, step, outer, closes, walk, onInnerFace}
 use Rattle.model.specs.Scan.{Triple, after, triples, innerFace, enclosing, firstEnclosing, scan}
 use Rattle.faces.proofs.Flags.{flag-yes, flag-no, not-flag-yes, not-flag-no}
 use Rattle.scan.specs.Scanned.{thirdFor, secondFor, firstFor}
@@ -107,12 +109,46 @@ module _ {f : ℕ → Bool} {s n u : ℕ} (inv : Seeks f s n u) where
   unfolding firstFrom
   seeks-end h = let z : n - u ≡ 0 = omega arith in sym (inv .same ∙ ap (firstFrom f u) z)
 
--- no c encloses with a and b that are no neighbours
-pub third-apart : (p : Plan) (n a b : ℕ) {t : Bool} → b < n → t ≡ adjacent p a b → not t ≡ true → n ≡ thirdFor p n a b
+-- what encloses with a and b is a neighbour of b
+pub enclosing-near : (p : Plan) (a b c : ℕ) → enclosing p (a, b, c) ≡ true → adjacent p b c ≡ true
+unfolding enclosing
+enclosing-near p a b c e =
+    let rest = not (innerFace p a b c || innerFace p a c b) in
+    let (x, _) = and-yes (adjacent p a b && adjacent p a c && adjacent p b c) rest e in
+    and-yes (adjacent p a b && adjacent p a c) (adjacent p b c) x .1
+
+-- and b is a neighbour of a
+enclosing-first : (p : Plan) (a b c : ℕ) → enclosing p (a, b, c) ≡ true → adjacent p a b ≡ true
+unfolding enclosing
+enclosing-first p a b c e =
+    let rest = not (innerFace p a b c || innerFace p a c b) in
+    let (x, _) = and-yes (adjacent p a b && adjacent p a c && adjacent p b c) rest e in
+    let (y, _) = and-yes (adjacent p a b && adjacent p a c) (adjacent p b c) x in
+    and-yes (adjacent p a b) (adjacent p a c) y .0
+
+first-empty : (f : ℕ → Bool) (a : ℕ) → firstFrom f a 0 ≡ a
+unfolding firstFrom
+first-empty f a = refl
+
+-- so whatever encloses with a and some c stands in a's ring
+pub third-near : (p : Plan) (n a b : ℕ) → ltb (thirdFor p n a b) n ≡ true → List·Memᴰ b (ring p a)
 unfolding thirdFor
-third-apart p n a b h near apart =
-    let whole : suc b + (n - suc b) ≡ n = omega arith in
-    sym (none-first (λ (c : ℕ). enclosing p (a, b, c)) (suc b) (n - suc b) (λ c l m. sym (apart-ab p a b c near apart)) ∙ whole)
+third-near p n a b e = go (ltb (suc b) n) refl
+  where
+    f : ℕ → Bool
+    f c = enclosing p (a, b, c)
+
+    go : (t : Bool) → ltb (suc b) n ≡ t → List·Memᴰ b (ring p a)
+    go true q =
+        let h = ltb-true (suc b) n q in
+        let low = ltb-true (firstFrom f (suc b) (n - suc b)) n e in
+        adjacent-mem p a b (enclosing-first p a b (firstFrom f (suc b) (n - suc b)) (first-found f (suc b) (n - suc b) (omega arith) .passes))
+    go false q =
+        let h = ltb-false (suc b) n q in
+        let low = ltb-true (firstFrom f (suc b) (n - suc b)) n e in
+        let z : n - suc b ≡ 0 = omega arith in
+        let empty = ap (firstFrom f (suc b)) z ∙ first-empty f (suc b) in
+        absurd (omega arith)
 
 -- ---- the first triple of rows of triples is the first triple of the first row that has one
 module _ (p : Plan) where

@@ -1,6 +1,6 @@
 -- What a scan says in 01's words, and the search for the smallest triple context by context.
 use Prim.Native.Nat.{ℕ, suc, _-_}
-use mathlib.Core.Bool.{Bool}
+use mathlib.Core.Bool.{Bool, cond, _&&_}
 use mathlib.Core.Option.{Option, none, some}
 use lib.Dec.{ltb}
 use Rattle.lists.specs.Ranges.{firstFrom, lowest}
@@ -14,6 +14,10 @@ use Rattle.scan.specs.declared.Scanned.the-variants.{Triple, Nothing}
 unfoldable pub scannedAs : Scanned → Option model.Triple
 scannedAs (Triple a b c) = some (a, b, c)
 scannedAs Nothing = none
+
+-- c, if it lies above b and below the best so far and passes; else the best so far
+unfoldable pub nearer : (ℕ → Bool) → ℕ → ℕ → ℕ → ℕ
+nearer f b c best = cond (ltb b c && (ltb c best && f c)) c best
 
 -- the lowest c above b, below n, for which a, b, c enclose; n if there is none
 unfoldable pub thirdFor : Plan → ℕ → ℕ → ℕ → ℕ

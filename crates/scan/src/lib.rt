@@ -1,9 +1,10 @@
 // Scan over flat arrays: the smallest triple of mutual neighbours that are no inner face.
 ghost use mathlib.Core.Path.{_≡_};
-ghost use Prim.Native.Nat.{_<_};
+ghost use Prim.Native.Nat.{ℕ, _≤_, _<_};
+ghost use lib.Dec.{ltb};
 ghost use Rattle.model.specs.Scan.{scan, enclosing, innerFace};
 ghost use Rattle.rings.specs.Tables.{rows};
-ghost use Rattle.scan.specs.Scanned.{scannedAs, firstFor, secondFor, thirdFor};
+ghost use Rattle.scan.specs.Scanned.{scannedAs, nearer, firstFor, secondFor, thirdFor};
 
 // What a scan says: a triple, or that there is none.
 pub enum Scanned {
@@ -62,7 +63,32 @@ fn encloses<'a>(
     !is_inner_face(starts, sizes, entries, n, a, c, b)
 }
 
-// The lowest c above b for which a, b, c enclose; n if there is none.
+// The lower of c and the best so far, if c lies above b and encloses with a and b.
+fn nearer_third<'a>(
+    starts: &'a [u16],
+    sizes: &'a [u8],
+    entries: &'a [u16],
+    n: usize,
+    a: usize,
+    b: usize,
+    c: usize,
+    best: usize,
+) -> usize
+    ensures { λ r. ⌜ r ≡ nearer (λ (k : ℕ). enclosing (rows (now (starts .entry)) (now (sizes .entry)) (now (entries .entry)) n) (a, b, k)) b c best ⌝ }
+{
+    if c <= b {
+        return best;
+    }
+    if best <= c {
+        return best;
+    }
+    if encloses(starts, sizes, entries, n, a, b, c) {
+        return c;
+    }
+    best
+}
+
+// The lowest c above b for which a, b, c enclose; n if there is none. Such a c stands in b's ring.
 fn third_for<'a>(
     starts: &'a [u16],
     sizes: &'a [u8],
@@ -74,20 +100,43 @@ fn third_for<'a>(
     requires { ⌜ b < n ⌝ }
     ensures { λ r. ⌜ r ≡ thirdFor (rows (now (starts .entry)) (now (sizes .entry)) (now (entries .entry)) n) n a b ⌝ }
 {
-    if !rings::is_adjacent(starts, sizes, entries, n, a, b) {
-        return n;
+    let k = rings::size_of(sizes, n, b);
+    let mut best = n;
+    let mut i = 0;
+    while i < k {
+        let c = rings::neighbour_at(starts, sizes, entries, n, b, i);
+        best = nearer_third(starts, sizes, entries, n, a, b, c, best);
+        i += 1;
     }
-    let mut c = b + 1;
-    while c < n {
-        if encloses(starts, sizes, entries, n, a, b, c) {
-            return c;
-        }
-        c += 1;
-    }
-    c
+    best
 }
 
-// The lowest b above a for which a, b and some c enclose; n if there is none.
+// The lower of b and the best so far, if b lies above a and encloses with a and some c.
+fn nearer_second<'a>(
+    starts: &'a [u16],
+    sizes: &'a [u8],
+    entries: &'a [u16],
+    n: usize,
+    a: usize,
+    b: usize,
+    best: usize,
+) -> usize
+    requires { ⌜ best ≤ n ⌝ }
+    ensures { λ r. ⌜ r ≡ nearer (λ (k : ℕ). ltb (thirdFor (rows (now (starts .entry)) (now (sizes .entry)) (now (entries .entry)) n) n a k) n) a b best ⌝ }
+{
+    if b <= a {
+        return best;
+    }
+    if best <= b {
+        return best;
+    }
+    if third_for(starts, sizes, entries, n, a, b) < n {
+        return b;
+    }
+    best
+}
+
+// The lowest b above a for which a, b and some c enclose; n if there is none. Such a b stands in a's ring.
 fn second_for<'a>(
     starts: &'a [u16],
     sizes: &'a [u8],
@@ -98,14 +147,15 @@ fn second_for<'a>(
     requires { ⌜ a < n ⌝ }
     ensures { λ r. ⌜ r ≡ secondFor (rows (now (starts .entry)) (now (sizes .entry)) (now (entries .entry)) n) n a ⌝ }
 {
-    let mut b = a + 1;
-    while b < n {
-        if third_for(starts, sizes, entries, n, a, b) < n {
-            return b;
-        }
-        b += 1;
+    let k = rings::size_of(sizes, n, a);
+    let mut best = n;
+    let mut i = 0;
+    while i < k {
+        let b = rings::neighbour_at(starts, sizes, entries, n, a, i);
+        best = nearer_second(starts, sizes, entries, n, a, b, best);
+        i += 1;
     }
-    b
+    best
 }
 
 // The lowest a that encloses with some b and c; n if there is none.

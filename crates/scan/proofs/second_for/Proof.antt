@@ -1,61 +1,53 @@
 -- second_for meets its contract.
-use Rattle.faces.proofs.Flags.{below-yes, below-no}
-use Rattle.rings.specs.Tables.{rows}
-use Prim.Native.Nat.{ℕ, suc, _-_}
-use lib.Dec.{ltb}
-use Rattle.scan.specs.Scanned.{thirdFor, secondFor}
-use Rattle.scan.proofs.Scans.{Seeks, seeks-start, seeks-hit, seeks-on, seeks-end}
+use mathlib.Core.Path.{_≡_, refl, sym, _∙_}
+use Prim.Native.Nat.{ℕ, _-_, _≤_}
 use native.Mathlib.Omega.{arith}
 use borrow.Author.Needs.{needs}
+use Rattle.model.specs.Plan.{ring}
+use Rattle.rings.specs.Tables.{rows}
+use Rattle.rings.proofs.Rows.{ring-size}
+use lib.Dec.{ltb}
+use Rattle.scan.specs.Scanned.{thirdFor, secondFor}
+use Rattle.scan.proofs.Scans.{third-near}
+use Rattle.scan.proofs.Nearest.{Nearest, nearest-start, nearest-on, nearest-end}
 use Rattle.scan.proofs.second_for.Statement.{statement}
 use Rattle.scan.proofs.second_for.Tie as tie
-use Rattle.scan.proofs.second_for.Reads as reads
-use Rattle.scan.proofs.second_for.Lts as lts
-use Rattle.scan.proofs.third_for.Reads as third-for-reads
 
 abbrev Inv-loop : tie.InvT-loop
-Inv-loop starts sizes entries n a b₀ b = Seeks (λ (k : ℕ). ltb (thirdFor (rows starts sizes entries n) n a k) n) (suc a) n b
+Inv-loop starts sizes entries n a k best₀ i₀ best i = Nearest (λ (x : ℕ). ltb (thirdFor (rows starts sizes entries n) n a x) n) (ring (rows starts sizes entries n) a) a n i best
 
 abbrev μ-loop : tie.MeasureT-loop
-μ-loop starts sizes entries n a b₀ b = n - b
+μ-loop starts sizes entries n a k best₀ i₀ best i = k - i
 
-add-b : tie.Need-add-b Inv-loop μ-loop
-add-b c = search needs
+size-of-requires : tie.Need-size-of-requires Inv-loop μ-loop
+size-of-requires c κs = search needs
 
 loop-holds : tie.Need-loop-holds Inv-loop μ-loop
-loop-holds c = seeks-start (omega arith)
+loop-holds c = nearest-start
 
-third-for-requires : tie.Need-third-for-requires Inv-loop μ-loop
-third-for-requires c κs = search needs
+neighbour-at-requires : tie.Need-neighbour-at-requires Inv-loop μ-loop
+neighbour-at-requires c κs = search needs
 
-returns : tie.Need-returns Inv-loop μ-loop
-unfolding secondFor
-returns c = seeks-hit (c .before .before .before .loop .inv) (omega arith) (below-yes (c .before .third-for .ensures) (c .if1 .taken))
+nearer-second-requires : tie.Need-nearer-second-requires Inv-loop μ-loop
+nearer-second-requires c κs = c .before .before .loop .inv .most
 
-add-b-2 : tie.Need-add-b-2 Inv-loop μ-loop
-add-b-2 c = search needs
+add-i : tie.Need-add-i Inv-loop μ-loop
+add-i c = search needs
 
 loop-less : tie.Need-loop-less Inv-loop μ-loop
 loop-less c = search needs
 
 loop-again : tie.Need-loop-again Inv-loop μ-loop
-loop-again c = seeks-on (c .before .before .before .loop .inv) (omega arith) (omega arith) (below-no (c .before .third-for .ensures) (c .if1 .left))
+loop-again c = nearest-on (c .before .before .before .loop .inv) (c .before .neighbour-at .ensures) (c .nearer-second .ensures) (omega arith)
 
-returns-2 : tie.Need-returns-2 Inv-loop μ-loop
+returns : tie.Need-returns Inv-loop μ-loop
 unfolding secondFor
-returns-2 c = seeks-end (c .before .loop .inv) (omega arith)
+returns c =
+    let a = c .before .before .before .before .before .before .args in
+    let p = rows (a .starts .now) (a .sizes .now) (a .entries .now) (a .n) in
+    let h = c .before .before .before .before .before .before .pre in
+    let size = c .before .before .size-of .ensures .0 ∙ sym (ring-size (a .starts .now) (a .sizes .now) (a .entries .now) (a .n) (a .a)) in
+    nearest-end (c .before .loop .inv) (omega arith) (omega arith) (λ x e. third-near p (a .n) (a .a) x e)
 
 pub second-for-spec : {M : Type 1} → statement M
-second-for-spec =
-    tie.close
-    (tie.spec
-    Inv-loop
-    μ-loop
-    add-b
-    loop-holds
-    third-for-requires
-    returns
-    add-b-2
-    loop-less
-    loop-again
-    returns-2)
+second-for-spec = tie.close (tie.spec Inv-loop μ-loop size-of-requires loop-holds neighbour-at-requires nearer-second-requires add-i loop-less loop-again returns)

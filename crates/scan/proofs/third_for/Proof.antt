@@ -1,73 +1,54 @@
 -- third_for meets its contract.
-use Rattle.faces.proofs.Flags.{flag-yes, flag-no}
-use Rattle.rings.specs.Tables.{rows}
-use Prim.Native.Nat.{ℕ, suc, _-_}
-use Rattle.scan.specs.Scanned.{thirdFor}
-use Rattle.model.specs.Scan.{enclosing}
-use Rattle.scan.proofs.Scans.{Seeks, seeks-start, seeks-hit, seeks-on, seeks-end, third-apart}
+use mathlib.Core.Path.{_≡_, refl, sym, _∙_}
+use Prim.Native.Nat.{ℕ, _-_, _≤_}
 use native.Mathlib.Omega.{arith}
 use borrow.Author.Needs.{needs}
+use Rattle.model.specs.Plan.{ring}
+use Rattle.rings.specs.Tables.{rows}
+use Rattle.rings.proofs.Rows.{ring-size}
+use Rattle.model.specs.Scan.{enclosing}
+use Rattle.model.proofs.Plans.{adjacent-mem}
+use Rattle.scan.specs.Scanned.{thirdFor}
+use Rattle.scan.proofs.Scans.{enclosing-near}
+use Rattle.scan.proofs.Nearest.{Nearest, nearest-start, nearest-on, nearest-end}
 use Rattle.scan.proofs.third_for.Statement.{statement}
 use Rattle.scan.proofs.third_for.Tie as tie
-use Rattle.scan.proofs.third_for.Reads as reads
-use Rattle.scan.proofs.third_for.Lts as lts
-use Rattle.rings.proofs.is_adjacent.Reads as is-adjacent-reads
-use Rattle.scan.proofs.encloses.Reads as encloses-reads
 
 abbrev Inv-loop : tie.InvT-loop
-Inv-loop starts sizes entries n a b c₀ c = Seeks (λ (k : ℕ). enclosing (rows starts sizes entries n) (a, b, k)) (suc b) n c
+Inv-loop starts sizes entries n a b k best₀ i₀ best i = Nearest (λ (x : ℕ). enclosing (rows starts sizes entries n) (a, b, x)) (ring (rows starts sizes entries n) b) b n i best
 
 abbrev μ-loop : tie.MeasureT-loop
-μ-loop starts sizes entries n a b c₀ c = n - c
+μ-loop starts sizes entries n a b k best₀ i₀ best i = k - i
 
-is-adjacent-requires : tie.Need-is-adjacent-requires Inv-loop μ-loop
-is-adjacent-requires c κs = search needs
-
-returns : tie.Need-returns Inv-loop μ-loop
-returns c =
-    let a = c .before .before .before .before .before .args in
-    let p = rows (a .starts .now) (a .sizes .now) (a .entries .now) (a .n) in
-    third-apart p (a .n) (a .a) (a .b) (c .before .before .before .before .before .pre) (c .before .is-adjacent .ensures) (c .if1 .taken)
-
-add-c : tie.Need-add-c Inv-loop μ-loop
-add-c c = search needs
+size-of-requires : tie.Need-size-of-requires Inv-loop μ-loop
+size-of-requires c κs = search needs
 
 loop-holds : tie.Need-loop-holds Inv-loop μ-loop
-loop-holds c = seeks-start (omega arith)
+loop-holds c = nearest-start
 
-encloses-requires : tie.Need-encloses-requires Inv-loop μ-loop
-encloses-requires c κs = search needs
+neighbour-at-requires : tie.Need-neighbour-at-requires Inv-loop μ-loop
+neighbour-at-requires c κs = search needs
 
-returns-2 : tie.Need-returns-2 Inv-loop μ-loop
-unfolding thirdFor
-returns-2 c = seeks-hit (c .before .before .before .loop .inv) (omega arith) (flag-yes (c .before .encloses .ensures) (c .if2 .taken))
+nearer-third-requires : tie.Need-nearer-third-requires Inv-loop μ-loop
+nearer-third-requires c κs = search needs
 
-add-c-2 : tie.Need-add-c-2 Inv-loop μ-loop
-add-c-2 c = search needs
+add-i : tie.Need-add-i Inv-loop μ-loop
+add-i c = search needs
 
 loop-less : tie.Need-loop-less Inv-loop μ-loop
 loop-less c = search needs
 
 loop-again : tie.Need-loop-again Inv-loop μ-loop
-loop-again c = seeks-on (c .before .before .before .loop .inv) (omega arith) (omega arith) (flag-no (c .before .encloses .ensures) (c .if2 .left))
+loop-again c = nearest-on (c .before .before .before .loop .inv) (c .before .neighbour-at .ensures) (c .nearer-third .ensures) (omega arith)
 
-returns-3 : tie.Need-returns-3 Inv-loop μ-loop
+returns : tie.Need-returns Inv-loop μ-loop
 unfolding thirdFor
-returns-3 c = seeks-end (c .before .loop .inv) (omega arith)
+returns c =
+    let a = c .before .before .before .before .before .before .args in
+    let p = rows (a .starts .now) (a .sizes .now) (a .entries .now) (a .n) in
+    let h = c .before .before .before .before .before .before .pre in
+    let size = c .before .before .size-of .ensures .0 ∙ sym (ring-size (a .starts .now) (a .sizes .now) (a .entries .now) (a .n) (a .b)) in
+    nearest-end (c .before .loop .inv) (omega arith) (omega arith) (λ x e. adjacent-mem p (a .b) x (enclosing-near p (a .a) (a .b) x e))
 
 pub third-for-spec : {M : Type 1} → statement M
-third-for-spec =
-    tie.close
-    (tie.spec
-    Inv-loop
-    μ-loop
-    is-adjacent-requires
-    returns
-    add-c
-    loop-holds
-    encloses-requires
-    returns-2
-    add-c-2
-    loop-less
-    loop-again
-    returns-3)
+third-for-spec = tie.close (tie.spec Inv-loop μ-loop size-of-requires loop-holds neighbour-at-requires nearer-third-requires add-i loop-less loop-again returns)
