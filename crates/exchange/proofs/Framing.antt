@@ -85,9 +85,9 @@ small-more k true c rest h s = small-accepted []
 small-more k false c rest h s =
     small-bind (frame c (k .0) (eqb (k .1))) _ (small-frame c (k .0) (eqb (k .1)) h)
     (λ r e.
-        let (m, due, far) = framed-at c (k .0) (eqb (k .1)) r e in
-        let same = eqb-true (k .1) m due in
-        small-bind (rest (r .1)) _ (s (r .1) (omega arith)) (λ l f. small-accepted _))
+    let (m, due, far) = framed-at c (k .0) (eqb (k .1)) r e in
+    let same = eqb-true (k .1) m due in
+    small-bind (rest (r .1)) _ (s (r .1) (omega arith)) (λ l f. small-accepted _))
 
 -- the records after the rings
 small-rest : (due : List (ℕ × ℕ)) (c : Cursor) → c .at + room due < 131072 → Small (frameRest due c)
@@ -102,13 +102,13 @@ small-decode b =
     let start : Cursor = record { at = 0; rest = b } in
     small-bind (frame start 1 (eqb 2)) _ (small-frame start 1 (eqb 2) (omega arith))
     (λ f e₁.
-        let n = word (f .0) in
-        let (m, due, far) = framed-at start 1 (eqb 2) f e₁ in
-        let two = eqb-true 2 m due in
-        small-then (require (leb 5 n && leb n 200) 3 0) _ (small-require (leb 5 n && leb n 200) 3 0 (omega arith) (omega arith))
-        (λ _ t.
-            let high = leb-true n 200 (and-yes (leb 5 n) (leb n 200) (require-passed _ 3 0 t) .1) in
-            small-bind (frameRings n n (f .1)) _ (small-rings n n (f .1) high (omega arith))
-            (λ g e₂.
-                let a = rings-at n n (f .1) g high e₂ in
-                small-bind (frameRest (optional n) (g .1)) _ (small-rest (optional n) (g .1) (omega arith)) (λ bs e₃. small-accepted _))))
+    let n = word (f .0) in
+    let (m, due, far) = framed-at start 1 (eqb 2) f e₁ in
+    let two = eqb-true 2 m due in
+    small-then (require (leb 5 n && leb n 200) 3 0) _ (small-require (leb 5 n && leb n 200) 3 0 (omega arith) (omega arith))
+    (λ _ t.
+    let high = leb-true n 200 (and-yes (leb 5 n) (leb n 200) (require-passed _ 3 0 t) .1) in
+    small-bind (frameRings n n (f .1)) _ (small-rings n n (f .1) high (omega arith))
+    (λ g e₂.
+    let a = rings-at n n (f .1) g high e₂ in
+    small-bind (frameRest (optional n) (g .1)) _ (small-rest (optional n) (g .1) (omega arith)) (λ bs e₃. small-accepted _))))

@@ -5,3 +5,4 @@ pub mod Sizes
 pub mod Places
 pub mod Codes
 pub mod Handing
+pub mod Steps

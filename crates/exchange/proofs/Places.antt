@@ -63,8 +63,8 @@ small-chart p ls =
     small-bind (settle dx (suc (n * n)) (replicate n 0)) _ (small-settle dx (suc (n * n)) (replicate n 0))
     (λ xs _. small-bind (settle dy (suc (n * n)) (replicate n 0)) _ (small-settle dy (suc (n * n)) (replicate n 0))
     (λ ys _.
-        let c : Chart = record { w = getD xs north 0; h = getD ys north 0; xs = xs; ys = ys } in
-        small-then (require (isPlacement slope p ls c) 11 0) _ (small-require (isPlacement slope p ls c) 11 0 (omega arith) (omega arith)) (λ _ _. small-accepted _)))
+    let c : Chart = record { w = getD xs north 0; h = getD ys north 0; xs = xs; ys = ys } in
+    small-then (require (isPlacement slope p ls c) 11 0) _ (small-require (isPlacement slope p ls c) 11 0 (omega arith) (omega arith)) (λ _ _. small-accepted _)))
 
 -- ---- open
 -- 4 to 12, of a sheet that fits a file

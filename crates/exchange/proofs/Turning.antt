@@ -98,8 +98,8 @@ module _ (p : Plan) (s : Sound p) (few : count p ≤ 200) (es : List Dart) where
       let l = take k es in
       let each = all-inside k (omega arith) (λ v m. good v (omega arith)) in
       let fresh : any (λ (c : ℕ). member c (one e ∷ [])) (map one l) ≡ false =
-          sym (any-map (λ (c : ℕ). member c (one e ∷ [])) one l)
-          ∙ of-none (λ (d : Dart). member (one d) (one e ∷ [])) l (λ d m. no-or (eqb (one d) (one e)) false (ne-eqb (one d) (one e) (apart d e (each d m) inside (none-of (sameEdge e) l new d m))) refl)
+      sym (any-map (λ (c : ℕ). member c (one e ∷ [])) one l)
+      ∙ of-none (λ (d : Dart). member (one d) (one e ∷ [])) l (λ d m. no-or (eqb (one d) (one e)) false (ne-eqb (one d) (one e) (apart d e (each d m) inside (none-of (sameEdge e) l new d m))) refl)
       in
       ap (λ (m : List Dart). repeats (map one m)) (more k (omega arith)) ∙ ap repeats (map-append one l (e ∷ [])) ∙ repeats-append (map one l) (one e ∷ []) (no-repeat k (omega arith) (λ v m. good v (omega arith))) refl fresh
 
@@ -138,6 +138,6 @@ small-turn p s few ls items direction =
     let ms = turnEdges p (quarters direction) es ls in
     small-then (rule 15 (length es) (badPair p es)) _ (small-require (leb (length es) place) 15 place (omega arith) (omega arith))
     (λ _ e.
-        let all = leb-true (length es) place (require-passed (leb (length es) place) 15 place e) in
-        small-then (require (eqb (length items % 2) 0) 15 (length es)) _ (small-require (eqb (length items % 2) 0) 15 (length es) (omega arith) (omega arith))
-        (λ _ _. small-then (require (ltb direction 2) 15 (length es)) _ (small-require (ltb direction 2) 15 (length es) (omega arith) (omega arith)) (λ _ _. small-then (labelRules p ms) _ (small-labels p ms few) (λ _ _. small-accepted _))))
+    let all = leb-true (length es) place (require-passed (leb (length es) place) 15 place e) in
+    small-then (require (eqb (length items % 2) 0) 15 (length es)) _ (small-require (eqb (length items % 2) 0) 15 (length es) (omega arith) (omega arith))
+    (λ _ _. small-then (require (ltb direction 2) 15 (length es)) _ (small-require (ltb direction 2) 15 (length es) (omega arith) (omega arith)) (λ _ _. small-then (labelRules p ms) _ (small-labels p ms few) (λ _ _. small-accepted _))))
