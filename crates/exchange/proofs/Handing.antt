@@ -12,17 +12,18 @@ use Rattle.model.specs.File.{Sheet, fresh, encode}
 use Rattle.model.specs.Calls.{planOf, openCall, writeCall}
 use Rattle.model.specs.CallLists.{Call, open-file, call}
 use Rattle.model.proofs.Outcomes.{not-both, same-value, bind-accepted, then-accepted, then-at, then-off}
+use Rattle.writing.specs.Files.{bufferAfter}
 use Rattle.sheet.specs.declared.Sheet as struct
 use Rattle.sheet.specs.declared.Outcome as told
 use Rattle.sheet.specs.Sheets.{reads, packed}
 use Rattle.sheet.specs.Answers.{answerAs, answerOf, after, lengthOf}
 use Rattle.guarantee.proofs.Sized.{Good, fresh-good, leaves-good}
 use Rattle.guarantee.proofs.Struct.{read-back}
-use Rattle.exchange.specs.Exchange.{sheetIn, inTurn, handedBack, given}
+use Rattle.exchange.specs.Exchange.{code, wrapped, sheetIn, inTurn, handedBack, given}
 use Rattle.exchange.proofs.Small.{Small, small-accepted, small-refused, small-bind}
 use Rattle.exchange.proofs.Sizes.{file-short}
 use Rattle.exchange.proofs.Places.{small-open, small-call, small-write}
-use Rattle.exchange.proofs.Codes.{Roomy}
+use Rattle.exchange.proofs.Codes.{Roomy, code-whole}
 
 -- ---- good sheets
 -- what open leaves is good
@@ -122,3 +123,31 @@ roomy-call b c buffer =
 -- a file that is opened
 pub roomy-open : (b buffer : List ℕ) → Roomy (lengthOf (handedBack (openCall b) buffer))
 roomy-open b buffer = roomy-back (openCall b) buffer (small-open b) (opened-good b)
+
+-- a call on what is handed over, and what it leaves written
+back-chain : (b : List ℕ) (c : Call) (buffer : List ℕ) → handedBack (sheetIn b >>= λ (s : Sheet). call s c) buffer ≡ (sheetIn b >>= λ (s : Sheet). call s c >>= λ (t : Sheet). writeCall t buffer)
+unfolding handedBack
+back-chain b c buffer = go (sheetIn b)
+  where
+    go : (o : Outcome Sheet) → ((o >>= λ (s : Sheet). call s c) >>= λ (t : Sheet). writeCall t buffer) ≡ (o >>= λ (s : Sheet). call s c >>= λ (t : Sheet). writeCall t buffer)
+    go (accepted s) = refl
+    go (refused k at) = refl
+
+-- THE WAY OF A CALL: bytes are handed over (h), the call is made on the struct (q), the one of the two that counts (f) is handed back
+pub call-way : (b : List ℕ) (c : Call) (buffer d : List ℕ) (h q f : told.Outcome) (r : ℕ) → given h ≡ sheetIn b → answerAs (q .answer) ≡ answerOf (call (reads (h .sheet)) c) → q .sheet ≡ after (h .sheet) (call (reads (h .sheet)) c)
+    → given f ≡ inTurn (given h) (given q) → r ≡ wrapped (lengthOf (handedBack (given f) buffer)) → d ≡ bufferAfter (handedBack (given f) buffer) buffer
+    → (r ≡ code (lengthOf (sheetIn b >>= λ (s : Sheet). call s c >>= λ (t : Sheet). writeCall t buffer))) × (d ≡ bufferAfter (sheetIn b >>= λ (s : Sheet). call s c >>= λ (t : Sheet). writeCall t buffer) buffer)
+call-way b c buffer d h q f r e a s t number bytes =
+    let told = t ∙ chained b c h q e a s in
+    let all = ap (λ (o : Outcome Sheet). handedBack o buffer) told in (
+      number ∙ ap (λ (o : Outcome (ℕ × List ℕ)). wrapped (lengthOf o)) all ∙ code-whole (lengthOf (handedBack (sheetIn b >>= λ (s : Sheet). call s c) buffer)) (roomy-call b c buffer)
+          ∙ ap (λ (o : Outcome (ℕ × List ℕ)). code (lengthOf o)) (back-chain b c buffer),
+      bytes ∙ ap (λ (o : Outcome (ℕ × List ℕ)). bufferAfter o buffer) (all ∙ back-chain b c buffer),
+    )
+
+-- the way of a file that is opened
+pub open-way : (b buffer d : List ℕ) (h : told.Outcome) (r : ℕ) → given h ≡ openCall b → r ≡ wrapped (lengthOf (handedBack (given h) buffer)) → d ≡ bufferAfter (handedBack (given h) buffer) buffer
+    → (r ≡ code (lengthOf (handedBack (openCall b) buffer))) × (d ≡ bufferAfter (handedBack (openCall b) buffer) buffer)
+open-way b buffer d h r e number bytes =
+    let all = ap (λ (o : Outcome Sheet). handedBack o buffer) e in
+    (number ∙ ap (λ (o : Outcome (ℕ × List ℕ)). wrapped (lengthOf o)) all ∙ code-whole (lengthOf (handedBack (openCall b) buffer)) (roomy-open b buffer), bytes ∙ ap (λ (o : Outcome (ℕ × List ℕ)). bufferAfter o buffer) all)

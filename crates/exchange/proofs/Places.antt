@@ -16,6 +16,7 @@ use Rattle.model.specs.Turn.{turn}
 use Rattle.model.specs.File.{Sheet, fresh, opened, labelled, charted, decode, encode}
 use Rattle.model.specs.Calls.{planOf, labelsOf, chartOf, judge, openCall, offered, offerCall, sweepCall, turnCall, chartCall, writeCall, scanCall, sameCall, ringCall}
 use Rattle.model.specs.CallLists.{Call, open-file, offer-labels, sweep-labels, turn-edges, draw-chart, call}
+use Rattle.model.proofs.Outcomes.{not-both, same-value}
 use Rattle.model.proofs.PlanRules.{Sound, sound}
 use Rattle.model.proofs.FileWrite.{PlanFits, Fits}
 use Rattle.model.proofs.FileRead.{read-fits}
@@ -88,6 +89,14 @@ small-open b = small-bind (decode b) _ (small-decode b) (λ s e. small-then (jud
 pub record Held (p : Plan) : Type 0 where
   pub fits : PlanFits p
   pub kept : planRules p ≡ passed
+
+-- the plan of a good sheet
+pub plan-held : (s : Sheet) (p : Plan) → Good s → planOf s ≡ accepted p → Held p
+unfolding planOf
+plan-held fresh p g e = not-both e
+plan-held (opened q) p g e = subst Held (same-value e) (record { fits = g .sized; kept = g .kept })
+plan-held (labelled q ls) p g e = subst Held (same-value e) (record { fits = g .sized .0; kept = g .kept .0 })
+plan-held (charted q ls c) p g e = subst Held (same-value e) (record { fits = g .sized .0; kept = g .kept .0 })
 
 -- 13, and the plan of a good sheet
 pub small-plan-of : {B : Type 0} (s : Sheet) (f : Plan → Outcome B) → Good s → ((p : Plan) → Held p → Small (f p)) → Small (planOf s >>= f)
