@@ -110,13 +110,13 @@ roomy-length t buffer (refused k at) g e =
     record { small = small-refused k at a b; value = λ v q. not-both q }
 
 -- What a call leaves, handed back
-pub roomy-back : (o : Outcome Sheet) (buffer : List ℕ) → Small o → ((t : Sheet) → o ≡ accepted t → Good t) → Roomy (lengthOf (handedBack o buffer))
+roomy-back : (o : Outcome Sheet) (buffer : List ℕ) → Small o → ((t : Sheet) → o ≡ accepted t → Good t) → Roomy (lengthOf (handedBack o buffer))
 unfolding handedBack lengthOf
 roomy-back (accepted t) buffer s g = roomy-length t buffer (writeCall t buffer) (g t refl) refl
 roomy-back (refused k at) buffer s g = let (a, b) = s .says k at refl in record { small = small-refused k at a b; value = λ v q. not-both q }
 
 -- a call on what is handed over
-pub roomy-call : (b : List ℕ) (c : Call) (buffer : List ℕ) → Roomy (lengthOf (handedBack (sheetIn b >>= λ (s : Sheet). call s c) buffer))
+roomy-call : (b : List ℕ) (c : Call) (buffer : List ℕ) → Roomy (lengthOf (handedBack (sheetIn b >>= λ (s : Sheet). call s c) buffer))
 roomy-call b c buffer =
     roomy-back (sheetIn b >>= λ (s : Sheet). call s c) buffer (small-bind (sheetIn b) (λ (s : Sheet). call s c) (small-in b) (λ s e. small-call s c (handed-good b s e))) (called-good b c)
 
@@ -132,6 +132,10 @@ back-chain b c buffer = go (sheetIn b)
     go : (o : Outcome Sheet) → ((o >>= λ (s : Sheet). call s c) >>= λ (t : Sheet). writeCall t buffer) ≡ (o >>= λ (s : Sheet). call s c >>= λ (t : Sheet). writeCall t buffer)
     go (accepted s) = refl
     go (refused k at) = refl
+
+-- it has room
+pub roomy-way : (b : List ℕ) (c : Call) (buffer : List ℕ) → Roomy (lengthOf (sheetIn b >>= λ (s : Sheet). call s c >>= λ (t : Sheet). writeCall t buffer))
+roomy-way b c buffer = subst (λ (o : Outcome (ℕ × List ℕ)). Roomy (lengthOf o)) (back-chain b c buffer) (roomy-call b c buffer)
 
 -- THE WAY OF A CALL: bytes are handed over (h), the call is made on the struct (q), the one of the two that counts (f) is handed back
 pub call-way : (b : List ℕ) (c : Call) (buffer d : List ℕ) (h q f : told.Outcome) (r : ℕ) → given h ≡ sheetIn b → answerAs (q .answer) ≡ answerOf (call (reads (h .sheet)) c) → q .sheet ≡ after (h .sheet) (call (reads (h .sheet)) c)

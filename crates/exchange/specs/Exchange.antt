@@ -1,5 +1,6 @@
 -- Sheets handed over as bytes, and a call's answer as one number.
-use Prim.Native.Nat.{ℕ, _+_, _*_, _%_, _^_}
+use Prim.Native.Nat.{ℕ, _+_, _*_, _/_, _%_, _^_}
+use mathlib.Core.Path.{_≡_}
 use mathlib.Core.List.{List, [], _∷_}
 use Rattle.model.specs.Outcome.{Outcome, accepted, refused, _>>=_, _>>_}
 use Rattle.model.specs.File.{Sheet, fresh}
@@ -22,6 +23,11 @@ numberOf (refused k at) = k
 unfoldable pub valueOf : Outcome ℕ → ℕ
 valueOf (accepted v) = v
 valueOf (refused k at) = at
+
+-- Number and value can be read off the one number
+pub record Unpacks (o : Outcome ℕ) : Type 0 where
+  pub number : code o / 2 ^ 48 ≡ numberOf o
+  pub value : code o % 2 ^ 48 ≡ valueOf o
 
 -- the answer as it is in 64 bits
 unfoldable pub wrapped : Outcome ℕ → ℕ
