@@ -1,0 +1,72 @@
+// Sheets handed over as bytes and handed back as bytes; a call's answer as one number.
+use sheet::Answer;
+use sheet::Outcome;
+use sheet::Sheet;
+use sheet::Written;
+ghost use mathlib.Core.Path.{_≡_};
+ghost use Prim.Native.Nat.{_+_, _*_, _%_, _^_};
+ghost use Rattle.model.specs.Calls.{openCall, writeCall};
+ghost use Rattle.writing.specs.Files.{bufferAfter};
+ghost use Rattle.sheet.specs.Sheets.{reads};
+ghost use Rattle.sheet.specs.Answers.{lengthOf};
+ghost use Rattle.exchange.specs.Exchange.{wrapped, sheetIn, inTurn, handedBack, given};
+
+// A refusal as one number: number × 2^48 + place.
+pub fn refusal(number: u8, place: usize) -> u64
+    ensures { λ r. ⌜ r ≡ (number * 2 ^ 48 + place) % 2 ^ 64 ⌝ }
+{
+    std::num::wrapping_add_u64(number as u64 * 281474976710656, place as u64)
+}
+
+// The sheet that a file holds.
+pub fn open_bytes(file: &[u8]) -> Outcome
+    ensures { λ r. ⌜ given r ≡ openCall (now (file .entry)) ⌝ }
+{
+    opening::open_file(sheet::fresh_sheet(), file)
+}
+
+// The sheet that bytes hand over: a fresh one for no bytes, else the file is opened.
+pub fn hand_over(bytes: &[u8]) -> Outcome
+    ensures { λ r. ⌜ given r ≡ sheetIn (now (bytes .entry)) ⌝ }
+{
+    if bytes.len() == 0 {
+        return sheet::accept(sheet::fresh_sheet());
+    }
+    open_bytes(bytes)
+}
+
+// Of two outcomes in a row, the one that counts: the first if it is a refusal, else the second.
+pub fn followed(first: Outcome, second: Outcome) -> Outcome
+    ensures { λ r. ⌜ given r ≡ inTurn (given first) (given second) ⌝ }
+{
+    let answer = first.answer;
+    match answer {
+        Answer::Refused(_, _) => first,
+        Answer::Accepted => second,
+    }
+}
+
+// The file of a sheet, written into the buffer; its length, or the refusal.
+fn write_back(sheet: Sheet, out: &mut [u8]) -> u64
+    ensures { λ r. ⌜ r ≡ wrapped (lengthOf (writeCall (reads sheet) (now (out .entry)))) ⌝ }
+    ensures { λ r. ⌜ now (out .exit) ≡ bufferAfter (writeCall (reads sheet) (now (out .entry))) (now (out .entry)) ⌝ }
+{
+    let written = reports::write(sheet, out);
+    match written {
+        Written::Refused(number, place) => refusal(number, place),
+        Written::Length(k) => k as u64,
+    }
+}
+
+// The sheet that a call leaves, handed back: its file in the buffer and the file's length, or the refusal and the buffer as it was.
+pub fn hand_back(outcome: Outcome, out: &mut [u8]) -> u64
+    ensures { λ r. ⌜ r ≡ wrapped (lengthOf (handedBack (given outcome) (now (out .entry)))) ⌝ }
+    ensures { λ r. ⌜ now (out .exit) ≡ bufferAfter (handedBack (given outcome) (now (out .entry))) (now (out .entry)) ⌝ }
+{
+    let answer = outcome.answer;
+    let sheet = outcome.sheet;
+    match answer {
+        Answer::Refused(number, place) => refusal(number, place),
+        Answer::Accepted => write_back(sheet, out),
+    }
+}

@@ -1,0 +1,51 @@
+-- touchchart_turn meets its contract.
+use mathlib.Core.Path.{_≡_, refl, sym, ap, _∙_}
+use Rattle.model.specs.CallLists.{turn-edges, call}
+use Rattle.exchange.proofs.Handing.{call-way}
+use Rattle.touchchart.specs.Interface.{turnsTo}
+use native.Mathlib.Omega.{arith}
+use borrow.Author.Needs.{needs}
+use Rattle.touchchart.proofs.touchchart_turn.Statement.{statement}
+use Rattle.touchchart.proofs.touchchart_turn.Tie as tie
+use Rattle.touchchart.proofs.touchchart_turn.Reads as reads
+use Rattle.touchchart.proofs.touchchart_turn.Lts as lts
+use Rattle.calls.proofs.turn.Reads as turn-reads
+use Rattle.exchange.proofs.followed.Reads as followed-reads
+use Rattle.exchange.proofs.hand_back.Reads as hand-back-reads
+use Rattle.exchange.proofs.hand_over.Reads as hand-over-reads
+
+hand-over-requires : tie.Need-hand-over-requires
+hand-over-requires c κs = search needs
+
+turn-requires : tie.Need-turn-requires
+turn-requires c κs = search needs
+
+followed-requires : tie.Need-followed-requires
+followed-requires c κs = search needs
+
+hand-back-requires : tie.Need-hand-back-requires
+hand-back-requires c κs = search needs
+
+same-length : tie.Need-same-length
+same-length c = search needs
+
+returns : tie.Need-returns
+unfolding call turnsTo
+returns c =
+    let a = c .before .before .before .before .before .before .before .before .before .before .before .args in
+    let h = c .before .before .before .before .before .before .before .hand-over in
+    let q = c .before .before .before .before .before .turn in
+    let f = c .before .before .before .before .followed in
+    let w = c .before .before .hand-back in
+    call-way (a .sheet .now) (turn-edges (a .pairs .now) (a .direction)) (a .out .now) _ (h .result) (q .result) (f .result) _ (h .ensures) (q .ensures .0) (q .ensures .1) (f .ensures) (w .ensures .0) (w .ensures .1)
+
+pub touchchart-turn-spec : {M : Type 1} → statement M
+touchchart-turn-spec =
+    tie.close
+    (tie.spec
+    hand-over-requires
+    turn-requires
+    followed-requires
+    hand-back-requires
+    same-length
+    returns)
