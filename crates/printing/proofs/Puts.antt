@@ -50,6 +50,10 @@ module _ (w : List ℕ) (i : ℕ) {d₀ : List ℕ} {at : ℕ} {d : List ℕ} (p
   put-all e q = subst (Put d₀ at w d) (sym q) (put-as p (ap (λ (j : ℕ). take j w) e ∙ take-length w))
 
 -- ---- a text put at the front of a buffer
+-- has the length that is given back
+pub put-long : {d₀ t d : List ℕ} {to : ℕ} → Put d₀ 0 t d to → to ≡ length t
+put-long p = omega (arith, p .behind)
+
 -- is read back from it
 pub put-front : {d₀ t d : List ℕ} {to : ℕ} → Put d₀ 0 t d to → to ≤ length d₀ → take to d ≡ t
 put-front {d₀} {t} {d} {to} p h =

@@ -1,5 +1,5 @@
 -- What is printed from each call on, by what the call answers and the struct that it leaves.
-use Prim.Native.Nat.{ℕ, zero, suc, _-_, _≤_, _<_}
+use Prim.Native.Nat.{ℕ, zero, suc, _+_, _-_, _≤_, _<_}
 use mathlib.Core.Path.{_≡_, refl, sym, ap, _∙_, subst}
 use mathlib.Core.List.{List, [], _∷_, _++_}
 use mathlib.Core.Bool.{true}
@@ -31,10 +31,23 @@ use Rattle.printing.specs.Text.{planLine, triangleLine, sizeLine, pointL
 
 -- ---- refusals
 -- a refused call ends the text
-pub told-refused : {k at : ℕ} (o : Outcome file.Sheet) (rest : file.Sheet → List ℕ) → refused k at ≡ answerOf o → refusalLine k at ≡ told o rest
+told-refused : {k at : ℕ} (o : Outcome file.Sheet) (rest : file.Sheet → List ℕ) → refused k at ≡ answerOf o → refusalLine k at ≡ told o rest
 unfolding told answerOf
 told-refused (accepted s) rest e = not-both e
 told-refused (refused j m) rest e = let (p, q) = same-refusal e in λ i. refusalLine (p i) (q i)
+
+-- so does a refused chart, sweep or open
+pub chart-refused : {k at : ℕ} (s : file.Sheet) → refused k at ≡ answerOf (chartCall s) → refusalLine k at ≡ chartText s
+unfolding chartText
+chart-refused s e = told-refused (chartCall s) _ e
+
+pub sweep-refused : {k at : ℕ} (s : file.Sheet) → refused k at ≡ answerOf (sweepCall s) → refusalLine k at ≡ sweepText s
+unfolding sweepText
+sweep-refused s e = told-refused (sweepCall s) chartText e
+
+pub open-refused : {k at : ℕ} (b : List ℕ) → refused k at ≡ answerOf (openCall b) → refusalLine k at ≡ fileText b
+unfolding fileText
+open-refused b e = told-refused (openCall b) planText e
 
 -- ---- what a struct reads as
 -- a plan that is read is the struct's, and fits
@@ -74,6 +87,11 @@ points-padded : (xs ys : List ℕ) (k n : ℕ) → pointLines (padded k xs) (pad
 unfolding pointLines
 points-padded xs ys k zero = refl
 points-padded xs ys k (suc u) = λ i. points-padded xs ys k u i ++ pointLine u (getD-padded xs k u i) (getD-padded ys k u i)
+
+-- one more point
+pub points-more : (xs ys : List ℕ) (u : ℕ) → pointLines xs ys u ++ pointLine u (getD xs u 0) (getD ys u 0) ≡ pointLines xs ys (u + 1)
+unfolding pointLines
+points-more xs ys u = let e : suc u ≡ u + 1 = omega arith in ap (pointLines xs ys) e
 
 -- the lines of a struct's chart
 abbrev drawnText : Sheet → List ℕ

@@ -5,12 +5,12 @@ use sheet::Sheet;
 ghost use mathlib.Core.Path.{_≡_};
 ghost use mathlib.Core.List.{[], _∷_, _++_};
 ghost use Prim.Native.Nat.{_+_, _*_, _<_, _≤_, _^_};
-ghost use lib.ListN.{length, take};
+ghost use lib.ListN.{length, getD, take};
 ghost use Rattle.model.specs.Outcome.{accepted};
 ghost use Rattle.model.specs.Calls.{planOf};
 ghost use Rattle.sheet.specs.Sheets.{heldPlan, reads};
 ghost use Rattle.printing.specs.Words.{digits, newline};
-ghost use Rattle.printing.specs.Text.{sizeLine, pointLines, refusalLine, chartText, sweepText, scanText, planText, fileText, text, written};
+ghost use Rattle.printing.specs.Text.{sizeLine, pointLine, pointLines, refusalLine, chartText, sweepText, scanText, planText, fileText, text, written};
 ghost use Rattle.printing.specs.Puts.{Put};
 
 // A byte at a place of the buffer; a place outside it is passed over.
@@ -84,8 +84,9 @@ fn put_pair<'a>(
     ensures { λ r. ⌜ Put (now (out .entry)) at (now (word .entry) ++ digits x ++ (now (between .entry) ++ digits y) ++ newline) (now (out .exit)) r ⌝ }
     ensures { λ r. ⌜ r ≤ at + 61 ⌝ }
 {
-    let to = put_said(out, at, word, x);
-    put_line(out, to, between, y)
+    let a = put_said(out, at, word, x);
+    let b = put_said(out, a, between, y);
+    put_byte(out, b, 10)
 }
 
 // A line of a word and three numbers.
@@ -117,7 +118,16 @@ fn put_refusal(out: &mut [u8], at: usize, number: u8, place: usize) -> usize
     )
 }
 
-// A line for each of the first n contexts: its number, x and y.
+// The line of a context: its number, x and y.
+fn put_point<'a>(out: &mut [u8], at: usize, xs: &'a [u16], ys: &'a [u16], u: usize) -> usize
+    requires { ⌜ (at < 2 ^ 36) × (u < 2 ^ 16) ⌝ }
+    ensures { λ r. ⌜ Put (now (out .entry)) at (pointLine u (getD (now (xs .entry)) u 0) (getD (now (ys .entry)) u 0)) (now (out .exit)) r ⌝ }
+    ensures { λ r. ⌜ r ≤ at + 18 ⌝ }
+{
+    put_triple(out, at, b"", u, lists::num(xs, u), lists::num(ys, u))
+}
+
+// A line for each of the first n contexts.
 fn put_points<'a>(out: &mut [u8], at: usize, xs: &'a [u16], ys: &'a [u16], n: usize) -> usize
     requires { ⌜ (at < 2 ^ 35) × (n ≤ 200) ⌝ }
     ensures { λ r. ⌜ Put (now (out .entry)) at (pointLines (now (xs .entry)) (now (ys .entry)) n) (now (out .exit)) r ⌝ }
@@ -126,7 +136,7 @@ fn put_points<'a>(out: &mut [u8], at: usize, xs: &'a [u16], ys: &'a [u16], n: us
     let mut to = at;
     let mut u = 0;
     while u < n {
-        to = put_triple(out, to, b"", u, lists::num(xs, u), lists::num(ys, u));
+        to = put_point(out, to, xs, ys, u);
         u += 1;
     }
     to

@@ -86,7 +86,7 @@ put-number-put-byte-requires-2 : (t : ℕ) → put-number-lts.Need-put-byte-requ
   put-number-below t,
   put-number.Post,
 ) (put-number-at t) put-number.Post
-put-number-put-byte-requires-2 t c κs = 
+put-number-put-byte-requires-2 t c κs =
     let x = c .before .before .before .before .before .before .before .args .x in
     let to = c .before .before .before .put-number .ensures .behind in
     let few = digits-wide (x / 10) (omega arith) in
@@ -108,7 +108,7 @@ put-number-returns-2 : (t : ℕ) → put-number-lts.Need-returns-2 (
   put-number-below t,
   put-number.Post,
 ) (put-number-at t) put-number.Post
-put-number-returns-2 t c = 
+put-number-returns-2 t c =
     let x = c .before .before .before .before .before .before .before .before .before .before .args .x in
     put-as (put-join (c .before .before .before .before .before .before .put-number .ensures) (c .before .before .put-byte2 .ensures)) (sym (digits-high x (c .before .before .before .before .before .before .before .before .if1 .left)))
 
