@@ -1,0 +1,75 @@
+-- put_swept meets its contract.
+use mathlib.Core.Path.{sym, ap, _∙_}
+use Rattle.sheet.specs.Sheets.{reads as readsAs}
+use Rattle.sheet.specs.Answers.{answerAs}
+use Rattle.printing.proofs.Puts.{put-as}
+use Rattle.printing.proofs.Texts.{sweep-refused, sweep-accepted}
+use native.Mathlib.Omega.{arith}
+use borrow.Author.Needs.{needs}
+use Rattle.printing.proofs.put_swept.Statement.{statement}
+use Rattle.printing.proofs.put_swept.Tie as tie
+use Rattle.printing.proofs.put_swept.Reads as reads
+use Rattle.printing.proofs.put_swept.Lts as lts
+use Rattle.calls.proofs.sweep.Reads as sweep-reads
+use Rattle.printing.proofs.put_drawn.Reads as put-drawn-reads
+use Rattle.printing.proofs.put_refusal.Reads as put-refusal-reads
+
+-- src/lib.rt:185:9
+sweep-requires : tie.Need-sweep-requires
+sweep-requires c κs = search needs
+
+-- src/lib.rt:189:25
+enum-known-answer : tie.Need-enum-known-answer
+enum-known-answer c = search needs
+
+-- src/lib.rt:189:43
+put-refusal-requires : tie.Need-put-refusal-requires
+put-refusal-requires c κs = search needs
+
+-- src/lib.rt:190:39
+enum-told : tie.Need-enum-told
+enum-told c = search needs
+
+-- src/lib.rt:190:29
+put-drawn-requires : tie.Need-put-drawn-requires
+put-drawn-requires c κs = search needs
+
+-- src/lib.rt:180:1
+same-length : tie.Need-same-length
+same-length c = search needs
+
+-- src/lib.rt:180:1
+returns : tie.Need-returns
+unfolding answerAs
+returns c =
+    let s = c .before .before .before .before .before .before .before .before .before .before .args .sheet in
+    let l = c .before .before .put-refusal .ensures in
+    let end = l .1 in
+    (put-as (l .0) (sweep-refused (readsAs s) (sym (ap answerAs (c .before .before .before .before .before .answer .given .1)) ∙ c .before .before .before .before .before .before .before .before .sweep .ensures .0)), omega arith)
+
+-- src/lib.rt:180:1
+same-length-2 : tie.Need-same-length-2
+same-length-2 c = search needs
+
+-- src/lib.rt:180:1
+returns-2 : tie.Need-returns-2
+unfolding answerAs
+returns-2 c =
+    let s = c .before .before .before .before .before .before .before .before .before .args .sheet in
+    let o = c .before .before .before .before .before .before .before .sweep in
+    let l = c .before .before .put-drawn .ensures in
+    (put-as (l .0) (sweep-accepted s (o .result .sheet) (sym (ap answerAs (c .before .before .before .before .enum-told .given .1)) ∙ o .ensures .0) (o .ensures .1)), l .1)
+
+pub put-swept-spec : {M : Type 1} → statement M
+put-swept-spec =
+    tie.close
+    (tie.spec
+    sweep-requires
+    enum-known-answer
+    put-refusal-requires
+    enum-told
+    put-drawn-requires
+    same-length
+    returns
+    same-length-2
+    returns-2)
