@@ -14,7 +14,7 @@ returns c = sym (take-all 8192 (c .before .args .input .now) (omega arith))
 
 -- src/lib.rt:235:5
 slice-aggregate-result : tie.Need-slice-aggregate-result
-slice-aggregate-result c = sym (length-take-le 8192 (c .before .before .args .input .now) (c .before .if1 .left))
+slice-aggregate-result c = sym (length-take-le _ (c .before .before .args .input .now) (omega arith))
 
 -- src/lib.rt:229:1
 returns-2 : tie.Need-returns-2
