@@ -36,8 +36,9 @@ module _ {d₀ : List ℕ} {at : ℕ} {t d : List ℕ} {m : ℕ} (p : Put d₀ a
   pub put-size : length d ≡ length d₀
   put-size = ap length (p .stored) ∙ length-sets d₀ at t
 
--- ---- the first i bytes of a word, then one more
+-- ---- the first i bytes of a word
 module _ (w : List ℕ) (i : ℕ) {d₀ : List ℕ} {at : ℕ} {d : List ℕ} (p : Put d₀ at (take i w) d (at + i)) where
+  -- then one more
   pub put-next : {d′ : List ℕ} {x i′ to : ℕ} → i < length w → x ≡ getD w i 0 → i′ ≡ i + 1 → Put d (at + i) (x ∷ []) d′ to → Put d₀ at (take i′ w) d′ (at + i′)
   put-next {d′} {x} {i′} {to} h e q r =
       let s = r .behind in
@@ -46,21 +47,22 @@ module _ (w : List ℕ) (i : ℕ) {d₀ : List ℕ} {at : ℕ} {d : List ℕ} (p
       let k : to ≡ at + i′ = omega arith in
       subst (Put d₀ at (take i′ w) d′) k (put-as more (sym (take-suc w i 0 h) ∙ ap (λ (j : ℕ). take j w) n))
 
+  -- and when there are no more, the word
   pub put-all : {to : ℕ} → i ≡ length w → to ≡ at + i → Put d₀ at w d to
   put-all e q = subst (Put d₀ at w d) (sym q) (put-as p (ap (λ (j : ℕ). take j w) e ∙ take-length w))
 
 -- ---- a text put at the front of a buffer
--- has the length that is given back
+-- it has the length that is given back
 pub put-long : {d₀ t d : List ℕ} {to : ℕ} → Put d₀ 0 t d to → to ≡ length t
 put-long p = omega (arith, p .behind)
 
--- is read back from it
+-- it is read back from the buffer
 pub put-front : {d₀ t d : List ℕ} {to : ℕ} → Put d₀ 0 t d to → to ≤ length d₀ → take to d ≡ t
 put-front {d₀} {t} {d} {to} p h =
     let b : to ≡ length t = omega (arith, p .behind) in
     (λ i. take (b i) (p .stored i)) ∙ ap (take (length t)) (sets-front d₀ t (omega arith)) ∙ take-append-seam t (drop (length t) d₀)
 
--- and is all that changed
+-- it is all that changed
 pub put-written : {d₀ t d : List ℕ} {to : ℕ} → Put d₀ 0 t d to → length t ≤ length d₀ → d ≡ written t d₀
 unfolding written
 put-written {d₀} {t} {d} p h = p .stored ∙ sets-front d₀ t h ∙ ap (λ (b : Bool). cond b (t ++ drop (length t) d₀) d₀) (sym (le-leb (length t) (length d₀) h))

@@ -36,15 +36,17 @@ unfolding told answerOf
 told-refused (accepted s) rest e = not-both e
 told-refused (refused j m) rest e = let (p, q) = same-refusal e in λ i. refusalLine (p i) (q i)
 
--- so does a refused chart, sweep or open
+-- so does a refused chart
 pub chart-refused : {k at : ℕ} (s : file.Sheet) → refused k at ≡ answerOf (chartCall s) → refusalLine k at ≡ chartText s
 unfolding chartText
 chart-refused s e = told-refused (chartCall s) _ e
 
+-- a refused sweep
 pub sweep-refused : {k at : ℕ} (s : file.Sheet) → refused k at ≡ answerOf (sweepCall s) → refusalLine k at ≡ sweepText s
 unfolding sweepText
 sweep-refused s e = told-refused (sweepCall s) chartText e
 
+-- and a refused open
 pub open-refused : {k at : ℕ} (b : List ℕ) → refused k at ≡ answerOf (openCall b) → refusalLine k at ≡ fileText b
 unfolding fileText
 open-refused b e = told-refused (openCall b) planText e
@@ -67,17 +69,20 @@ labels-plan (file.labelled p ls) a e = ap (λ (b : Plan × List ℕ). accepted (
 labels-plan (file.charted p ls c) a e = ap (λ (b : Plan × List ℕ). accepted (b .0)) (same-value e)
 
 -- ---- chart
+-- zeros read as 0, inside and outside
 getD-zeros : (k i : ℕ) → getD (zeros k) i 0 ≡ 0
 unfolding zeros
 getD-zeros zero i = refl
 getD-zeros (suc k) zero = refl
 getD-zeros (suc k) (suc i) = getD-zeros k i
 
+-- with zeros behind it a list reads the same
 getD-behind : (l : List ℕ) (k i : ℕ) → getD (l ++ zeros k) i 0 ≡ getD l i 0
 getD-behind [] k i = getD-zeros k i
 getD-behind (a ∷ l) k zero = refl
 getD-behind (a ∷ l) k (suc i) = getD-behind l k i
 
+-- so does a padded array
 getD-padded : (l : List ℕ) (k i : ℕ) → getD (padded k l) i 0 ≡ getD l i 0
 unfolding padded
 getD-padded l k i = getD-behind l (k - length l) i
@@ -97,10 +102,12 @@ points-more xs ys u = let e : suc u ≡ u + 1 = omega arith in ap (pointLines xs
 abbrev drawnText : Sheet → List ℕ
 drawnText s = sizeLine (s .w) (s .h) ++ pointLines (s .xs) (s .ys) (s .n)
 
+-- of a packed sheet they are the lines of its chart
 drawn-packed : (p : Plan) (ls : List ℕ) (c : Chart) → drawnText (packed (file.charted p ls c)) ≡ chartLines (count p) c
 unfolding packed pack chartLines
 drawn-packed p ls c = ap (λ (l : List ℕ). sizeLine (c .w) (c .h) ++ l) (points-padded (c .xs) (c .ys) 200 (count p))
 
+-- and n is the number of its contexts
 count-packed : (p : Plan) (ls : List ℕ) (c : Chart) → packed (file.charted p ls c) .n ≡ count p
 unfolding packed pack
 count-packed p ls c = refl

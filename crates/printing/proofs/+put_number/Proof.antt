@@ -25,7 +25,6 @@ abbrev put-number-below : ℕ → In 1 put-number-kinds.ps
 put-number-below t =
     and 1 put-number-kinds.ps (falls 1 put-number-kinds.ps _<_ μ-put-number t) put-number.Pre
 
--- src/lib.rt:47:34
 put-number-add-put-byte : (t : ℕ) → put-number-lts.Need-add-put-byte (
   put-byte-reads.Asked,
   put-byte-reads.Learnt,
@@ -34,7 +33,6 @@ put-number-add-put-byte : (t : ℕ) → put-number-lts.Need-add-put-byte (
 ) (put-number-at t) put-number.Post
 put-number-add-put-byte t c = search needs
 
--- src/lib.rt:47:9
 put-number-put-byte-requires : (t : ℕ) → put-number-lts.Need-put-byte-requires (
   put-byte-reads.Asked,
   put-byte-reads.Learnt,
@@ -43,7 +41,6 @@ put-number-put-byte-requires : (t : ℕ) → put-number-lts.Need-put-byte-requir
 ) (put-number-at t) put-number.Post
 put-number-put-byte-requires t c κs = search needs
 
--- src/lib.rt:47:9
 put-number-same-length : (t : ℕ) → put-number-lts.Need-same-length (
   put-byte-reads.Asked,
   put-byte-reads.Learnt,
@@ -52,7 +49,6 @@ put-number-same-length : (t : ℕ) → put-number-lts.Need-same-length (
 ) (put-number-at t) put-number.Post
 put-number-same-length t c = search needs
 
--- src/lib.rt:47:9
 put-number-returns : (t : ℕ) → put-number-lts.Need-returns (
   put-byte-reads.Asked,
   put-byte-reads.Learnt,
@@ -61,7 +57,6 @@ put-number-returns : (t : ℕ) → put-number-lts.Need-returns (
 ) (put-number-at t) put-number.Post
 put-number-returns t c = let x = c .before .before .before .before .before .before .args .x in put-as (c .before .before .put-byte .ensures) (sym (digits-low x (c .before .before .before .before .if1 .taken)))
 
--- src/lib.rt:49:9
 put-number-put-number-requires : (t : ℕ) → put-number-lts.Need-put-number-requires (
   put-byte-reads.Asked,
   put-byte-reads.Learnt,
@@ -70,7 +65,6 @@ put-number-put-number-requires : (t : ℕ) → put-number-lts.Need-put-number-re
 ) (put-number-at t) put-number.Post
 put-number-put-number-requires t c κs = (omega (arith, c .before .before .before .pre .0), c .before .before .before .pre .1)
 
--- src/lib.rt:50:23
 put-number-add-put-byte-2 : (t : ℕ) → put-number-lts.Need-add-put-byte-2 (
   put-byte-reads.Asked,
   put-byte-reads.Learnt,
@@ -79,7 +73,6 @@ put-number-add-put-byte-2 : (t : ℕ) → put-number-lts.Need-add-put-byte-2 (
 ) (put-number-at t) put-number.Post
 put-number-add-put-byte-2 t c = search needs
 
--- src/lib.rt:50:5
 put-number-put-byte-requires-2 : (t : ℕ) → put-number-lts.Need-put-byte-requires-2 (
   put-byte-reads.Asked,
   put-byte-reads.Learnt,
@@ -92,7 +85,6 @@ put-number-put-byte-requires-2 t c κs =
     let few = digits-wide (x / 10) (omega arith) in
     (omega arith, omega arith)
 
--- src/lib.rt:42:1
 put-number-same-length-2 : (t : ℕ) → put-number-lts.Need-same-length-2 (
   put-byte-reads.Asked,
   put-byte-reads.Learnt,
@@ -101,7 +93,6 @@ put-number-same-length-2 : (t : ℕ) → put-number-lts.Need-same-length-2 (
 ) (put-number-at t) put-number.Post
 put-number-same-length-2 t c = search needs
 
--- src/lib.rt:42:1
 put-number-returns-2 : (t : ℕ) → put-number-lts.Need-returns-2 (
   put-byte-reads.Asked,
   put-byte-reads.Learnt,

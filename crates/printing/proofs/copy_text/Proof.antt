@@ -8,19 +8,15 @@ use Rattle.printing.proofs.copy_text.Reads as reads
 use Rattle.printing.proofs.copy_text.Lts as lts
 use Rattle.printing.proofs.put_word.Reads as put-word-reads
 
--- src/lib.rt:251:9
 returns : tie.Need-returns
 returns c = let a = c .before .before .before .args in not-written (a .whole .now) (a .out .now) (omega arith)
 
--- src/lib.rt:253:5
 put-word-requires : tie.Need-put-word-requires
 put-word-requires c κs = search needs
 
--- src/lib.rt:246:1
 same-length : tie.Need-same-length
 same-length c = search needs
 
--- src/lib.rt:246:1
 returns-2 : tie.Need-returns-2
 returns-2 c = put-written (c .before .before .put-word .ensures) (omega arith)
 

@@ -8,15 +8,12 @@ use Rattle.printing.proofs.plan_file.Tie as tie
 use Rattle.printing.proofs.plan_file.Reads as reads
 use Rattle.printing.proofs.plan_file.Lts as lts
 
--- src/lib.rt:233:9
 returns : tie.Need-returns
 returns c = sym (take-all 8192 (c .before .args .input .now) (omega arith))
 
--- src/lib.rt:235:5
 slice-aggregate-result : tie.Need-slice-aggregate-result
 slice-aggregate-result c = sym (length-take-le _ (c .before .before .args .input .now) (omega arith))
 
--- src/lib.rt:229:1
 returns-2 : tie.Need-returns-2
 returns-2 c = search needs
 

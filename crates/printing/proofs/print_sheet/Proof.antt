@@ -17,23 +17,18 @@ use Rattle.printing.proofs.plan_file.Reads as plan-file-reads
 use Rattle.printing.proofs.put_file.Reads as put-file-reads
 use Rattle.printing.proofs.room.Reads as room-reads
 
--- src/lib.rt:273:21
 room-requires : tie.Need-room-requires
 room-requires c κs = search needs
 
--- src/lib.rt:274:25
 slice-aggregate-put-file : tie.Need-slice-aggregate-put-file
 slice-aggregate-put-file c = search needs
 
--- src/lib.rt:274:37
 plan-file-requires : tie.Need-plan-file-requires
 plan-file-requires c κs = search needs
 
--- src/lib.rt:274:9
 put-file-requires : tie.Need-put-file-requires
 put-file-requires c κs = search needs
 
--- src/lib.rt:275:20
 array-share-prefix-space : tie.Need-array-share-prefix-space
 array-share-prefix-space c =
     let f = c .before .before .put-file .ensures in
@@ -42,7 +37,6 @@ array-share-prefix-space c =
     let few = f .1 in
     omega arith
 
--- src/lib.rt:275:20
 slice-aggregate-copy-text : tie.Need-slice-aggregate-copy-text
 slice-aggregate-copy-text c =
     let f = c .before .before .before .put-file .ensures in
@@ -51,7 +45,6 @@ slice-aggregate-copy-text c =
     let few = f .1 in
     sym (length-take-le _ (c .before .before .before .put-file .last .0) (omega arith))
 
--- src/lib.rt:275:5
 copy-text-requires : tie.Need-copy-text-requires
 copy-text-requires c κs =
     let f = c .before .before .before .put-file .ensures in
@@ -61,11 +54,9 @@ copy-text-requires c κs =
     let all = length-take-le (c .before .before .before .put-file .result) (c .before .before .before .put-file .last .0) (omega arith) in
     omega arith
 
--- src/lib.rt:268:1
 same-length : tie.Need-same-length
 same-length c = search needs
 
--- src/lib.rt:268:1
 returns : tie.Need-returns
 unfolding text
 returns c =

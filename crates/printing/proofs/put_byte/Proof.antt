@@ -9,31 +9,24 @@ use Rattle.printing.proofs.put_byte.Tie as tie
 use Rattle.printing.proofs.put_byte.Reads as reads
 use Rattle.printing.proofs.put_byte.Lts as lts
 
--- src/lib.rt:22:19
 cast-out : tie.Need-cast-out
 cast-out c = search needs
 
--- src/lib.rt:22:9
 slice-write-out : tie.Need-slice-write-out
 slice-write-out c = search needs
 
--- src/lib.rt:23:16
 add-result : tie.Need-add-result
 add-result c = search needs
 
--- src/lib.rt:23:9
 same-length : tie.Need-same-length
 same-length c = search needs
 
--- src/lib.rt:23:9
 returns : tie.Need-returns
 returns c = put-one refl refl
 
--- src/lib.rt:25:5
 add-result-2 : tie.Need-add-result-2
 add-result-2 c = search needs
 
--- src/lib.rt:17:1
 returns-2 : tie.Need-returns-2
 returns-2 c = let a = c .before .args in put-one (sym (set-out (a .out .now) (a .at) (a .x) (omega arith))) refl
 

@@ -13,47 +13,36 @@ use Rattle.lists.proofs.wide_word.Reads as wide-word-reads
 use Rattle.printing.proofs.put_pair.Reads as put-pair-reads
 use Rattle.printing.proofs.put_points.Reads as put-points-reads
 
--- src/lib.rt:156:9
 slice-aggregate-put-pair : tie.Need-slice-aggregate-put-pair
 slice-aggregate-put-pair c = search needs
 
--- src/lib.rt:157:9
 wide-word-requires : tie.Need-wide-word-requires
 wide-word-requires c κs = search needs
 
--- src/lib.rt:158:9
 slice-aggregate-put-pair-2 : tie.Need-slice-aggregate-put-pair-2
 slice-aggregate-put-pair-2 c = search needs
 
--- src/lib.rt:159:9
 wide-word-requires-2 : tie.Need-wide-word-requires-2
 wide-word-requires-2 c κs = search needs
 
--- src/lib.rt:153:9
 put-pair-requires : tie.Need-put-pair-requires
 put-pair-requires c κs = search needs
 
--- src/lib.rt:161:25
 slice-aggregate-put-points : tie.Need-slice-aggregate-put-points
 slice-aggregate-put-points c = search needs
 
--- src/lib.rt:161:30
 slice-aggregate-put-points-2 : tie.Need-slice-aggregate-put-points-2
 slice-aggregate-put-points-2 c = search needs
 
--- src/lib.rt:161:35
 wide-word-requires-3 : tie.Need-wide-word-requires-3
 wide-word-requires-3 c κs = search needs
 
--- src/lib.rt:161:5
 put-points-requires : tie.Need-put-points-requires
 put-points-requires c κs = let to = c .before .before .before .before .before .before .put-pair .ensures .1 in let n = c .wide-word3 .ensures .0 in let q = c .before .before .before .before .before .before .before .before .before .before .before .before .before .before .before .pre .1 in (omega arith, omega arith)
 
--- src/lib.rt:146:1
 same-length : tie.Need-same-length
 same-length c = search needs
 
--- src/lib.rt:146:1
 returns : tie.Need-returns
 unfolding sizeLine said letters
 returns c =

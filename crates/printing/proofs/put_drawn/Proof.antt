@@ -14,23 +14,18 @@ use Rattle.calls.proofs.chart.Reads as chart-reads
 use Rattle.printing.proofs.put_chart.Reads as put-chart-reads
 use Rattle.printing.proofs.put_refusal.Reads as put-refusal-reads
 
--- src/lib.rt:170:9
 chart-requires : tie.Need-chart-requires
 chart-requires c κs = search needs
 
--- src/lib.rt:174:25
 enum-known-answer : tie.Need-enum-known-answer
 enum-known-answer c = search needs
 
--- src/lib.rt:174:43
 put-refusal-requires : tie.Need-put-refusal-requires
 put-refusal-requires c κs = search needs
 
--- src/lib.rt:175:39
 enum-told : tie.Need-enum-told
 enum-told c = search needs
 
--- src/lib.rt:175:29
 put-chart-requires : tie.Need-put-chart-requires
 unfolding answerAs
 put-chart-requires c κs =
@@ -39,11 +34,9 @@ put-chart-requires c κs =
     let small = chart-accepted s (o .result .sheet) (sym (ap answerAs (c .before .enum-told .given .1)) ∙ o .ensures .0) (o .ensures .1) .1 in
     (omega arith, small)
 
--- src/lib.rt:165:1
 same-length : tie.Need-same-length
 same-length c = search needs
 
--- src/lib.rt:165:1
 returns : tie.Need-returns
 unfolding answerAs
 returns c =
@@ -52,11 +45,9 @@ returns c =
     let end = l .1 in
     (put-as (l .0) (chart-refused (readsAs s) (sym (ap answerAs (c .before .before .before .before .before .answer .given .1)) ∙ c .before .before .before .before .before .before .before .before .chart .ensures .0)), omega arith)
 
--- src/lib.rt:165:1
 same-length-2 : tie.Need-same-length-2
 same-length-2 c = search needs
 
--- src/lib.rt:165:1
 returns-2 : tie.Need-returns-2
 unfolding answerAs
 returns-2 c =

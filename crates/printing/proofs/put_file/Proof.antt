@@ -14,27 +14,21 @@ use Rattle.printing.proofs.put_opened.Reads as put-opened-reads
 use Rattle.printing.proofs.put_refusal.Reads as put-refusal-reads
 use Rattle.sheet.proofs.fresh_sheet.Reads as fresh-sheet-reads
 
--- src/lib.rt:229:38
 fresh-sheet-requires : tie.Need-fresh-sheet-requires
 fresh-sheet-requires c κs = search needs
 
--- src/lib.rt:229:9
 open-file-requires : tie.Need-open-file-requires
 open-file-requires c κs = search needs
 
--- src/lib.rt:233:25
 enum-known-answer : tie.Need-enum-known-answer
 enum-known-answer c = search needs
 
--- src/lib.rt:233:43
 put-refusal-requires : tie.Need-put-refusal-requires
 put-refusal-requires c κs = search needs
 
--- src/lib.rt:234:40
 enum-told : tie.Need-enum-told
 enum-told c = search needs
 
--- src/lib.rt:234:29
 put-opened-requires : tie.Need-put-opened-requires
 unfolding answerAs
 put-opened-requires c κs =
@@ -42,11 +36,9 @@ put-opened-requires c κs =
     let there = open-accepted-on (c .before .before .before .before .before .before .before .before .args .file .now) (c .before .before .before .before .before .fresh-sheet .result) (o .result .sheet) (sym (ap answerAs (c .before .enum-told .given .1)) ∙ o .ensures .0) (o .ensures .1) .1 in
     (omega arith, there)
 
--- src/lib.rt:225:1
 same-length : tie.Need-same-length
 same-length c = search needs
 
--- src/lib.rt:225:1
 returns : tie.Need-returns
 unfolding answerAs
 returns c =
@@ -54,11 +46,9 @@ returns c =
     let end = l .1 in
     (put-as (l .0) (open-refused (c .before .before .before .before .before .before .before .before .before .before .before .before .args .file .now) (sym (ap answerAs (c .before .before .before .before .before .answer .given .1)) ∙ c .before .before .before .before .before .before .before .before .open-file .ensures .0)), omega arith)
 
--- src/lib.rt:225:1
 same-length-2 : tie.Need-same-length-2
 same-length-2 c = search needs
 
--- src/lib.rt:225:1
 returns-2 : tie.Need-returns-2
 unfolding answerAs
 returns-2 c =

@@ -9,19 +9,15 @@ use Rattle.printing.proofs.put_line.Lts as lts
 use Rattle.printing.proofs.put_byte.Reads as put-byte-reads
 use Rattle.printing.proofs.put_said.Reads as put-said-reads
 
--- src/lib.rt:70:9
 put-said-requires : tie.Need-put-said-requires
 put-said-requires c κs = search needs
 
--- src/lib.rt:71:5
 put-byte-requires : tie.Need-put-byte-requires
 put-byte-requires c κs = let to = c .before .before .before .put-said .ensures .1 .0 in (omega arith, omega arith)
 
--- src/lib.rt:65:1
 same-length : tie.Need-same-length
 same-length c = search needs
 
--- src/lib.rt:65:1
 returns : tie.Need-returns
 returns c =
     let w = c .before .before .before .before .before .before .put-said .ensures in

@@ -17,27 +17,21 @@ use Rattle.lists.proofs.wide_word.Reads as wide-word-reads
 use Rattle.printing.proofs.put_line.Reads as put-line-reads
 use Rattle.printing.proofs.put_scanned.Reads as put-scanned-reads
 
--- src/lib.rt:220:32
 slice-aggregate-put-line : tie.Need-slice-aggregate-put-line
 slice-aggregate-put-line c = search needs
 
--- src/lib.rt:220:42
 wide-word-requires : tie.Need-wide-word-requires
 wide-word-requires c κs = search needs
 
--- src/lib.rt:220:9
 put-line-requires : tie.Need-put-line-requires
 put-line-requires c κs = search needs
 
--- src/lib.rt:221:5
 put-scanned-requires : tie.Need-put-scanned-requires
 put-scanned-requires c κs = let to = c .before .before .before .put-line .ensures .1 in omega arith
 
--- src/lib.rt:215:1
 same-length : tie.Need-same-length
 same-length c = search needs
 
--- src/lib.rt:215:1
 returns : tie.Need-returns
 unfolding planLine said letters
 returns c =

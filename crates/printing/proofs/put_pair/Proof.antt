@@ -9,23 +9,18 @@ use Rattle.printing.proofs.put_pair.Lts as lts
 use Rattle.printing.proofs.put_byte.Reads as put-byte-reads
 use Rattle.printing.proofs.put_said.Reads as put-said-reads
 
--- src/lib.rt:87:9
 put-said-requires : tie.Need-put-said-requires
 put-said-requires c κs = search needs
 
--- src/lib.rt:88:9
 put-said-requires-2 : tie.Need-put-said-requires-2
 put-said-requires-2 c κs = let to = c .before .before .before .put-said .ensures .1 .0 in let q = c .before .before .before .before .before .before .before .before .pre in (omega arith, q .2)
 
--- src/lib.rt:89:5
 put-byte-requires : tie.Need-put-byte-requires
 put-byte-requires c κs = let one = c .before .before .before .before .before .before .before .put-said .ensures .1 .0 in let two = c .before .before .before .put-said2 .ensures .1 .0 in (omega arith, omega arith)
 
--- src/lib.rt:75:1
 same-length : tie.Need-same-length
 same-length c = search needs
 
--- src/lib.rt:75:1
 returns : tie.Need-returns
 returns c =
     let v = c .before .before .before .before .before .before .before .before .before .before .put-said .ensures in

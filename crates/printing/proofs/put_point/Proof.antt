@@ -11,27 +11,21 @@ use Rattle.printing.proofs.put_point.Lts as lts
 use Rattle.lists.proofs.num.Reads as num-reads
 use Rattle.printing.proofs.put_triple.Reads as put-triple-reads
 
--- src/lib.rt:127:25
 slice-aggregate-put-triple : tie.Need-slice-aggregate-put-triple
 slice-aggregate-put-triple c = search needs
 
--- src/lib.rt:127:33
 num-requires : tie.Need-num-requires
 num-requires c κs = search needs
 
--- src/lib.rt:127:52
 num-requires-2 : tie.Need-num-requires-2
 num-requires-2 c κs = search needs
 
--- src/lib.rt:127:5
 put-triple-requires : tie.Need-put-triple-requires
 put-triple-requires c κs = (omega arith, omega arith)
 
--- src/lib.rt:122:1
 same-length : tie.Need-same-length
 same-length c = search needs
 
--- src/lib.rt:122:1
 returns : tie.Need-returns
 unfolding pointLine said letters
 returns c =

@@ -19,24 +19,19 @@ Inv-loop out₀ at xs ys n to₀ u₀ out to u = (u ≤ n) × Put out₀ at (poi
 abbrev μ-loop : tie.MeasureT-loop
 μ-loop out₀ at xs ys n to₀ u₀ out to u = n - u
 
--- src/lib.rt:138:5
 loop-holds : tie.Need-loop-holds Inv-loop μ-loop
 unfolding pointLines
 loop-holds c = (omega arith, put-none refl, omega arith)
 
--- src/lib.rt:139:9
 put-point-requires : tie.Need-put-point-requires Inv-loop μ-loop
 put-point-requires c κs = let l = c .before .before .loop .inv .2 in (omega arith, omega arith)
 
--- src/lib.rt:140:9
 add-u : tie.Need-add-u Inv-loop μ-loop
 add-u c = search needs
 
--- src/lib.rt:138:5
 loop-less : tie.Need-loop-less Inv-loop μ-loop
 loop-less c = search needs
 
--- src/lib.rt:138:5
 loop-again : tie.Need-loop-again Inv-loop μ-loop
 loop-again c =
     let a = c .before .before .before .before .before .before .before .before .before .args in
@@ -46,11 +41,9 @@ loop-again c =
     let on = q .1 in
     (omega arith, put-as (put-join (l .inv .1) (q .0)) (points-more (a .xs .now) (a .ys .now) (l .u)), omega arith)
 
--- src/lib.rt:131:1
 same-length : tie.Need-same-length Inv-loop μ-loop
 same-length c = put-size (c .before .loop .inv .1)
 
--- src/lib.rt:131:1
 returns : tie.Need-returns Inv-loop μ-loop
 returns c =
     let a = c .before .before .before .before .before .args in

@@ -13,27 +13,21 @@ use Rattle.printing.proofs.put_refusal.Lts as lts
 use Rattle.lists.proofs.wide_byte.Reads as wide-byte-reads
 use Rattle.printing.proofs.put_pair.Reads as put-pair-reads
 
--- src/lib.rt:113:9
 slice-aggregate-put-pair : tie.Need-slice-aggregate-put-pair
 slice-aggregate-put-pair c = search needs
 
--- src/lib.rt:114:9
 wide-byte-requires : tie.Need-wide-byte-requires
 wide-byte-requires c κs = search needs
 
--- src/lib.rt:115:9
 slice-aggregate-put-pair-2 : tie.Need-slice-aggregate-put-pair-2
 slice-aggregate-put-pair-2 c = search needs
 
--- src/lib.rt:110:5
 put-pair-requires : tie.Need-put-pair-requires
 put-pair-requires c κs = search needs
 
--- src/lib.rt:105:1
 same-length : tie.Need-same-length
 same-length c = search needs
 
--- src/lib.rt:105:1
 returns : tie.Need-returns
 unfolding refusalLine said letters
 returns c =

@@ -10,19 +10,15 @@ use Rattle.printing.proofs.put_said.Lts as lts
 use Rattle.printing.proofs.put_number.Reads as put-number-reads
 use Rattle.printing.proofs.put_word.Reads as put-word-reads
 
--- src/lib.rt:60:9
 put-word-requires : tie.Need-put-word-requires
 put-word-requires c κs = search needs
 
--- src/lib.rt:61:5
 put-number-requires : tie.Need-put-number-requires
 put-number-requires c κs = let to = c .before .before .before .put-word .ensures .behind in omega arith
 
--- src/lib.rt:54:1
 same-length : tie.Need-same-length
 same-length c = search needs
 
--- src/lib.rt:54:1
 returns : tie.Need-returns
 returns c =
     let x = c .before .before .before .before .before .before .before .before .before .before .args .x in

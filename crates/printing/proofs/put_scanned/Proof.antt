@@ -21,55 +21,42 @@ use Rattle.printing.proofs.put_triple.Reads as put-triple-reads
 use Rattle.printing.proofs.put_word.Reads as put-word-reads
 use Rattle.reports.proofs.scan.Reads as scan-reads
 
--- src/lib.rt:200:9
 scan-requires : tie.Need-scan-requires
 scan-requires c κs = search needs
 
--- src/lib.rt:202:26
 enum-known-found : tie.Need-enum-known-found
 enum-known-found c = search needs
 
--- src/lib.rt:202:44
 put-refusal-requires : tie.Need-put-refusal-requires
 put-refusal-requires c κs = search needs
 
--- src/lib.rt:204:31
 enum-told : tie.Need-enum-told
 enum-told c = search needs
 
--- src/lib.rt:204:40
 slice-aggregate-put-word : tie.Need-slice-aggregate-put-word
 slice-aggregate-put-word c = search needs
 
--- src/lib.rt:204:17
 put-word-requires : tie.Need-put-word-requires
 put-word-requires c κs = search needs
 
--- src/lib.rt:205:13
 put-swept-requires : tie.Need-put-swept-requires
 put-swept-requires c κs = let w = c .before .before .before .put-word in let to : w .result ≡ c .before .before .before .before .before .before .before .before .before .before .args .at + 14 = w .ensures .behind in omega arith
 
--- src/lib.rt:207:25
 enum-known-found-2 : tie.Need-enum-known-found-2
 enum-known-found-2 c = search needs
 
--- src/lib.rt:208:42
 slice-aggregate-put-triple : tie.Need-slice-aggregate-put-triple
 slice-aggregate-put-triple c = search needs
 
--- src/lib.rt:208:17
 put-triple-requires : tie.Need-put-triple-requires
 put-triple-requires c κs = search needs
 
--- src/lib.rt:209:13
 put-swept-requires-2 : tie.Need-put-swept-requires-2
 put-swept-requires-2 c κs = let to = c .before .before .before .put-triple .ensures .1 .0 in omega arith
 
--- src/lib.rt:195:1
 same-length : tie.Need-same-length
 same-length c = search needs
 
--- src/lib.rt:195:1
 returns : tie.Need-returns
 unfolding told scannedAs triangleLine said letters
 returns c =
@@ -78,11 +65,9 @@ returns c =
     let end = l .1 in
     (put-as (l .0) (scan-answered (readsAs s) (refused _ _) (sym (ap scannedAs (c .before .before .before .before .before .found .given .1)) ∙ c .before .before .before .before .before .before .before .scan .ensures)), omega arith)
 
--- src/lib.rt:195:1
 same-length-2 : tie.Need-same-length-2
 same-length-2 c = search needs
 
--- src/lib.rt:195:1
 returns-2 : tie.Need-returns-2
 unfolding told scannedAs triangleLine said letters
 returns-2 c =
@@ -93,11 +78,9 @@ returns-2 c =
     let end = l .1 in
     (put-as (put-join (w .ensures) (l .0)) (scan-answered (readsAs s) (accepted none) (sym (ap scannedAs (c .before .before .before .before .before .before .before .before .before .enum-told .given .1)) ∙ c .before .before .before .before .before .before .before .before .before .before .before .scan .ensures)), omega arith)
 
--- src/lib.rt:195:1
 same-length-3 : tie.Need-same-length-3
 same-length-3 c = search needs
 
--- src/lib.rt:195:1
 returns-3 : tie.Need-returns-3
 unfolding told scannedAs triangleLine said letters
 returns-3 c =

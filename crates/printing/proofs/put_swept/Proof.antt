@@ -14,31 +14,24 @@ use Rattle.calls.proofs.sweep.Reads as sweep-reads
 use Rattle.printing.proofs.put_drawn.Reads as put-drawn-reads
 use Rattle.printing.proofs.put_refusal.Reads as put-refusal-reads
 
--- src/lib.rt:185:9
 sweep-requires : tie.Need-sweep-requires
 sweep-requires c κs = search needs
 
--- src/lib.rt:189:25
 enum-known-answer : tie.Need-enum-known-answer
 enum-known-answer c = search needs
 
--- src/lib.rt:189:43
 put-refusal-requires : tie.Need-put-refusal-requires
 put-refusal-requires c κs = search needs
 
--- src/lib.rt:190:39
 enum-told : tie.Need-enum-told
 enum-told c = search needs
 
--- src/lib.rt:190:29
 put-drawn-requires : tie.Need-put-drawn-requires
 put-drawn-requires c κs = search needs
 
--- src/lib.rt:180:1
 same-length : tie.Need-same-length
 same-length c = search needs
 
--- src/lib.rt:180:1
 returns : tie.Need-returns
 unfolding answerAs
 returns c =
@@ -47,11 +40,9 @@ returns c =
     let end = l .1 in
     (put-as (l .0) (sweep-refused (readsAs s) (sym (ap answerAs (c .before .before .before .before .before .answer .given .1)) ∙ c .before .before .before .before .before .before .before .before .sweep .ensures .0)), omega arith)
 
--- src/lib.rt:180:1
 same-length-2 : tie.Need-same-length-2
 same-length-2 c = search needs
 
--- src/lib.rt:180:1
 returns-2 : tie.Need-returns-2
 unfolding answerAs
 returns-2 c =

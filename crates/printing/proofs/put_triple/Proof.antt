@@ -9,35 +9,27 @@ use Rattle.printing.proofs.put_triple.Lts as lts
 use Rattle.printing.proofs.put_byte.Reads as put-byte-reads
 use Rattle.printing.proofs.put_said.Reads as put-said-reads
 
--- src/lib.rt:98:9
 put-said-requires : tie.Need-put-said-requires
 put-said-requires c κs = search needs
 
--- src/lib.rt:99:30
 slice-aggregate-put-said : tie.Need-slice-aggregate-put-said
 slice-aggregate-put-said c = search needs
 
--- src/lib.rt:99:9
 put-said-requires-2 : tie.Need-put-said-requires-2
 put-said-requires-2 c κs = let one = c .before .before .before .before .put-said .ensures .1 .0 in (omega arith, omega arith)
 
--- src/lib.rt:100:30
 slice-aggregate-put-said-2 : tie.Need-slice-aggregate-put-said-2
 slice-aggregate-put-said-2 c = search needs
 
--- src/lib.rt:100:9
 put-said-requires-3 : tie.Need-put-said-requires-3
 put-said-requires-3 c κs = let one = c .before .before .before .before .before .before .before .before .before .put-said .ensures .1 .0 in let two = c .before .before .before .before .put-said2 .ensures .1 .0 in (omega arith, omega arith)
 
--- src/lib.rt:101:5
 put-byte-requires : tie.Need-put-byte-requires
 put-byte-requires c κs = let one = c .before .before .before .before .before .before .before .before .before .before .before .before .before .put-said .ensures .1 .0 in let two = c .before .before .before .before .before .before .before .before .put-said2 .ensures .1 .0 in let three = c .before .before .before .put-said3 .ensures .1 .0 in (omega arith, omega arith)
 
--- src/lib.rt:92:1
 same-length : tie.Need-same-length
 same-length c = search needs
 
--- src/lib.rt:92:1
 returns : tie.Need-returns
 returns c =
     let u = c .before .before .before .before .before .before .before .before .before .before .before .before .before .before .before .before .put-said .ensures in

@@ -19,46 +19,36 @@ Inv-loop out₀ at word i₀ out i = (i ≤ length word) × Put out₀ at (take 
 abbrev μ-loop : tie.MeasureT-loop
 μ-loop out₀ at word i₀ out i = length word - i
 
--- src/lib.rt:34:5
 loop-holds : tie.Need-loop-holds Inv-loop μ-loop
 loop-holds c = (omega arith, put-none (omega arith))
 
--- src/lib.rt:35:23
 add-put-byte : tie.Need-add-put-byte Inv-loop μ-loop
 add-put-byte c = search needs
 
--- src/lib.rt:35:31
 byte-requires : tie.Need-byte-requires Inv-loop μ-loop
 byte-requires c κs = search needs
 
--- src/lib.rt:35:9
 put-byte-requires : tie.Need-put-byte-requires Inv-loop μ-loop
 put-byte-requires c κs = search needs
 
--- src/lib.rt:36:9
 add-i : tie.Need-add-i Inv-loop μ-loop
 add-i c = search needs
 
--- src/lib.rt:34:5
 loop-less : tie.Need-loop-less Inv-loop μ-loop
 loop-less c = search needs
 
--- src/lib.rt:34:5
 loop-again : tie.Need-loop-again Inv-loop μ-loop
 loop-again c =
     let w = c .before .before .before .before .before .before .before .before .before .args .word .now in
     let l = c .before .before .before .before .before .before .loop in
     (omega arith, put-next w (l .i) (l .inv .1) (omega arith) (c .before .before .before .byte .ensures .0) refl (c .before .before .put-byte .ensures))
 
--- src/lib.rt:38:5
 add-result : tie.Need-add-result Inv-loop μ-loop
 add-result c = search needs
 
--- src/lib.rt:29:1
 same-length : tie.Need-same-length Inv-loop μ-loop
 same-length c = put-size (c .before .loop .inv .1)
 
--- src/lib.rt:29:1
 returns : tie.Need-returns Inv-loop μ-loop
 returns c =
     let w = c .before .before .before .before .args .word .now in

@@ -16,35 +16,27 @@ Inv-loop space count₀ i₀ count i = (count ≤ i) × (i ≤ length space)
 abbrev μ-loop : tie.MeasureT-loop
 μ-loop space count₀ i₀ count i = length space - i
 
--- src/main.rt:33:5
 loop-holds : tie.Need-loop-holds Inv-loop μ-loop
 loop-holds c = search needs
 
--- src/main.rt:34:23
 byte-requires : tie.Need-byte-requires Inv-loop μ-loop
 byte-requires c κs = search needs
 
--- src/main.rt:34:18
 mark-requires : tie.Need-mark-requires Inv-loop μ-loop
 mark-requires c κs = search needs
 
--- src/main.rt:34:9
 add-count : tie.Need-add-count Inv-loop μ-loop
 add-count c = search needs
 
--- src/main.rt:35:9
 add-i : tie.Need-add-i Inv-loop μ-loop
 add-i c = search needs
 
--- src/main.rt:33:5
 loop-less : tie.Need-loop-less Inv-loop μ-loop
 loop-less c = search needs
 
--- src/main.rt:33:5
 loop-again : tie.Need-loop-again Inv-loop μ-loop
 loop-again c = search needs
 
--- src/main.rt:30:1
 returns : tie.Need-returns Inv-loop μ-loop
 returns c = search needs
 

@@ -12,55 +12,42 @@ use Rattle.printing.proofs.print_sheet.Reads as print-sheet-reads
 use Rattle.trial_print.proofs.marks.Reads as marks-reads
 use Rattle.trial_print.proofs.print.Reads as print-reads
 
--- src/main.rt:44:9
 print-sheet-requires : tie.Need-print-sheet-requires
 print-sheet-requires c κs = search needs
 
--- src/main.rt:46:26
 slice-reshare-prefix-write-all : tie.Need-slice-reshare-prefix-write-all
 slice-reshare-prefix-write-all c = search needs
 
--- src/main.rt:46:26
 slice-aggregate-write-all : tie.Need-slice-aggregate-write-all
 slice-aggregate-write-all c = sym (length-take-le (c .before .before .before .before .print-sheet .result) _ (c .before .if1 .taken))
 
--- src/main.rt:46:9
 write-all-requires : tie.Need-write-all-requires
 write-all-requires c κs = search needs
 
--- src/main.rt:48:11
 slice-aggregate-print : tie.Need-slice-aggregate-print
 slice-aggregate-print c = search needs
 
--- src/main.rt:48:5
 print-requires : tie.Need-print-requires
 print-requires c κs = search needs
 
--- src/main.rt:49:11
 slice-aggregate-print-2 : tie.Need-slice-aggregate-print-2
 slice-aggregate-print-2 c = search needs
 
--- src/main.rt:49:28
 marks-requires : tie.Need-marks-requires
 marks-requires c κs = search needs
 
--- src/main.rt:49:5
 print-requires-2 : tie.Need-print-requires-2
 print-requires-2 c κs = search needs
 
--- src/main.rt:50:22
 slice-aggregate-write-all-2 : tie.Need-slice-aggregate-write-all-2
 slice-aggregate-write-all-2 c = search needs
 
--- src/main.rt:50:5
 write-all-requires-2 : tie.Need-write-all-requires-2
 write-all-requires-2 c κs = search needs
 
--- src/main.rt:41:1
 same-length : tie.Need-same-length
 same-length c = search needs
 
--- src/main.rt:41:1
 returns : tie.Need-returns
 returns c = search needs
 

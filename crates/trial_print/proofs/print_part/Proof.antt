@@ -10,23 +10,18 @@ use Rattle.trial_print.proofs.print_part.Lts as lts
 use Rattle.trial_print.proofs.marked.Reads as marked-reads
 use Rattle.trial_print.proofs.print_into.Reads as print-into-reads
 
--- src/main.rt:58:21
 marked-requires : tie.Need-marked-requires
 marked-requires c κs = search needs
 
--- src/main.rt:59:23
 array-borrow-prefix-space : tie.Need-array-borrow-prefix-space
 array-borrow-prefix-space c = search needs
 
--- src/main.rt:59:23
 slice-aggregate-print-into : tie.Need-slice-aggregate-print-into
 slice-aggregate-print-into c = sym (length-take-le (c .before .before .before .args .size) _ (array-borrow-prefix-space (c .before)))
 
--- src/main.rt:59:5
 print-into-requires : tie.Need-print-into-requires
 print-into-requires c κs = search needs
 
--- src/main.rt:55:1
 returns : tie.Need-returns
 returns c = search needs
 
