@@ -1,6 +1,6 @@
 -- scan_held meets its contract.
-use mathlib.Core.Path.{_≡_, refl, sym, ap, _∙_}
-use mathlib.Core.Option.{none, some}
+use mathlib.Core.Path.{sym, ap, _∙_}
+use mathlib.Core.Option.{none}
 use Rattle.model.specs.Calls.{scanCall}
 use Rattle.sheet.specs.Sheets as sheets
 use Rattle.sheet.specs.Answers.{scannedAs}

@@ -1,5 +1,5 @@
 -- touchchart_ring meets its contract.
-use mathlib.Core.Path.{_≡_, refl, sym, ap, _∙_}
+use mathlib.Core.Path.{sym, ap, _∙_}
 use Rattle.sheet.specs.Answers.{ringAnswerAs}
 use Rattle.touchchart.proofs.Answers.{part-inside, ring-off, ring-at}
 use native.Mathlib.Omega.{arith}
