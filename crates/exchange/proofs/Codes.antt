@@ -1,10 +1,8 @@
 -- Answers as one number: no answer is too large for 64 bits, and its number and its value can be read off.
-use Prim.Native.Nat.{ℕ, _+_, _*_, _/_, _%_, _≤_, _<_, _^_}
-use mathlib.Core.Path.{_≡_, refl, sym, ap, _∙_}
+use Prim.Native.Nat.{ℕ, _/_, _%_, _<_, _^_}
+use mathlib.Core.Path.{_≡_, refl}
 use native.Mathlib.Omega.{arith}
-use mathlib.Core.List.{List}
 use Rattle.model.specs.Outcome.{Outcome, accepted, refused}
-use Rattle.model.proofs.Outcomes.{same-value, not-both}
 use Rattle.exchange.specs.Exchange.{code, wrapped, numberOf, valueOf, Unpacks}
 use Rattle.exchange.proofs.Small.{Small}
 

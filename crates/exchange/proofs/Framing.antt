@@ -1,6 +1,6 @@
 -- Framing refuses at small offsets only: it ends at the first bad record, and no record that it passes is long.
 use Prim.Native.Nat.{ℕ, zero, suc, _+_, _-_, _*_, _%_, _≤_, _<_}
-use mathlib.Core.Path.{_≡_, refl, sym, ap, _∙_}
+use mathlib.Core.Path.{_≡_, ap}
 use mathlib.Core.List.{List, [], _∷_}
 use mathlib.Core.Bool.{Bool, true, false, cond, _&&_}
 use native.Mathlib.Omega.{arith}
@@ -10,9 +10,8 @@ use borrow.Author.Tests.{eqb-true, leb-true}
 use Rattle.lists.specs.Tests.{empty}
 use Rattle.lists.specs.Words.{word}
 use Rattle.lists.proofs.Bools.{and-yes}
-use Rattle.model.specs.Outcome.{Outcome, accepted, refused, passed, require, _>>=_, _>>_}
-use Rattle.model.specs.Plan.{dartCount}
-use Rattle.model.specs.File.{Sheet, Cursor, Framed, frame, fitsRing, frameRings, frameRest, optional, sheetOf, decode}
+use Rattle.model.specs.Outcome.{Outcome, accepted, require, _>>=_, _>>_}
+use Rattle.model.specs.File.{Cursor, Framed, frame, fitsRing, frameRings, frameRest, optional, decode}
 use Rattle.model.proofs.Outcomes.{same-value, bind-accepted, then-accepted, require-passed}
 use Rattle.exchange.proofs.Small.{Small, small-accepted, small-bind, small-then, small-require}
 

@@ -1,13 +1,11 @@
 -- Sheets handed over, called and handed back: each step on the struct is the step on the sheet.
-use Prim.Native.Nat.{ℕ, _+_, _*_, _%_, _≤_, _<_, _^_}
+use Prim.Native.Nat.{ℕ}
 use mathlib.Core.Path.{_≡_, refl, sym, ap, _∙_, subst}
-use mathlib.Core.List.{List, [], _∷_, _++_}
-use mathlib.Core.Bool.{Bool}
+use mathlib.Core.List.{List, [], _∷_}
 use native.Mathlib.Omega.{arith}
-use lib.ListN.{length, drop}
+use lib.ListN.{length}
 use lib.Dec.{leb}
 use Rattle.model.specs.Outcome.{Outcome, accepted, refused, passed, require, _>>=_, _>>_}
-use Rattle.model.specs.Plan.{Plan}
 use Rattle.model.specs.File.{Sheet, fresh, encode}
 use Rattle.model.specs.Calls.{planOf, openCall, writeCall}
 use Rattle.model.specs.CallLists.{Call, open-file, call}

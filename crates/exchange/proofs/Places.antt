@@ -1,13 +1,13 @@
 -- Every call on a good sheet is small: its refusals have a number up to 17 and a place below 2^17.
-use Prim.Native.Nat.{ℕ, zero, suc, _+_, _*_, _≤_, _<_}
-use mathlib.Core.Path.{_≡_, refl, sym, ap, _∙_, subst}
+use Prim.Native.Nat.{ℕ, zero, suc, _*_, _≤_}
+use mathlib.Core.Path.{_≡_, subst}
 use mathlib.Core.List.{List, [], _∷_, _++_}
 use mathlib.Core.Bool.{Bool, true, false, cond}
 use native.Mathlib.Omega.{arith}
-use lib.ListN.{length, getD, drop, replicate}
+use lib.ListN.{length, getD, replicate}
 use lib.Dec.{eqb, ltb, leb}
 use Rattle.lists.specs.Tests.{sameList}
-use Rattle.model.specs.Outcome.{Outcome, accepted, refused, passed, require, rule, _>>=_, _>>_}
+use Rattle.model.specs.Outcome.{Outcome, accepted, passed, require, rule, _>>=_, _>>_}
 use Rattle.model.specs.Plan.{Plan, count, dartCount, entryCount, badEntry, badRepeat, unreturned, badBorder, badFace, planRules, north, east, west}
 use Rattle.model.specs.Labels.{breaks, labelRules}
 use Rattle.model.specs.Chart.{Chart, Constraint, pass, settle, leastNumbers, tie, xConstraints, yConstraints, isPlacement, leastPlacement, slope, chart, sameChart}
@@ -17,7 +17,7 @@ use Rattle.model.specs.File.{Sheet, fresh, opened, labelled, charted, decode, e
 use Rattle.model.specs.Calls.{planOf, labelsOf, chartOf, judge, openCall, offered, offerCall, sweepCall, turnCall, chartCall, writeCall, scanCall, sameCall, ringCall}
 use Rattle.model.specs.CallLists.{Call, open-file, offer-labels, sweep-labels, turn-edges, draw-chart, call}
 use Rattle.model.proofs.Outcomes.{not-both, same-value}
-use Rattle.model.proofs.PlanRules.{Sound, sound}
+use Rattle.model.proofs.PlanRules.{sound}
 use Rattle.model.proofs.FileWrite.{PlanFits, Fits}
 use Rattle.model.proofs.FileRead.{read-fits}
 use Rattle.guarantee.proofs.Sized.{Good}

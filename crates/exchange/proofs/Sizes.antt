@@ -1,16 +1,16 @@
 -- How large what is told of a sheet can be: a file has at most 5,176 bytes, a named context is below 200, a ring's part lies in the file's first 4,096 bytes.
 use Prim.Native.Nat.{ℕ, zero, suc, _+_, _-_, _*_, _≤_, _<_}
-use mathlib.Core.Path.{_≡_, refl, sym, ap, _∙_, subst}
+use mathlib.Core.Path.{_≡_, refl, sym, ap, _∙_}
 use mathlib.Core.List.{List, [], _∷_, _++_}
 use mathlib.Core.Bool.{Bool, true, false, cond, not, _&&_, _||_}
-use mathlib.Core.Option.{Option, none, some, Option·some-injective, Option·none-ne-some}
+use mathlib.Core.Option.{some, Option·some-injective, Option·none-ne-some}
 use native.Mathlib.Omega.{arith}
 use lib.ListN.{length, getD, take, length-append}
 use Rattle.lists.specs.Parts.{concat}
 use Rattle.lists.specs.Words.{bytes}
 use Rattle.lists.proofs.Bools.{and-yes}
 use Rattle.lists.proofs.Words.{length-bytes}
-use Rattle.model.specs.Outcome.{Outcome, accepted, passed}
+use Rattle.model.specs.Outcome.{passed}
 use Rattle.model.specs.Plan.{Plan, count, entries, adjacent, entryCount, planRules}
 use Rattle.model.specs.Labels.{start}
 use Rattle.model.specs.Chart.{Chart}
@@ -18,7 +18,7 @@ use Rattle.model.specs.Scan.{Triple, innerFace, enclosing, firstEnclosing, trip
 use Rattle.model.specs.File.{Sheet, fresh, opened, labelled, charted, entry, points, chartOut, ringsOut, planOut, encode}
 use Rattle.model.specs.Calls.{ringStart}
 use Rattle.model.proofs.Plans.{adjacent-from}
-use Rattle.model.proofs.PlanRules.{Sound, sound}
+use Rattle.model.proofs.PlanRules.{sound}
 use Rattle.model.proofs.FileWrite.{PlanFits}
 use Rattle.guarantee.proofs.Sized.{Good}
 

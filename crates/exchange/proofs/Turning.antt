@@ -2,7 +2,7 @@
 use Prim.Native.Nat.{ℕ, zero, suc, _+_, _*_, _%_, _≤_, _<_}
 use mathlib.Core.Path.{_≡_, refl, sym, ap, _∙_, subst}
 use mathlib.Core.List.{List, [], _∷_, _++_, map, List·Memᴰ, List·Memᴰ·head, List·Memᴰ·tail, List·Memᴰ·append-cases, List·Memᴰ·not-nil}
-use mathlib.Core.Bool.{Bool, true, false, cond, not, _&&_, _||_}
+use mathlib.Core.Bool.{Bool, true, false, cond, not, _&&_}
 use mathlib.Core.Logic.{_≢_, _⊎_, inl, inr}
 use native.Mathlib.Omega.{arith}
 use lib.ListN.{length, getD, take, length-map}
@@ -15,8 +15,8 @@ use Rattle.lists.specs.Parts.{pairs}
 use Rattle.lists.proofs.Bools.{or-no, no-or, and-yes, yes-and, both}
 use Rattle.lists.proofs.Tests.{none-of, of-none, any-map, repeats-append}
 use Rattle.lists.proofs.Concats.{map-append}
-use Rattle.lists.proofs.Counts.{counted, counted-le, length-counted}
-use Rattle.model.specs.Outcome.{Outcome, accepted, refused, passed, require, rule, _>>=_, _>>_}
+use Rattle.lists.proofs.Counts.{counted-le, length-counted}
+use Rattle.model.specs.Outcome.{require, rule}
 use Rattle.model.specs.Plan.{Plan, Dart, count, adjacent, border, innerEdge, sameDart}
 use Rattle.model.specs.Labels.{breaks, labelRules}
 use Rattle.model.specs.Turn.{sameEdge, reverseDart, badPair, turnEdges, quarters, turn}

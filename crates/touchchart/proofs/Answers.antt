@@ -1,19 +1,18 @@
 -- The answers of scan, same and ring: each has room in the number, and the code gives it.
-use Prim.Native.Nat.{ℕ, _+_, _*_, _%_, _≤_, _<_, _^_}
+use Prim.Native.Nat.{ℕ, _+_, _*_, _%_, _<_, _^_}
 use mathlib.Core.Path.{_≡_, refl, sym, ap, _∙_, subst}
 use mathlib.Core.List.{List}
 use mathlib.Core.Bool.{Bool, true, false}
 use mathlib.Core.Option.{Option, none, some}
-use mathlib.Core.Logic.{_⊎_, inl, inr}
 use native.Mathlib.Omega.{arith}
 use lib.Dec.{ltb}
 use borrow.Author.Tests.{ltb-true, ltb-false}
 use Rattle.model.specs.Outcome.{Outcome, accepted, refused, passed, _>>=_, _>>_}
-use Rattle.model.specs.Plan.{Plan, count, adjacent}
+use Rattle.model.specs.Plan.{Plan}
 use Rattle.model.specs.Scan.{Triple, scan}
 use Rattle.model.specs.File.{Sheet}
-use Rattle.model.specs.Calls.{planOf, openCall, scanCall, sameCall, ringCall}
-use Rattle.model.proofs.Outcomes.{not-both, same-value, same-refusal, bind-at, bind-off, bind-accepted, then-accepted}
+use Rattle.model.specs.Calls.{planOf, scanCall, sameCall, ringCall}
+use Rattle.model.proofs.Outcomes.{not-both, same-value, same-refusal, bind-at, bind-off, bind-accepted}
 use Rattle.model.proofs.Plans.{adjacent-mem}
 use Rattle.model.proofs.PlanRules.{sound}
 use Rattle.model.proofs.RingPart.{ring-accepted}
@@ -25,18 +24,20 @@ use Rattle.sheet.specs.Answers.{answerAs}
 use Rattle.sheet.proofs.Reading.{plan-early, plan-there, fits-there}
 use Rattle.guarantee.proofs.Sized.{Good}
 use Rattle.exchange.specs.Exchange.{code, wrapped, sheetIn, inTurn, given}
-use Rattle.exchange.proofs.Small.{Small, small-accepted, small-bind}
+use Rattle.exchange.proofs.Small.{small-accepted, small-bind}
 use Rattle.exchange.proofs.Sizes.{scan-inside, part-short}
-use Rattle.exchange.proofs.Places.{Held, plan-held, small-scan, small-same, small-ring}
+use Rattle.exchange.proofs.Places.{plan-held, small-scan, small-same, small-ring}
 use Rattle.exchange.proofs.Codes.{Roomy, code-whole}
 use Rattle.exchange.proofs.Handing.{opened-good, handed-good, given-sheet, small-in}
 use Rattle.exchange.proofs.Steps.{given-off, given-at, wrapped-off, wrapped-at}
 use Rattle.touchchart.specs.Interface.{tripleValue, scanValue, scansTo, sameValue, compareValue, comparesTo, partValue, ringsTo}
 
--- an answer that has room is given as it is
+-- ---- an answer that has room is given as it is
+-- a refusal
 pub code-off : (o : Outcome ℕ) (k at r : ℕ) → Roomy o → o ≡ refused k at → r ≡ (k * 2 ^ 48 + at) % 2 ^ 64 → r ≡ code o
 code-off o k at r m e q = wrapped-off o k at r e q ∙ code-whole o m
 
+-- what is accepted
 pub code-at : (o : Outcome ℕ) (v : ℕ) → Roomy o → o ≡ accepted v → v < 2 ^ 64 → v ≡ code o
 code-at o v m e h = wrapped-at o v e h ∙ code-whole o m
 
@@ -78,11 +79,12 @@ unfolding scansTo
 scan-at b h r e a q =
     q ∙ sym (ap wrapped (bind-at (sheetIn b) (reads (h .sheet)) (λ (s : Sheet). scanValue (scanCall s)) (sym e ∙ given-at h a))) ∙ code-whole (scansTo b) (roomy-scan b)
 
--- the struct's scan: a refusal, none, three contexts
+-- the struct's scan: a refusal
 pub scanned-off : (o : Outcome (Option Triple)) (k at : ℕ) → refused k at ≡ o → scanValue o ≡ refused k at
 unfolding scanValue
 scanned-off o k at e = sym (ap scanValue e)
 
+-- none, or three contexts
 pub scanned-at : (o : Outcome (Option Triple)) (t : Option Triple) → accepted t ≡ o → scanValue o ≡ accepted (tripleValue t)
 unfolding scanValue
 scanned-at o t e = sym (ap scanValue e)
@@ -155,19 +157,22 @@ module _ (a b : List ℕ) (f s w : told.Outcome) (e : given f ≡ sheetIn a) (g 
   both : given w ≡ inTurn (sheetIn a) (sheetIn b)
   both = turn ∙ λ i. inTurn (e i) (g i)
 
+  -- one of them is refused
   pub same-off : (k at r : ℕ) → answerAs (w .answer) ≡ refused k at → r ≡ (k * 2 ^ 48 + at) % 2 ^ 64 → r ≡ code (comparesTo a b)
   same-off k at r n q = code-off (comparesTo a b) k at r (roomy-same a b) (compares-off a b k at (sym both ∙ given-off w k at n)) q
 
+  -- both are sheets
   pub same-at : (r : ℕ) → answerAs (w .answer) ≡ passed → r ≡ wrapped (compareValue (sameCall (reads (f .sheet)) (reads (s .sheet)))) → r ≡ code (comparesTo a b)
   same-at r n q =
       let (x, y, ex, ey, all) = compares-at a b (reads (w .sheet)) (sym both ∙ given-at w n) in
       q ∙ (λ i. wrapped (compareValue (sameCall (given-sheet f x (e ∙ ex) i) (given-sheet s y (g ∙ ey) i)))) ∙ sym (ap wrapped all) ∙ code-whole (comparesTo a b) (roomy-same a b)
 
--- the struct's comparison: a refusal, yes, no
+-- the struct's comparison: a refusal
 pub compared-off : (o : Outcome Bool) (k at : ℕ) → refused k at ≡ o → compareValue o ≡ refused k at
 unfolding compareValue
 compared-off o k at e = sym (ap compareValue e)
 
+-- yes or no
 pub compared-at : (o : Outcome Bool) (y : Bool) → accepted y ≡ o → compareValue o ≡ accepted (sameValue y)
 unfolding compareValue
 compared-at o y e = sym (ap compareValue e)
@@ -193,10 +198,12 @@ roomy-ring b u = record {
       omega arith;
 }
 
+-- a refusal
 pub ring-off : (b : List ℕ) (u w k at r : ℕ) → w ≡ u → refused k at ≡ ringCall b w → r ≡ (k * 2 ^ 48 + at) % 2 ^ 64 → r ≡ code (ringsTo b u)
 unfolding ringsTo
 ring-off b u w k at r s e q = code-off (ringsTo b u) k at r (roomy-ring b u) (bind-off (ringCall b u) k at (λ (t : ℕ × ℕ). accepted (partValue t)) (ap (ringCall b) (sym s) ∙ sym e)) q
 
+-- a part
 pub ring-at : (b : List ℕ) (u w at size : ℕ) → w ≡ u → accepted (at, size) ≡ ringCall b w → at * 65536 + size ≡ code (ringsTo b u)
 unfolding ringsTo partValue
 ring-at b u w at size s e =

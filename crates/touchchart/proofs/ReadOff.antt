@@ -1,6 +1,4 @@
 -- Number and value can be read off every answer.
-use Prim.Native.Nat.{ℕ}
-use mathlib.Core.List.{List}
 use Rattle.model.specs.CallLists.{call, sweep-labels, offer-labels, turn-edges, draw-chart}
 use Rattle.sheet.specs.Answers.{lengthOf}
 use Rattle.exchange.specs.Exchange.{handedBack}

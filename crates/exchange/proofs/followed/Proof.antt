@@ -1,8 +1,7 @@
 -- followed meets its contract.
-use mathlib.Core.Path.{_≡_, refl, sym, ap, _∙_}
+use mathlib.Core.Path.{ap}
 use Rattle.sheet.specs.Answers.{answerAs}
 use Rattle.exchange.proofs.Steps.{turn-off, turn-on}
-use native.Mathlib.Omega.{arith}
 use borrow.Author.Needs.{needs}
 use Rattle.exchange.proofs.followed.Statement.{statement}
 use Rattle.exchange.proofs.followed.Tie as tie

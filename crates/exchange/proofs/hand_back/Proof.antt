@@ -1,10 +1,9 @@
 -- hand_back meets its contract.
-use mathlib.Core.Path.{_≡_, refl, sym, ap, _∙_}
+use mathlib.Core.Path.{ap}
 use Rattle.sheet.specs.Sheets as sheets
 use Rattle.sheet.specs.Answers.{answerAs}
 use Rattle.exchange.specs.Exchange.{given}
 use Rattle.exchange.proofs.Steps.{given-off, given-at, back-off, back-at}
-use native.Mathlib.Omega.{arith}
 use borrow.Author.Needs.{needs}
 use Rattle.exchange.proofs.hand_back.Statement.{statement}
 use Rattle.exchange.proofs.hand_back.Tie as tie

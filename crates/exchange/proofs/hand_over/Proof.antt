@@ -1,8 +1,7 @@
 -- hand_over meets its contract.
-use mathlib.Core.Path.{_≡_, refl, sym, ap, _∙_}
+use mathlib.Core.Path.{sym, _∙_}
 use Rattle.exchange.proofs.Handing.{given-fresh}
 use Rattle.exchange.proofs.Steps.{none-in, some-in}
-use native.Mathlib.Omega.{arith}
 use borrow.Author.Needs.{needs}
 use Rattle.exchange.proofs.hand_over.Statement.{statement}
 use Rattle.exchange.proofs.hand_over.Tie as tie

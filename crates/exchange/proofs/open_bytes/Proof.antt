@@ -1,7 +1,5 @@
 -- open_bytes meets its contract.
-use mathlib.Core.Path.{_≡_, refl, sym, ap, _∙_}
 use Rattle.exchange.proofs.Handing.{given-opened}
-use native.Mathlib.Omega.{arith}
 use borrow.Author.Needs.{needs}
 use Rattle.exchange.proofs.open_bytes.Statement.{statement}
 use Rattle.exchange.proofs.open_bytes.Tie as tie

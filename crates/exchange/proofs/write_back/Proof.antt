@@ -1,5 +1,5 @@
 -- write_back meets its contract.
-use mathlib.Core.Path.{_≡_, refl, sym, ap, _∙_}
+use mathlib.Core.Path.{sym, ap, _∙_}
 use Rattle.model.specs.Calls.{writeCall}
 use Rattle.sheet.specs.Sheets as sheets
 use Rattle.sheet.specs.Answers.{writtenAs, lengthOf}

@@ -1,5 +1,5 @@
 -- compare_held meets its contract.
-use mathlib.Core.Path.{_≡_, refl, sym, ap, _∙_}
+use mathlib.Core.Path.{sym, ap, _∙_}
 use mathlib.Core.Bool.{true, false}
 use Rattle.model.specs.Calls.{sameCall}
 use Rattle.sheet.specs.Sheets as sheets

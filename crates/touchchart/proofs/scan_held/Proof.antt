@@ -1,6 +1,6 @@
 -- scan_held meets its contract.
-use mathlib.Core.Path.{_≡_, refl, sym, ap, _∙_}
-use mathlib.Core.Option.{none, some}
+use mathlib.Core.Path.{sym, ap, _∙_}
+use mathlib.Core.Option.{none}
 use Rattle.model.specs.Calls.{scanCall}
 use Rattle.sheet.specs.Sheets as sheets
 use Rattle.sheet.specs.Answers.{scannedAs}
@@ -34,7 +34,7 @@ enum-known-found-2 c = search needs
 
 triple-value-requires : tie.Need-triple-value-requires
 unfolding scannedAs
-triple-value-requires c κs = let (x, y, z) = scanned-inside (c .before .before .before .before .args .sheet) _ _ _ (sym (ap scannedAs (c .before .found2 .given .1)) ∙ c .before .before .before .scan .ensures) in (x, (y, z))
+triple-value-requires c κs = let (x, y, z) = scanned-inside (c .before .before .before .before .args .sheet) _ _ _ (sym (ap scannedAs (c .before .found2 .given .1)) ∙ c .before .before .before .scan .ensures) in omega arith
 
 returns : tie.Need-returns
 unfolding scannedAs

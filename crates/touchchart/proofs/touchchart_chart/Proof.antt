@@ -1,9 +1,7 @@
 -- touchchart_chart meets its contract.
-use mathlib.Core.Path.{_≡_, refl, sym, ap, _∙_}
 use Rattle.model.specs.CallLists.{draw-chart, call}
 use Rattle.exchange.proofs.Handing.{call-way}
 use Rattle.touchchart.specs.Interface.{chartsTo}
-use native.Mathlib.Omega.{arith}
 use borrow.Author.Needs.{needs}
 use Rattle.touchchart.proofs.touchchart_chart.Statement.{statement}
 use Rattle.touchchart.proofs.touchchart_chart.Tie as tie

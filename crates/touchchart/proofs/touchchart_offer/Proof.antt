@@ -1,9 +1,7 @@
 -- touchchart_offer meets its contract.
-use mathlib.Core.Path.{_≡_, refl, sym, ap, _∙_}
 use Rattle.model.specs.CallLists.{offer-labels, call}
 use Rattle.exchange.proofs.Handing.{call-way}
 use Rattle.touchchart.specs.Interface.{offersTo}
-use native.Mathlib.Omega.{arith}
 use borrow.Author.Needs.{needs}
 use Rattle.touchchart.proofs.touchchart_offer.Statement.{statement}
 use Rattle.touchchart.proofs.touchchart_offer.Tie as tie

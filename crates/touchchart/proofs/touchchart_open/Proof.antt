@@ -1,9 +1,7 @@
 -- touchchart_open meets its contract.
-use mathlib.Core.Path.{_≡_, refl, sym, ap, _∙_}
 use Rattle.exchange.specs.Exchange.{handedBack}
 use Rattle.exchange.proofs.Handing.{open-way}
 use Rattle.touchchart.specs.Interface.{opensTo}
-use native.Mathlib.Omega.{arith}
 use borrow.Author.Needs.{needs}
 use Rattle.touchchart.proofs.touchchart_open.Statement.{statement}
 use Rattle.touchchart.proofs.touchchart_open.Tie as tie

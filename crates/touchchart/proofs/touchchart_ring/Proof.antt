@@ -1,5 +1,5 @@
 -- touchchart_ring meets its contract.
-use mathlib.Core.Path.{_≡_, refl, sym, ap, _∙_}
+use mathlib.Core.Path.{sym, ap, _∙_}
 use Rattle.sheet.specs.Answers.{ringAnswerAs}
 use Rattle.touchchart.proofs.Answers.{part-inside, ring-off, ring-at}
 use native.Mathlib.Omega.{arith}
@@ -30,7 +30,7 @@ enum-known-answer-2 c = search needs
 
 part-value-requires : tie.Need-part-value-requires
 unfolding ringAnswerAs
-part-value-requires c κs = part-inside (c .before .before .before .before .before .before .args .file .now) _ _ _ (sym (c .before .before .before .ring-answer .ensures) ∙ ap ringAnswerAs (c .before .answer2 .given .1))
+part-value-requires c κs = let (x, y) = part-inside (c .before .before .before .before .before .before .args .file .now) _ _ _ (sym (c .before .before .before .ring-answer .ensures) ∙ ap ringAnswerAs (c .before .answer2 .given .1)) in omega arith
 
 returns : tie.Need-returns
 unfolding ringAnswerAs

@@ -1,8 +1,7 @@
 -- touchchart_same meets its contract.
-use mathlib.Core.Path.{_≡_, refl, sym, ap, _∙_}
+use mathlib.Core.Path.{ap}
 use Rattle.sheet.specs.Answers.{answerAs}
 use Rattle.touchchart.proofs.Answers.{same-off, same-at}
-use native.Mathlib.Omega.{arith}
 use borrow.Author.Needs.{needs}
 use Rattle.touchchart.proofs.touchchart_same.Statement.{statement}
 use Rattle.touchchart.proofs.touchchart_same.Tie as tie

@@ -1,8 +1,7 @@
 -- touchchart_scan meets its contract.
-use mathlib.Core.Path.{_≡_, refl, sym, ap, _∙_}
+use mathlib.Core.Path.{ap}
 use Rattle.sheet.specs.Answers.{answerAs}
 use Rattle.touchchart.proofs.Answers.{scan-off, scan-at}
-use native.Mathlib.Omega.{arith}
 use borrow.Author.Needs.{needs}
 use Rattle.touchchart.proofs.touchchart_scan.Statement.{statement}
 use Rattle.touchchart.proofs.touchchart_scan.Tie as tie

@@ -1,9 +1,7 @@
 -- touchchart_turn meets its contract.
-use mathlib.Core.Path.{_≡_, refl, sym, ap, _∙_}
 use Rattle.model.specs.CallLists.{turn-edges, call}
 use Rattle.exchange.proofs.Handing.{call-way}
 use Rattle.touchchart.specs.Interface.{turnsTo}
-use native.Mathlib.Omega.{arith}
 use borrow.Author.Needs.{needs}
 use Rattle.touchchart.proofs.touchchart_turn.Statement.{statement}
 use Rattle.touchchart.proofs.touchchart_turn.Tie as tie
