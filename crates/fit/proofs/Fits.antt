@@ -12,7 +12,7 @@ use Rattle.lists.specs.Parts.{concat}
 use Rattle.lists.specs.Spans.{stretch, span}
 use Rattle.lists.proofs.Bools.{or-no, no-or, and-yes, yes-and, yes-not}
 use Rattle.lists.proofs.Spans.{length-stretch}
-use Rattle.lists.proofs.Tests.{none-of, any-map}
+use Rattle.lists.proofs.Tests.{none-of, any-append, any-map}
 use Rattle.model.specs.Plan.{Plan, count, neighbour, entries, ring, entryCount, badEntry}
 use Rattle.rings.specs.Tables.{startOf, startsOf, table}
 use Rattle.rings.proofs.Rows.{count-rows}
@@ -20,14 +20,6 @@ use Rattle.rings.proofs.Joined.{table-entries}
 use Rattle.fit.specs.Fits.{strange, fit}
 
 -- ---- tests over joined lists
-any-append : (f : ℕ → Bool) (l m : List ℕ) → any f (l ++ m) ≡ (any f l || any f m)
-any-append f [] m = refl
-any-append f (a ∷ l) m = ap (f a ||_) (any-append f l m) ∙ go (f a)
-  where
-    go : (t : Bool) → (t || (any f l || any f m)) ≡ (t || any f l || any f m)
-    go true = refl
-    go false = refl
-
 -- no entry of the joined lists passes, and none of each list
 pub none-joined : (f : ℕ → Bool) (rs : List (List ℕ)) → ((u : ℕ) → u < length rs → any f (getD rs u []) ≡ false) → any f (concat rs) ≡ false
 none-joined f [] h = refl

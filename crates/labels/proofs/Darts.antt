@@ -114,15 +114,6 @@ module _ (p : Plan) where
             sym (index-is v (ring p u) 0 (adjacent-mem p u v d)) ∙ (λ j. getD (ring p (z j)) (i j) 0) ∙ index-is b (ring p a) 0 (adjacent-mem p a b e),
           )
 
-  -- ---- a list of labels stays as long
-  pub put-long : (u v l : ℕ) (ls : List ℕ) → length (put p u v l ls) ≡ length ls
-  unfolding put
-  put-long u v l ls = go (adjacent p u v)
-    where
-      go : (t : Bool) → length (cond t (set ls (Place u v) l) ls) ≡ length ls
-      go true = length-set ls (Place u v) l
-      go false = refl
-
   -- ---- what stands behind the labels does not matter
   module _ (ls rest : List ℕ) (size : length ls ≡ entryCount p) where
     -- a part that ends before what is behind

@@ -87,28 +87,6 @@ module _ (p : Plan) (a b c : ℕ) where
     unfolding enclosing
     face-acb e h f = rw (not-flag-no ab ab-yes, not-flag-no ac ac-yes, not-flag-no bc bc-yes, flag-no e h) (ap not f)
 
--- ---- let mut u = s; while u < n { if test(u) { return u; } u += 1; } u
-pub record Seeks (f : ℕ → Bool) (s n u : ℕ) : Type 0 where
-  pub same : firstFrom f s (n - s) ≡ firstFrom f u (n - u)
-
-pub seeks-start : {f : ℕ → Bool} {s n u : ℕ} → u ≡ s → Seeks f s n u
-seeks-start {f} {s} {n} {u} q = record { same = ap (λ (j : ℕ). firstFrom f j (n - j)) (sym q) }
-
-module _ {f : ℕ → Bool} {s n u : ℕ} (inv : Seeks f s n u) where
-  one-more : u < n → firstFrom f s (n - s) ≡ cond (f u) u (firstFrom f (suc u) (n - suc u))
-  unfolding firstFrom
-  one-more h = let k : n - u ≡ suc (n - suc u) = omega arith in inv .same ∙ ap (firstFrom f u) k
-
-  pub seeks-hit : u < n → f u ≡ true → u ≡ firstFrom f s (n - s)
-  seeks-hit h t = sym (one-more h ∙ rw t)
-
-  pub seeks-on : {u′ : ℕ} → u′ ≡ suc u → u < n → f u ≡ false → Seeks f s n u′
-  seeks-on q h t = record { same = rw q (one-more h ∙ rw t) }
-
-  pub seeks-end : n ≤ u → u ≡ firstFrom f s (n - s)
-  unfolding firstFrom
-  seeks-end h = let z : n - u ≡ 0 = omega arith in sym (inv .same ∙ ap (firstFrom f u) z)
-
 -- what encloses with a and b is a neighbour of b
 pub enclosing-near : (p : Plan) (a b c : ℕ) → enclosing p (a, b, c) ≡ true → adjacent p b c ≡ true
 unfolding enclosing

@@ -11,6 +11,7 @@ use Rattle.lists.specs.Spans.{stretch, span, zeros, padded}
 use Rattle.lists.proofs.Concats.{concat-append}
 use Rattle.lists.proofs.Places.{index-below}
 use Rattle.lists.proofs.Spans.{span-more, span-end}
+use Rattle.model.proofs.LabelCounts.{put-long}
 use Rattle.model.specs.Plan.{Plan, Dart, count, neighbour, entries, ring, adjacent, entryCount}
 use Rattle.model.specs.Labels.{start, put, turned}
 use Rattle.model.specs.Sweep.{labelEdges, product}
@@ -162,15 +163,6 @@ module _ (p : Plan) where
 
   -- ---- labels in an array
   module _ (u v l : ℕ) (ls : List ℕ) where
-    -- a label put on a dart adds none
-    put-length : length (put p u v l ls) ≡ length ls
-    unfolding put
-    put-length = go (adjacent p u v)
-      where
-        go : (t : Bool) → length (cond t (set ls (start p u + indexOf v (ring p u)) l) ls) ≡ length ls
-        go true = length-set ls (start p u + indexOf v (ring p u)) l
-        go false = refl
-
     -- a label put into the array
     put-padded : length ls ≡ entryCount p → put p u v l (padded 1186 ls) ≡ padded 1186 (put p u v l ls)
     unfolding put padded
@@ -184,20 +176,13 @@ module _ (p : Plan) where
             ∙ ap (λ (k : ℕ). set ls (start p u + indexOf v (ring p u)) l ++ zeros (1186 - k)) (sym (length-set ls (start p u + indexOf v (ring p u)) l))
         go false e = refl
 
-  -- labels put on edges add none
-  pub edges-length : (l : ℕ) (ds : List Dart) (ls : List ℕ) → length (labelEdges p l ds ls) ≡ length ls
-  unfolding labelEdges
-  edges-length l [] ls = refl
-  edges-length l ((u, v) ∷ ds) ls =
-      edges-length l ds (put p u v l (put p v u (turned l 2) ls)) ∙ put-length u v l (put p v u (turned l 2) ls) ∙ put-length v u (turned l 2) ls
-
   -- labels put into the array edge by edge
   pub edges-padded : (l : ℕ) (ds : List Dart) (ls : List ℕ) → length ls ≡ entryCount p → labelEdges p l ds (padded 1186 ls) ≡ padded 1186 (labelEdges p l ds ls)
   unfolding labelEdges
   edges-padded l [] ls s = refl
   edges-padded l ((u, v) ∷ ds) ls s =
       let back = put p v u (turned l 2) ls in
-      let t : length back ≡ entryCount p = put-length v u (turned l 2) ls ∙ s in
+      let t : length back ≡ entryCount p = put-long p v u (turned l 2) ls ∙ s in
       ap (λ (b : List ℕ). labelEdges p l ds (put p u v l b)) (put-padded v u (turned l 2) ls s)
       ∙ ap (labelEdges p l ds) (put-padded u v l back t)
-      ∙ edges-padded l ds (put p u v l back) (put-length u v l back ∙ t)
+      ∙ edges-padded l ds (put p u v l back) (put-long p u v l back ∙ t)

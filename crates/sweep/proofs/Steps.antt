@@ -28,8 +28,8 @@ use Rattle.sweep.specs.declared.Ended.{Ended}
 use Rattle.sweep.specs.Run.{fan, stepLabels, finishLabels, firstLabels, stuck, swept, endedAs}
 use Rattle.frontier.specs.Run.{firstLine, unfinished}
 use Rattle.pairs.specs.Run.{listing, replaced}
-use Rattle.sweep.proofs.Draws.{edges-length, edges-padded, product-one}
-use Rattle.sweep.proofs.Unlabelled.{bare-long}
+use Rattle.model.proofs.LabelCounts.{edges-long, bare-long, first-long, from-long}
+use Rattle.sweep.proofs.Draws.{edges-padded, product-one}
 use Rattle.frontier.proofs.Beginning.{firstFront, first-front, first-at, first-len}
 use Rattle.sweep.specs.Run as run
 
@@ -91,7 +91,7 @@ running-start {p} {n} {v} {ls} sane long e q w =
           ∙ (λ i. labelEdges p up (product (span (first-at p sane long i) 1 (first-len p sane long i - 1)) (0 ∷ [])) (padded 1186 (bareLabels p)))
           ∙ ap (λ (m : List ℕ). labelEdges p up (product m (0 ∷ [])) (padded 1186 (bareLabels p))) (span-inner f ∙ slice-middle west east (top p))
           ∙ edges-padded p up (product (top p) (north ∷ [])) (bareLabels p) (bare-long p);
-      size = edges-length p up (product (top p) (north ∷ [])) (bareLabels p) ∙ bare-long p;
+      size = edges-long p up (product (top p) (north ∷ [])) (bareLabels p) ∙ bare-long p;
       same = ap (λ (k : ℕ). sweepFrom p k (firstState p)) (sym e);
     }
 
@@ -128,7 +128,7 @@ module _ {p : Plan} {k : ℕ} {v : Line} {ls : List ℕ} (inv : Running p k v ls
       ∙ (λ i. labelEdges p right (steps (span (rep .at i) 0 (rep .len i))) (labelEdges p up (fan 2 (span (rep .at i) 1 (rep .len i - 1))) (inv .labels i)))
       ∙ (λ i. labelEdges p right (steps ((ap (stretch (padded 512 f) 0) whole ∙ stretch-all f) i)) (labelEdges p up ((ap (fan 2) (span-inner f) ∙ sym (product-one 2 (slice 1 (length f - 1) f))) i) (padded 1186 (s .labels))))
       ∙ ap (labelEdges p right (steps f)) (edges-padded p up south-darts (s .labels) (inv .size))
-      ∙ edges-padded p right (steps f) (labelEdges p up south-darts (s .labels)) (edges-length p up south-darts (s .labels) ∙ inv .size) in
+      ∙ edges-padded p right (steps f) (labelEdges p up south-darts (s .labels)) (edges-long p up south-darts (s .labels) ∙ inv .size) in
       ap (λ (l : List ℕ). ended l) same-labels ∙ sym (ap endedAs (step (k - 1) z ∙ ap (λ (t : Bool). cond t (accepted (finish p s)) rest) over))
     where
       ended : List ℕ → Ended
@@ -185,8 +185,8 @@ module _ {p : Plan} {k : ℕ} {v : Line} {ls : List ℕ} (inv : Running p k v ls
               ∙ (λ d. labelEdges p right (steps (span (rep .at d) i (next d))) (labelEdges p up (product (span (good .rep .at d) 0 (good .rep .len d)) (span (rep .at d) (one d) j)) (inv .labels d)))
               ∙ (λ d. labelEdges p right (steps (span-slice f i (suc j) (omega arith) (omega arith) d)) (labelEdges p up (product ((ap (stretch (padded 512 l) 0) size ∙ stretch-all l) d) (span-slice f (suc i) j (omega arith) (omega arith) d)) (padded 1186 (s .labels))))
               ∙ ap (labelEdges p right (steps (slice i (suc j) f))) (edges-padded p up ups (s .labels) (inv .size))
-              ∙ edges-padded p right (steps (slice i (suc j) f)) (labelEdges p up ups (s .labels)) (edges-length p up ups (s .labels) ∙ inv .size);
-          size = edges-length p right (steps (slice i (suc j) f)) (labelEdges p up ups (s .labels)) ∙ edges-length p up ups (s .labels) ∙ inv .size;
+              ∙ edges-padded p right (steps (slice i (suc j) f)) (labelEdges p up ups (s .labels)) (edges-long p up ups (s .labels) ∙ inv .size);
+          size = edges-long p right (steps (slice i (suc j) f)) (labelEdges p up ups (s .labels)) ∙ edges-long p up ups (s .labels) ∙ inv .size;
           same =
               step k′ z
               ∙ ap (λ (t : Bool). cond t (accepted (finish p s)) (choose p s (choices f) >>= (λ (c : ℕ × ℕ). sweepFrom p k′ (advance p s (c .0) (c .1))))) on
@@ -234,35 +234,7 @@ unfolding swept
 swept-14 p = only-14 p (count p) (firstState p)
 
 -- ---- the labels of a sweep that finishes: one for each entry
--- finishing adds no label
-finish-long : (p : Plan) (s : State) → length (s .labels) ≡ entryCount p → length (finish p s) ≡ entryCount p
-unfolding finish
-finish-long p s h =
-    let f = s .frontier in
-    let south-darts = product (south ∷ []) (slice 1 (length f - 1) f) in
-    edges-length p right (steps f) (labelEdges p up south-darts (s .labels)) ∙ edges-length p up south-darts (s .labels) ∙ h
-
--- nor does a step
-advance-long : (p : Plan) (s : State) → length (s .labels) ≡ entryCount p → (i j : ℕ) → length (advance p s i j .labels) ≡ entryCount p
-unfolding advance
-advance-long p s h i j =
-    let f = s .frontier in
-    let ups = product (listed p f i j) (slice (suc i) j f) in
-    edges-length p right (steps (slice i (suc j) f)) (labelEdges p up ups (s .labels)) ∙ edges-length p up ups (s .labels) ∙ h
-
--- so there are as many labels as entries
-from-long : (p : Plan) (k : ℕ) (s : State) → length (s .labels) ≡ entryCount p → (ls : List ℕ) → sweepFrom p k s ≡ accepted ls → length ls ≡ entryCount p
-unfolding sweepFrom
-from-long p zero s h ls e = not-both e
-from-long p (suc k) s h ls e = go (finished p (s .frontier)) (choose p s (choices (s .frontier))) (from-long p k) e
-  where
-    go : (t : Bool) (o : Outcome (ℕ × ℕ)) → ((s′ : State) → length (s′ .labels) ≡ entryCount p → (ls : List ℕ) → sweepFrom p k s′ ≡ accepted ls → length ls ≡ entryCount p)
-        → cond t (accepted (finish p s)) (o >>= (λ (c : ℕ × ℕ). sweepFrom p k (advance p s (c .0) (c .1)))) ≡ accepted ls → length ls ≡ entryCount p
-    go true o r e = ap length (sym (same-value e)) ∙ finish-long p s h
-    go false (accepted c) r e = r (advance p s (c .0) (c .1)) (advance-long p s h (c .0) (c .1)) ls e
-    go false (refused n at) r e = not-both e
-
 -- of the whole sweep
 pub swept-long : (p : Plan) (ls : List ℕ) → swept p ≡ accepted ls → length ls ≡ entryCount p
-unfolding swept firstState
-swept-long p ls e = from-long p (count p) (firstState p) (edges-length p up (product (top p) (north ∷ [])) (bareLabels p) ∙ bare-long p) ls e
+unfolding swept
+swept-long p ls e = from-long p (count p) (firstState p) (first-long p) ls e

@@ -100,10 +100,6 @@ module _ (p : Plan) where
   unfolding bareLabels darts
   before-all = sym (map-darts (from 0 (count p)))
 
-  -- one for each entry
-  pub bare-long : length (bareLabels p) ≡ entryCount p
-  bare-long = ap length (sym before-all) ∙ before-long (count p) (omega arith) ∙ start-all p
-
 -- ---- while u < n { b = bareRing(b, k, u); k += size(u); u += 1; }
 pub record Filled (p : Plan) (b : List ℕ) (k u : ℕ) : Type 0 where
   pub same : b ≡ padded 1186 (before p u)

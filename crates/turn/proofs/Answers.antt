@@ -23,6 +23,7 @@ use Rattle.rings.proofs.Rows.{count-rows}
 use Rattle.rings.specs.Tables.{held}
 use Rattle.labels.proofs.Places.{held-small}
 use Rattle.labels.proofs.Darts.{label-behind, put-behind, rules-behind}
+use Rattle.model.proofs.LabelCounts.{turns-long}
 use Rattle.turn.specs.declared.TurnAnswer.{TurnAnswer}
 use Rattle.turn.specs.declared.TurnAnswer.the-variants.{Labelled, BadList, Broken, Unfit}
 use Rattle.turn.specs.declared.Turned.{Turned}
@@ -33,12 +34,6 @@ use Rattle.turn.proofs.Turns.{count-table}
 
 -- ---- edges turned in an array that holds labels, and something behind them
 module _ (p : Plan) (q : ℕ) where
-  -- the labels stay as many
-  pub edges-long : (ds : List Dart) (ls : List ℕ) → length (turnEdges p q ds ls) ≡ length ls
-  unfolding turnEdges
-  edges-long [] ls = refl
-  edges-long (d ∷ ds) ls = edges-long ds (turnDart p q d (turnDart p q (d .1, d .0) ls)) ∙ turn-long p q d (turnDart p q (d .1, d .0) ls) ∙ turn-long p q (d .1, d .0) ls
-
   -- a dart is turned before what is behind, which stays
   dart-behind : (d : Dart) (ls rest : List ℕ) → length ls ≡ entryCount p → turnDart p q d (ls ++ rest) ≡ turnDart p q d ls ++ rest
   unfolding turnDart
@@ -213,7 +208,7 @@ module _ (sizes es : List ℕ) (n : ℕ) (labels items : List ℕ) (direction : 
 
             -- they are as many as before
             new-long : length New ≡ length Old
-            new-long = edges-long P (quarters direction) (pairs items) Old
+            new-long = turns-long P (quarters direction) (pairs items) Old
 
             -- the context that the code found
             place-is : place ≡ lowest (breaks P New) (count P)

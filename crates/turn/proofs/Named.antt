@@ -15,7 +15,8 @@ use Rattle.lists.proofs.Tests.{any-append}
 use Rattle.model.specs.Plan.{Plan, Dart, adjacent, sameDart, entryCount}
 use Rattle.model.specs.Labels.{unlabelled, labelOf, turned, put}
 use Rattle.model.specs.Turn.{sameEdge, turnDart}
-use Rattle.labels.proofs.Darts.{Place, place-inside, label-at-place, put-at-place, put-nowhere, place-apart, put-long}
+use Rattle.labels.proofs.Darts.{Place, place-inside, label-at-place, put-at-place, put-nowhere, place-apart}
+use Rattle.model.proofs.LabelCounts.{put-long}
 
 -- a dart
 abbrev pub dart : ℕ → ℕ → Dart
