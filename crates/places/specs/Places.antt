@@ -1,0 +1,50 @@
+-- The table of positions of a plan: where each entry stands in each ring, for rings and entries below 200; and look-ups by such a table.
+use Prim.Native.Nat.{ℕ, suc, _+_, _-_, _*_, _/_, _%_}
+use mathlib.Core.List.{List, map}
+use mathlib.Core.Bool.{Bool, cond, not, _&&_}
+use lib.ListN.{getD, set, length}
+use lib.Dec.{eqb, ltb}
+use Rattle.lists.specs.Tests.{member}
+use Rattle.lists.specs.Ranges.{from}
+use Rattle.lists.specs.Parts.{indexOf}
+use Rattle.model.specs.Plan.{Plan, ring, adjacent}
+
+-- one more than v's first index in a ring; 0 where v is not in it
+unfoldable pub place : ℕ → List ℕ → ℕ
+place v r = cond (member v r) (suc (indexOf v r)) 0
+
+-- where the place of v in u's ring stands in the table
+abbrev pub cell : ℕ → ℕ → ℕ
+cell u v = 200 * u + v
+
+-- the table of positions
+unfoldable pub placesOf : Plan → List ℕ
+placesOf p = map (λ (k : ℕ). place (k % 200) (ring p (k / 200))) (from 0 40000)
+
+-- the table has a cell for v in u's ring
+abbrev pub tabled : ℕ → ℕ → Bool
+tabled u v = ltb u 200 && ltb v 200
+
+-- a number noted for v in u's ring, where there is a cell and it is still 0
+unfoldable pub noted : List ℕ → ℕ → ℕ → ℕ → List ℕ
+noted t u v x = cond (tabled u v && eqb (getD t (cell u v) 0) 0) (set t (cell u v) x) t
+
+-- an index from the number of a cell, in a ring of k
+unfoldable pub placed : ℕ → ℕ → ℕ
+placed k x = cond (eqb x 0) k (x - 1)
+
+-- where v stands in u's ring, by a table; the ring's size if it does not
+unfoldable pub indexBy : List ℕ → Plan → ℕ → ℕ → ℕ
+indexBy t p u v = cond (tabled u v) (placed (length (ring p u)) (getD t (cell u v) 0)) (indexOf v (ring p u))
+
+-- u lists v, by a table
+unfoldable pub adjacentBy : List ℕ → Plan → ℕ → ℕ → Bool
+adjacentBy t p u v = cond (tabled u v) (not (eqb (getD t (cell u v) 0) 0)) (adjacent p u v)
+
+-- the entry after the i-th, the ring closing on itself; a where there is none
+unfoldable pub nextAt : ℕ → List ℕ → ℕ → ℕ
+nextAt a r i = cond (ltb (i + 1) (length r)) (getD r (i + 1) 0) (cond (ltb 0 i) (getD r 0 0) a)
+
+-- the entry after a in u's ring, by a table
+unfoldable pub nextBy : List ℕ → Plan → ℕ → ℕ → ℕ
+nextBy t p a u = nextAt a (ring p u) (indexBy t p u a)

@@ -1,0 +1,119 @@
+// The positions of a plan's ring entries in one table, so that an entry is found at once: the table, and look-ups by it.
+ghost use mathlib.Core.Path.{_≡_};
+ghost use Prim.Native.Nat.{_<_, _^_};
+ghost use Rattle.rings.specs.Tables.{rows};
+ghost use Rattle.places.specs.Places.{noted, placesOf, indexBy, nextBy, adjacentBy};
+
+// A number noted for the entry v of u's ring, where none is noted yet; rings and entries from 200 on are passed over.
+pub fn note(table: &mut [u8], u: usize, v: usize, x: u8)
+    ensures { λ r. ⌜ now (table .exit) ≡ noted (now (table .entry)) u v x ⌝ }
+{
+    if u >= 200 {
+        return;
+    }
+    if v >= 200 {
+        return;
+    }
+    let at = 200 * u + v;
+    if lists::byte(table, at) != 0 {
+        return;
+    }
+    if at < table.len() {
+        table[at] = x;
+    }
+}
+
+// The table of positions of the plan of n contexts that the arrays hold.
+pub fn places_of<'a>(
+    starts: &'a [u16],
+    sizes: &'a [u8],
+    entries: &'a [u16],
+    n: usize,
+) -> [u8; 40000]
+    ensures { λ r. ⌜ r ≡ placesOf (rows (now (starts .entry)) (now (sizes .entry)) (now (entries .entry)) n) ⌝ }
+{
+    let mut table = [0u8; 40000];
+    let m = lists::lesser(n, 200);
+    let mut u = 0;
+    let mut i = 0;
+    while u < m {
+        if i < rings::size_of(sizes, n, u) {
+            let v = rings::neighbour_at(starts, sizes, entries, n, u, i);
+            i += 1;
+            note(&mut table, u, v, i as u8);
+        } else {
+            u += 1;
+            i = 0;
+        }
+    }
+    table
+}
+
+// Where v stands in u's ring by a table of positions; the ring's size if it does not.
+pub fn index_by<'a>(
+    places: &'a [u8],
+    starts: &'a [u16],
+    sizes: &'a [u8],
+    entries: &'a [u16],
+    n: usize,
+    u: usize,
+    v: usize,
+) -> usize
+    ensures { λ r. ⌜ r ≡ indexBy (now (places .entry)) (rows (now (starts .entry)) (now (sizes .entry)) (now (entries .entry)) n) u v ⌝ }
+    ensures { λ r. ⌜ r < 2 ^ 8 ⌝ }
+{
+    if u >= 200 {
+        return rings::index_of(starts, sizes, entries, n, u, v);
+    }
+    if v >= 200 {
+        return rings::index_of(starts, sizes, entries, n, u, v);
+    }
+    let place = lists::byte(places, 200 * u + v);
+    if place == 0 {
+        return rings::size_of(sizes, n, u);
+    }
+    place - 1
+}
+
+// Is v in u's ring, by a table of positions?
+pub fn is_adjacent_by<'a>(
+    places: &'a [u8],
+    starts: &'a [u16],
+    sizes: &'a [u8],
+    entries: &'a [u16],
+    n: usize,
+    u: usize,
+    v: usize,
+) -> bool
+    ensures { λ r. ⌜ r ≡ adjacentBy (now (places .entry)) (rows (now (starts .entry)) (now (sizes .entry)) (now (entries .entry)) n) u v ⌝ }
+{
+    if u >= 200 {
+        return rings::is_adjacent(starts, sizes, entries, n, u, v);
+    }
+    if v >= 200 {
+        return rings::is_adjacent(starts, sizes, entries, n, u, v);
+    }
+    lists::byte(places, 200 * u + v) != 0
+}
+
+// The neighbour after a in u's ring by a table of positions, the ring closing on itself.
+pub fn next_by<'a>(
+    places: &'a [u8],
+    starts: &'a [u16],
+    sizes: &'a [u8],
+    entries: &'a [u16],
+    n: usize,
+    u: usize,
+    a: usize,
+) -> usize
+    ensures { λ r. ⌜ r ≡ nextBy (now (places .entry)) (rows (now (starts .entry)) (now (sizes .entry)) (now (entries .entry)) n) a u ⌝ }
+{
+    let i = index_by(places, starts, sizes, entries, n, u, a);
+    if i + 1 < rings::size_of(sizes, n, u) {
+        return rings::neighbour_at(starts, sizes, entries, n, u, i + 1);
+    }
+    if 0 < i {
+        return rings::neighbour_at(starts, sizes, entries, n, u, 0);
+    }
+    a
+}
