@@ -1,2 +1,4 @@
 pub mod FaceTests
 pub mod Flags
+pub mod Scans
+pub mod Nearest

@@ -106,3 +106,11 @@ next-at a r = go (ltb (indexOf a r + 1) (length r)) (ltb 0 (indexOf a r)) refl r
 pub next-places : (p : Plan) (a u : ℕ) → nextBy (placesOf p) p a u ≡ next a (ring p u)
 unfolding nextBy
 next-places p a u = ap (nextAt a (ring p u)) (index-places p u a) ∙ next-at a (ring p u)
+
+-- ---- what a look-up says, where the table is the plan's own
+module _ (p : Plan) {t : List ℕ} (own : t ≡ placesOf p) where
+  pub adjacent-told : (u v : ℕ) {r : Bool} → r ≡ adjacentBy t p u v → r ≡ adjacent p u v
+  adjacent-told u v e = e ∙ ap (λ (s : List ℕ). adjacentBy s p u v) own ∙ adjacent-places p u v
+
+  pub next-told : (a u : ℕ) {r : ℕ} → r ≡ nextBy t p a u → r ≡ next a (ring p u)
+  next-told a u e = e ∙ ap (λ (s : List ℕ). nextBy s p a u) own ∙ next-places p a u

@@ -73,12 +73,12 @@ fn print_flat_rules<'a>(starts: &'a [u16], sizes: &'a [u8], entries: &'a [u16], 
 
 // The smallest triple of mutual neighbours that are no inner face.
 fn print_scan<'a>(starts: &'a [u16], sizes: &'a [u8], entries: &'a [u16], n: usize) {
-    let scanned = scan::scan(starts, sizes, entries, n);
+    let scanned = faces::scan::scan(starts, sizes, entries, n);
     match scanned {
-        scan::Scanned::Nothing => {
+        faces::Scanned::Nothing => {
             io::write_all(1, b" triangle none");
         }
-        scan::Scanned::Triple(a, b, c) => {
+        faces::Scanned::Triple(a, b, c) => {
             print(b" triangle ", a);
             print(b",", b);
             print(b",", c);

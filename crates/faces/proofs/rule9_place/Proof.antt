@@ -11,21 +11,28 @@ use Rattle.faces.proofs.rule9_place.Tie as tie
 use Rattle.faces.proofs.rule9_place.Reads as reads
 use Rattle.faces.proofs.rule9_place.Lts as lts
 use Rattle.faces.proofs.bad_face.Reads as bad-face-reads
+use Rattle.places.proofs.places_of.Reads as places-of-reads
 
 abbrev Inv-loop : tie.InvT-loop
-Inv-loop starts sizes entries n u₀ u = Looks (badFace (rows starts sizes entries n)) n u
+Inv-loop starts sizes entries n places u₀ u = Looks (badFace (rows starts sizes entries n)) n u
 
 abbrev μ-loop : tie.MeasureT-loop
-μ-loop starts sizes entries n u₀ u = n - u
+μ-loop starts sizes entries n places u₀ u = n - u
+
+places-of-requires : tie.Need-places-of-requires Inv-loop μ-loop
+places-of-requires c κs = search needs
 
 loop-holds : tie.Need-loop-holds Inv-loop μ-loop
 loop-holds c = looks-start
+
+slice-aggregate-bad-face : tie.Need-slice-aggregate-bad-face Inv-loop μ-loop
+slice-aggregate-bad-face c = search needs
 
 bad-face-requires : tie.Need-bad-face-requires Inv-loop μ-loop
 bad-face-requires c κs = search needs
 
 returns : tie.Need-returns Inv-loop μ-loop
-returns c = looks-hit (c .before .before .before .loop .inv) (omega arith) (flag-yes (c .before .bad-face .ensures) (c .if1 .taken))
+returns c = looks-hit (c .before .before .before .before .loop .inv) (omega arith) (flag-yes (c .before .bad-face .ensures) (c .if1 .taken))
 
 add-u : tie.Need-add-u Inv-loop μ-loop
 add-u c = search needs
@@ -34,7 +41,7 @@ loop-less : tie.Need-loop-less Inv-loop μ-loop
 loop-less c = search needs
 
 loop-again : tie.Need-loop-again Inv-loop μ-loop
-loop-again c = looks-on (c .before .before .before .loop .inv) (omega arith) (omega arith) (flag-no (c .before .bad-face .ensures) (c .if1 .left))
+loop-again c = looks-on (c .before .before .before .before .loop .inv) (omega arith) (omega arith) (flag-no (c .before .bad-face .ensures) (c .if1 .left))
 
 returns-2 : tie.Need-returns-2 Inv-loop μ-loop
 returns-2 c = looks-end (c .before .loop .inv) (omega arith)
@@ -45,7 +52,9 @@ rule9-place-spec =
     (tie.spec
     Inv-loop
     μ-loop
+    places-of-requires
     loop-holds
+    slice-aggregate-bad-face
     bad-face-requires
     returns
     add-u

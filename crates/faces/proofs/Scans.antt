@@ -14,8 +14,8 @@ use Rattle.lists.proofs.Ranges.{FirstOf, first-found, none-first}
 use Rattle.model.proofs.Plans.{adjacent-mem}
 use Rattle.model.specs.Plan.{Plan, count, ring, adjacent, step, outer, closes, walk, onInnerFace}
 use Rattle.model.specs.Scan.{Triple, after, triples, innerFace, enclosing, firstEnclosing, scan}
 use Rattle.faces.proofs.Flags.{flag-yes, flag-no, not-flag-yes, not-flag-no}
-use Rattle.scan.specs.Scanned.{thirdFor, secondFor, firstFor}
+use Rattle.faces.specs.Scanned.{thirdFor, secondFor, firstFor}
 
 abbrev triple : ℕ → ℕ → ℕ → Triple
 triple a b c = (a, b, c)

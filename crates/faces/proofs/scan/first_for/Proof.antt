@@ -1,23 +1,23 @@
--- first_for meets its contract.
+-- scan::first_for meets its contract.
 use Rattle.faces.proofs.Flags.{below-yes, below-no}
 use Rattle.rings.specs.Tables.{rows}
 use Prim.Native.Nat.{ℕ, _-_}
 use lib.Dec.{ltb}
-use Rattle.scan.specs.Scanned.{secondFor, firstFor}
+use Rattle.faces.specs.Scanned.{secondFor, firstFor}
 use Rattle.lists.proofs.Loops.{Looks, looks-start, looks-hit, looks-on, looks-end}
 use native.Mathlib.Omega.{arith}
 use borrow.Author.Needs.{needs}
-use Rattle.scan.proofs.first_for.Statement.{statement}
-use Rattle.scan.proofs.first_for.Tie as tie
-use Rattle.scan.proofs.first_for.Reads as reads
-use Rattle.scan.proofs.first_for.Lts as lts
-use Rattle.scan.proofs.second_for.Reads as second-for-reads
+use Rattle.faces.proofs.scan.first_for.Statement.{statement}
+use Rattle.faces.proofs.scan.first_for.Tie as tie
+use Rattle.faces.proofs.scan.first_for.Reads as reads
+use Rattle.faces.proofs.scan.first_for.Lts as lts
+use Rattle.faces.proofs.scan.second_for.Reads as second-for-reads
 
 abbrev Inv-loop : tie.InvT-loop
-Inv-loop starts sizes entries n a₀ a = Looks (λ (k : ℕ). ltb (secondFor (rows starts sizes entries n) n k) n) n a
+Inv-loop places starts sizes entries n a₀ a = Looks (λ (k : ℕ). ltb (secondFor (rows starts sizes entries n) n k) n) n a
 
 abbrev μ-loop : tie.MeasureT-loop
-μ-loop starts sizes entries n a₀ a = n - a
+μ-loop places starts sizes entries n a₀ a = n - a
 
 loop-holds : tie.Need-loop-holds Inv-loop μ-loop
 loop-holds c = looks-start

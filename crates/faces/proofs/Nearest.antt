@@ -13,7 +13,7 @@ use Rattle.lists.specs.Ranges.{firstFrom}
 use Rattle.lists.proofs.Bools.{and-yes}
 use Rattle.lists.proofs.Places.{index-below, index-is}
 use Rattle.lists.proofs.Ranges.{FirstOf, found-first, none-first}
-use Rattle.scan.specs.Scanned.{nearer}
+use Rattle.faces.specs.Scanned.{nearer}
 
 -- ---- one step: the entry is not above b, not below the best, passes or fails
 module _ (f : ℕ → Bool) (b c best : ℕ) where

@@ -7,8 +7,8 @@ use Rattle.lists.specs.Ranges.{firstFrom, lowest}
 use Rattle.model.specs.Plan.{Plan}
 use Rattle.model.specs.Scan.{enclosing}
 use Rattle.model.specs.Scan as model
-use Rattle.scan.specs.declared.Scanned.{Scanned}
-use Rattle.scan.specs.declared.Scanned.the-variants.{Triple, Nothing}
+use Rattle.faces.specs.declared.Scanned.{Scanned}
+use Rattle.faces.specs.declared.Scanned.the-variants.{Triple, Nothing}
 
 -- 01's value of each answer: the triple, or none
 unfoldable pub scannedAs : Scanned → Option model.Triple
