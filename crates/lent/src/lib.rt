@@ -8,6 +8,7 @@ ghost use Rattle.lists.specs.Spans.{span};
 ghost use Rattle.model.specs.Plan.{ring, adjacent, badEntry, badRepeat, unreturned};
 ghost use Rattle.rings.specs.Tables.{sizeOf};
 ghost use Rattle.rings.specs.Lent.{bodyAt, lent};
+ghost use Rattle.places.specs.Places.{placesOf};
 
 // The number of two bytes that is entry i of u's ring; 0 past the file's end.
 fn entry_in<'a>(file: &'a [u8], starts: &'a [u16], u: usize, i: usize) -> usize
@@ -131,15 +132,67 @@ fn rule5_at<'a>(file: &'a [u8], starts: &'a [u16], sizes: &'a [u8], n: usize, u:
     false
 }
 
+// The table of positions of the rings in the file.
+fn places_in<'a>(file: &'a [u8], starts: &'a [u16], sizes: &'a [u8], n: usize) -> [u8; 40000]
+    ensures { λ r. ⌜ r ≡ placesOf (lent (now (starts .entry)) (now (sizes .entry)) (now (file .entry)) n) ⌝ }
+{
+    let mut table = [0u8; 40000];
+    let m = lists::lesser(n, 200);
+    let mut u = 0;
+    let mut i = 0;
+    while u < m {
+        let e = rings::size_of(sizes, n, u);
+        if i < e {
+            let v = neighbour_in(file, starts, sizes, n, u, i);
+            i += 1;
+            places::note(&mut table, u, v, i as u8);
+        } else {
+            u += 1;
+            i = 0;
+        }
+    }
+    table
+}
+
+// Is v in u's ring, by the table of positions? What the table has no room for is looked for in the ring.
+fn is_listed_by<'a>(
+    places: &'a [u8],
+    file: &'a [u8],
+    starts: &'a [u16],
+    sizes: &'a [u8],
+    n: usize,
+    u: usize,
+    v: usize,
+) -> bool
+    requires { ⌜ now places ≡ placesOf (lent (now starts) (now sizes) (now file) n) ⌝ }
+    ensures { λ r. ⌜ r ≡ adjacent (lent (now (starts .entry)) (now (sizes .entry)) (now (file .entry)) n) u v ⌝ }
+{
+    if u >= 200 {
+        return is_listed(file, starts, sizes, n, u, v);
+    }
+    if v >= 200 {
+        return is_listed(file, starts, sizes, n, u, v);
+    }
+    lists::byte(places, 200 * u + v) != 0
+}
+
 // 6: does u list some context that does not list u?
-fn rule6_at<'a>(file: &'a [u8], starts: &'a [u16], sizes: &'a [u8], n: usize, u: usize) -> bool
+fn rule6_at<'a>(
+    places: &'a [u8],
+    file: &'a [u8],
+    starts: &'a [u16],
+    sizes: &'a [u8],
+    n: usize,
+    u: usize,
+) -> bool
+    requires { ⌜ now places ≡ placesOf (lent (now starts) (now sizes) (now file) n) ⌝ }
     ensures { λ r. ⌜ r ≡ unreturned (lent (now (starts .entry)) (now (sizes .entry)) (now (file .entry)) n) u ⌝ }
 {
     let e = rings::size_of(sizes, n, u);
     let mut i = 0;
     while i < e {
         let v = neighbour_in(file, starts, sizes, n, u, i);
-        if !is_listed(file, starts, sizes, n, v, u) {
+        if !is_listed_by(places, file, starts, sizes, n, v, u) {
             return true;
         }
         i += 1;
@@ -179,9 +232,10 @@ pub fn rule5_place<'a>(file: &'a [u8], starts: &'a [u16], sizes: &'a [u8], n: us
 pub fn rule6_place<'a>(file: &'a [u8], starts: &'a [u16], sizes: &'a [u8], n: usize) -> usize
     ensures { λ r. ⌜ r ≡ lowest (unreturned (lent (now (starts .entry)) (now (sizes .entry)) (now (file .entry)) n)) n ⌝ }
 {
+    let places = places_in(file, starts, sizes, n);
     let mut u = 0;
     while u < n {
-        if rule6_at(file, starts, sizes, n, u) {
+        if rule6_at(&places, file, starts, sizes, n, u) {
             return u;
         }
         u += 1;

@@ -10,22 +10,29 @@ use Rattle.lent.proofs.rule6_place.Statement.{statement}
 use Rattle.lent.proofs.rule6_place.Tie as tie
 use Rattle.lent.proofs.rule6_place.Reads as reads
 use Rattle.lent.proofs.rule6_place.Lts as lts
+use Rattle.lent.proofs.places_in.Reads as places-in-reads
 use Rattle.lent.proofs.rule6_at.Reads as rule6-at-reads
 
 abbrev Inv-loop : tie.InvT-loop
-Inv-loop file starts sizes n u₀ u = Looks (unreturned (lent starts sizes file n)) n u
+Inv-loop file starts sizes n places u₀ u = Looks (unreturned (lent starts sizes file n)) n u
 
 abbrev μ-loop : tie.MeasureT-loop
-μ-loop file starts sizes n u₀ u = n - u
+μ-loop file starts sizes n places u₀ u = n - u
+
+places-in-requires : tie.Need-places-in-requires Inv-loop μ-loop
+places-in-requires c κs = search needs
 
 loop-holds : tie.Need-loop-holds Inv-loop μ-loop
 loop-holds c = looks-start
+
+slice-aggregate-rule6-at : tie.Need-slice-aggregate-rule6-at Inv-loop μ-loop
+slice-aggregate-rule6-at c = search needs
 
 rule6-at-requires : tie.Need-rule6-at-requires Inv-loop μ-loop
 rule6-at-requires c κs = search needs
 
 returns : tie.Need-returns Inv-loop μ-loop
-returns c = looks-hit (c .before .before .before .loop .inv) (omega arith) (sym (c .before .rule6-at .ensures) ∙ c .if1 .taken)
+returns c = looks-hit (c .before .before .before .before .loop .inv) (omega arith) (sym (c .before .rule6-at .ensures) ∙ c .if1 .taken)
 
 add-u : tie.Need-add-u Inv-loop μ-loop
 add-u c = search needs
@@ -34,7 +41,7 @@ loop-less : tie.Need-loop-less Inv-loop μ-loop
 loop-less c = search needs
 
 loop-again : tie.Need-loop-again Inv-loop μ-loop
-loop-again c = looks-on (c .before .before .before .loop .inv) (omega arith) (omega arith) (sym (c .before .rule6-at .ensures) ∙ c .if1 .left)
+loop-again c = looks-on (c .before .before .before .before .loop .inv) (omega arith) (omega arith) (sym (c .before .rule6-at .ensures) ∙ c .if1 .left)
 
 returns-2 : tie.Need-returns-2 Inv-loop μ-loop
 returns-2 c = looks-end (c .before .loop .inv) (omega arith)
@@ -45,7 +52,9 @@ rule6-place-spec =
     (tie.spec
     Inv-loop
     μ-loop
+    places-in-requires
     loop-holds
+    slice-aggregate-rule6-at
     rule6-at-requires
     returns
     add-u
