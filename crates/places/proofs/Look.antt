@@ -15,32 +15,37 @@ use Rattle.places.specs.Places.{place, cell, tabled, placesOf, placed, i
 use Rattle.places.proofs.Notes.{places-cell, place-absent, place-present}
 
 module _ (t : List ℕ) (p : Plan) (u v : ℕ) where
-  -- there is no cell: the ring is searched
+  -- there is no cell for the ring: it is searched
   pub index-high : 200 ≤ u → indexOf v (ring p u) ≡ indexBy t p u v
   unfolding indexBy
   index-high h = sym (rw (le-ltb u 200 h))
 
+  -- there is no cell for the entry: the ring is searched
   pub index-wide : u < 200 → 200 ≤ v → indexOf v (ring p u) ≡ indexBy t p u v
   unfolding indexBy
   index-wide h k = sym (rw (lt-ltb u 200 h, le-ltb v 200 k))
 
-  -- the cell is 0, or holds an index and one
+  -- the cell is 0: the ring's length
   pub index-none : {x : ℕ} → x ≡ getD t (cell u v) 0 → u < 200 → v < 200 → x ≡ 0 → length (ring p u) ≡ indexBy t p u v
   unfolding indexBy placed
   index-none q h k z = sym (rw (lt-ltb u 200 h, lt-ltb v 200 k, eq-eqb (getD t (cell u v) 0) 0 (sym q ∙ z)))
 
+  -- the cell holds an index and one
   pub index-some : {x : ℕ} → x ≡ getD t (cell u v) 0 → u < 200 → v < 200 → (x ≡ 0 → ⊥) → x - 1 ≡ indexBy t p u v
   unfolding indexBy placed
   index-some q h k f = ap (λ (y : ℕ). y - 1) q ∙ sym (rw (lt-ltb u 200 h, lt-ltb v 200 k, ne-eqb (getD t (cell u v) 0) 0 (λ z. f (q ∙ z))))
 
+  -- the same of whether u lists v: no cell for the ring
   pub adjacent-high : 200 ≤ u → adjacent p u v ≡ adjacentBy t p u v
   unfolding adjacentBy
   adjacent-high h = sym (rw (le-ltb u 200 h))
 
+  -- no cell for the entry
   pub adjacent-wide : u < 200 → 200 ≤ v → adjacent p u v ≡ adjacentBy t p u v
   unfolding adjacentBy
   adjacent-wide h k = sym (rw (lt-ltb u 200 h, le-ltb v 200 k))
 
+  -- a cell, which is not 0 where u lists v
   pub adjacent-cell : {x : ℕ} → x ≡ getD t (cell u v) 0 → u < 200 → v < 200 → not (eqb x 0) ≡ adjacentBy t p u v
   unfolding adjacentBy
   adjacent-cell q h k = ap (λ (y : ℕ). not (eqb y 0)) q ∙ sym (rw (lt-ltb u 200 h, lt-ltb v 200 k))
@@ -81,14 +86,17 @@ adjacent-places p u v = by-cell u v (λ h. sym (adjacent-high (placesOf p) p u v
 
 -- ---- the entry after the i-th of a ring of k
 module _ (a : ℕ) (r : List ℕ) {i k : ℕ} (j : ℕ) (at : i ≡ j) (long : k ≡ length r) where
+  -- there is one
   pub after-more : i + 1 < k → getD r (i + 1) 0 ≡ nextAt a r j
   unfolding nextAt
   after-more h = ap (λ (x : ℕ). getD r (x + 1) 0) at ∙ sym (rw (lt-ltb (j + 1) (length r) (omega arith)))
 
+  -- the i-th is the last: the first
   pub after-round : k ≤ i + 1 → 0 < i → getD r 0 0 ≡ nextAt a r j
   unfolding nextAt
   after-round h q = sym (rw (le-ltb (j + 1) (length r) (omega arith), lt-ltb 0 j (omega arith)))
 
+  -- the ring has no other
   pub after-alone : k ≤ i + 1 → i ≤ 0 → a ≡ nextAt a r j
   unfolding nextAt
   after-alone h q = sym (rw (le-ltb (j + 1) (length r) (omega arith), le-ltb 0 j (omega arith)))
@@ -109,8 +117,10 @@ next-places p a u = ap (nextAt a (ring p u)) (index-places p u a) ∙ next-at a 
 
 -- ---- what a look-up says, where the table is the plan's own
 module _ (p : Plan) {t : List ℕ} (own : t ≡ placesOf p) where
+  -- whether u lists v
   pub adjacent-told : (u v : ℕ) {r : Bool} → r ≡ adjacentBy t p u v → r ≡ adjacent p u v
   adjacent-told u v e = e ∙ ap (λ (s : List ℕ). adjacentBy s p u v) own ∙ adjacent-places p u v
 
+  -- the entry after a in u's ring
   pub next-told : (a u : ℕ) {r : ℕ} → r ≡ nextBy t p a u → r ≡ next a (ring p u)
   next-told a u e = e ∙ ap (λ (s : List ℕ). nextBy s p a u) own ∙ next-places p a u

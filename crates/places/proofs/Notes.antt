@@ -52,23 +52,27 @@ index-new v [] e = rw (eq-eqb v v refl)
 index-new v (a ∷ l) e = let (x, y) = or-no (eqb v a) (member v l) e in rw x (ap suc (index-new v l y))
 
 module _ (v : ℕ) (l : List ℕ) where
-  -- a place is 0 exactly where the entry is not there
+  -- an entry that is not there has place 0
   pub place-absent : member v l ≡ false → place v l ≡ 0
   unfolding place
   place-absent e = rw e
 
+  -- one that is there has its index and one
   pub place-present : member v l ≡ true → place v l ≡ suc (indexOf v l)
   unfolding place
   place-present e = rw e
 
+  -- an entry that is there keeps its place
   place-kept : (m : List ℕ) → member v l ≡ true → place v (l ++ m) ≡ place v l
   unfolding place
   place-kept m e = rw (any-append (eqb v) l m, e) (ap suc (index-kept v l m e))
 
+  -- one that was not there has the place behind the list
   place-new : member v l ≡ false → place v (l ++ (v ∷ [])) ≡ suc (length l)
   unfolding place
   place-new e = rw (any-append (eqb v) l (v ∷ []), e, eq-eqb v v refl) (ap suc (index-new v l e))
 
+  -- every other entry keeps its place
   place-other : (w : ℕ) → (v ≡ w → ⊥) → place v (l ++ (w ∷ [])) ≡ place v l
   unfolding place
   place-other w h = go (member v l) refl
@@ -99,6 +103,7 @@ module _ (t : List ℕ) (u v x : ℕ) where
   unfolding noted
   noted-put h k z = rw (lt-ltb u 200 h, lt-ltb v 200 k, eq-eqb (getD t (cell u v) 0) 0 z)
 
+  -- the table keeps its length
   noted-long : length (noted t u v x) ≡ length t
   unfolding noted
   noted-long = go (tabled u v && eqb (getD t (cell u v) 0) 0)
@@ -135,11 +140,13 @@ pub record Notes (p : Plan) (u i : ℕ) (t : List ℕ) : Type 0 where
   pub here : (v : ℕ) → u < 200 → v < 200 → getD t (cell u v) 0 ≡ place v (take i (ring p u))
   pub later : (a v : ℕ) → a < 200 → v < 200 → u < a → getD t (cell a v) 0 ≡ 0
 
+-- a table of zeros
 none-noted : (k i : ℕ) → getD {A = ℕ} (replicate k 0) i 0 ≡ 0
 none-noted zero i = refl
 none-noted (suc k) zero = refl
 none-noted (suc k) (suc i) = none-noted k i
 
+-- nothing is noted yet
 pub notes-start : {p : Plan} {t : List ℕ} → t ≡ replicate 40000 0 → Notes p 0 0 t
 notes-start {p} {t} q =
     let z : (k : ℕ) → getD t k 0 ≡ 0 = λ k. ap (λ (s : List ℕ). getD s k 0) q ∙ none-noted 40000 k in
