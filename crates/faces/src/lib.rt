@@ -147,7 +147,8 @@ fn bad_face<'a>(
 pub fn rule9_place<'a>(starts: &'a [u16], sizes: &'a [u8], entries: &'a [u16], n: usize) -> usize
     ensures { λ r. ⌜ r ≡ lowest (badFace (rows (now (starts .entry)) (now (sizes .entry)) (now (entries .entry)) n)) n ⌝ }
 {
-    let places = places::places_of(starts, sizes, entries, n);
+    let mut places = [0u8; 40000];
+    places::fill(&mut places, starts, sizes, entries, n);
     let mut u = 0;
     while u < n {
         if bad_face(&places, starts, sizes, entries, n, u) {

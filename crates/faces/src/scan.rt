@@ -208,7 +208,8 @@ fn first_for<'a>(
 pub fn scan<'a>(starts: &'a [u16], sizes: &'a [u8], entries: &'a [u16], n: usize) -> Scanned
     ensures { λ r. ⌜ scannedAs r ≡ scan (rows (now (starts .entry)) (now (sizes .entry)) (now (entries .entry)) n) ⌝ }
 {
-    let places = places::places_of(starts, sizes, entries, n);
+    let mut places = [0u8; 40000];
+    places::fill(&mut places, starts, sizes, entries, n);
     let a = first_for(&places, starts, sizes, entries, n);
     if n <= a {
         return Scanned::Nothing;

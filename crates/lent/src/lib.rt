@@ -8,7 +8,7 @@ ghost use Rattle.lists.specs.Spans.{span};
 ghost use Rattle.model.specs.Plan.{ring, adjacent, badEntry, badRepeat, unreturned};
 ghost use Rattle.rings.specs.Tables.{sizeOf};
 ghost use Rattle.rings.specs.Lent.{bodyAt, lent};
-ghost use Rattle.places.specs.Places.{placesOf};
+ghost use Rattle.places.specs.Places.{placesOf, filled};
 
 // The number of two bytes that is entry i of u's ring; 0 past the file's end.
 fn entry_in<'a>(file: &'a [u8], starts: &'a [u16], u: usize, i: usize) -> usize
@@ -132,11 +132,10 @@ fn rule5_at<'a>(file: &'a [u8], starts: &'a [u16], sizes: &'a [u8], n: usize, u:
     false
 }
 
-// The table of positions of the rings in the file.
-fn places_in<'a>(file: &'a [u8], starts: &'a [u16], sizes: &'a [u8], n: usize) -> [u8; 40000]
-    ensures { λ r. ⌜ r ≡ placesOf (lent (now (starts .entry)) (now (sizes .entry)) (now (file .entry)) n) ⌝ }
+// The positions of the rings in the file, in the cells of a table that are 0.
+fn fill_in<'a>(table: &mut [u8], file: &'a [u8], starts: &'a [u16], sizes: &'a [u8], n: usize)
+    ensures { λ r. ⌜ now (table .exit) ≡ filled (lent (now (starts .entry)) (now (sizes .entry)) (now (file .entry)) n) (now (table .entry)) ⌝ }
 {
-    let mut table = [0u8; 40000];
     let m = lists::lesser(n, 200);
     let mut u = 0;
     let mut i = 0;
@@ -145,13 +144,12 @@ fn places_in<'a>(file: &'a [u8], starts: &'a [u16], sizes: &'a [u8], n: usize) -
         if i < e {
             let v = neighbour_in(file, starts, sizes, n, u, i);
             i += 1;
-            places::note(&mut table, u, v, i as u8);
+            places::note(table, u, v, i as u8);
         } else {
             u += 1;
             i = 0;
         }
     }
-    table
 }
 
 // Is v in u's ring, by the table of positions? What the table has no room for is looked for in the ring.
@@ -232,7 +230,8 @@ pub fn rule5_place<'a>(file: &'a [u8], starts: &'a [u16], sizes: &'a [u8], n: us
 pub fn rule6_place<'a>(file: &'a [u8], starts: &'a [u16], sizes: &'a [u8], n: usize) -> usize
     ensures { λ r. ⌜ r ≡ lowest (unreturned (lent (now (starts .entry)) (now (sizes .entry)) (now (file .entry)) n)) n ⌝ }
 {
-    let places = places_in(file, starts, sizes, n);
+    let mut places = [0u8; 40000];
+    fill_in(&mut places, file, starts, sizes, n);
     let mut u = 0;
     while u < n {
         if rule6_at(&places, file, starts, sizes, n, u) {

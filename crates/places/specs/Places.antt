@@ -29,6 +29,14 @@ tabled u v = ltb u 200 && ltb v 200
 unfoldable pub noted : List ℕ → ℕ → ℕ → ℕ → List ℕ
 noted t u v x = cond (tabled u v && eqb (getD t (cell u v) 0) 0) (set t (cell u v) x) t
 
+-- y, where x is 0
+unfoldable pub over : ℕ → ℕ → ℕ
+over x y = cond (eqb x 0) y x
+
+-- a table of any length whose cells that are 0 take the plan's positions
+unfoldable pub filled : Plan → List ℕ → List ℕ
+filled p t = map (λ (k : ℕ). over (getD t k 0) (getD (placesOf p) k 0)) (from 0 (length t))
+
 -- an index from the number of a cell, in a ring of k
 unfoldable pub placed : ℕ → ℕ → ℕ
 placed k x = cond (eqb x 0) k (x - 1)

@@ -2,7 +2,7 @@
 ghost use mathlib.Core.Path.{_≡_};
 ghost use Prim.Native.Nat.{_<_, _^_};
 ghost use Rattle.rings.specs.Tables.{rows};
-ghost use Rattle.places.specs.Places.{noted, placesOf, indexBy, nextBy, adjacentBy};
+ghost use Rattle.places.specs.Places.{noted, placesOf, filled, indexBy, nextBy, adjacentBy};
 
 // A number noted for the entry v of u's ring, where none is noted yet; rings and entries from 200 on are passed over.
 pub fn note(table: &mut [u8], u: usize, v: usize, x: u8)
@@ -23,6 +23,25 @@ pub fn note(table: &mut [u8], u: usize, v: usize, x: u8)
     }
 }
 
+// The positions of the plan of n contexts that the arrays hold, in the cells of a table that are 0.
+pub fn fill<'a>(table: &mut [u8], starts: &'a [u16], sizes: &'a [u8], entries: &'a [u16], n: usize)
+    ensures { λ r. ⌜ now (table .exit) ≡ filled (rows (now (starts .entry)) (now (sizes .entry)) (now (entries .entry)) n) (now (table .entry)) ⌝ }
+{
+    let m = lists::lesser(n, 200);
+    let mut u = 0;
+    let mut i = 0;
+    while u < m {
+        if i < rings::size_of(sizes, n, u) {
+            let v = rings::neighbour_at(starts, sizes, entries, n, u, i);
+            i += 1;
+            note(table, u, v, i as u8);
+        } else {
+            u += 1;
+            i = 0;
+        }
+    }
+}
+
 // The table of positions of the plan of n contexts that the arrays hold.
 pub fn places_of<'a>(
     starts: &'a [u16],
@@ -33,19 +52,7 @@ pub fn places_of<'a>(
     ensures { λ r. ⌜ r ≡ placesOf (rows (now (starts .entry)) (now (sizes .entry)) (now (entries .entry)) n) ⌝ }
 {
     let mut table = [0u8; 40000];
-    let m = lists::lesser(n, 200);
-    let mut u = 0;
-    let mut i = 0;
-    while u < m {
-        if i < rings::size_of(sizes, n, u) {
-            let v = rings::neighbour_at(starts, sizes, entries, n, u, i);
-            i += 1;
-            note(&mut table, u, v, i as u8);
-        } else {
-            u += 1;
-            i = 0;
-        }
-    }
+    fill(&mut table, starts, sizes, entries, n);
     table
 }
 

@@ -1,5 +1,6 @@
 -- rule6_place meets its contract.
-use mathlib.Core.Path.{sym, _∙_}
+use mathlib.Core.Path.{refl, sym, _∙_}
+use Rattle.places.proofs.Notes.{filled-zeros}
 use Prim.Native.Nat.{_-_}
 use Rattle.lists.proofs.Loops.{Looks, looks-start, looks-hit, looks-on, looks-end}
 use Rattle.model.specs.Plan.{unreturned}
@@ -10,7 +11,7 @@ use Rattle.lent.proofs.rule6_place.Statement.{statement}
 use Rattle.lent.proofs.rule6_place.Tie as tie
 use Rattle.lent.proofs.rule6_place.Reads as reads
 use Rattle.lent.proofs.rule6_place.Lts as lts
-use Rattle.lent.proofs.places_in.Reads as places-in-reads
+use Rattle.lent.proofs.fill_in.Reads as fill-in-reads
 use Rattle.lent.proofs.rule6_at.Reads as rule6-at-reads
 
 abbrev Inv-loop : tie.InvT-loop
@@ -19,8 +20,11 @@ Inv-loop file starts sizes n places u₀ u = Looks (unreturned (lent starts size
 abbrev μ-loop : tie.MeasureT-loop
 μ-loop file starts sizes n places u₀ u = n - u
 
-places-in-requires : tie.Need-places-in-requires Inv-loop μ-loop
-places-in-requires c κs = search needs
+slice-aggregate-fill-in : tie.Need-slice-aggregate-fill-in Inv-loop μ-loop
+slice-aggregate-fill-in c = search needs
+
+fill-in-requires : tie.Need-fill-in-requires Inv-loop μ-loop
+fill-in-requires c κs = search needs
 
 loop-holds : tie.Need-loop-holds Inv-loop μ-loop
 loop-holds c = looks-start
@@ -29,7 +33,7 @@ slice-aggregate-rule6-at : tie.Need-slice-aggregate-rule6-at Inv-loop μ-loop
 slice-aggregate-rule6-at c = search needs
 
 rule6-at-requires : tie.Need-rule6-at-requires Inv-loop μ-loop
-rule6-at-requires c κs = search needs
+rule6-at-requires c κs = let a = c .before .before .before .before .before .before .before .before .before .args in c .before .before .before .before .fill-in .ensures ∙ filled-zeros (lent (a .starts .now) (a .sizes .now) (a .file .now) (a .n)) refl
 
 returns : tie.Need-returns Inv-loop μ-loop
 returns c = looks-hit (c .before .before .before .before .loop .inv) (omega arith) (sym (c .before .rule6-at .ensures) ∙ c .if1 .taken)
@@ -52,7 +56,8 @@ rule6-place-spec =
     (tie.spec
     Inv-loop
     μ-loop
-    places-in-requires
+    slice-aggregate-fill-in
+    fill-in-requires
     loop-holds
     slice-aggregate-rule6-at
     rule6-at-requires

@@ -1,4 +1,6 @@
 -- scan::scan meets its contract.
+use mathlib.Core.Path.{refl, _∙_}
+use Rattle.places.proofs.Notes.{filled-zeros}
 use Rattle.rings.specs.Tables.{rows}
 use Rattle.faces.specs.Scanned.{scannedAs}
 use Rattle.rings.proofs.Rows.{count-rows}
@@ -9,24 +11,27 @@ use Rattle.faces.proofs.scan.scan.Statement.{statement}
 use Rattle.faces.proofs.scan.scan.Tie as tie
 use Rattle.faces.proofs.scan.scan.Reads as reads
 use Rattle.faces.proofs.scan.scan.Lts as lts
-use Rattle.places.proofs.places_of.Reads as places-of-reads
+use Rattle.places.proofs.fill.Reads as fill-reads
 use Rattle.faces.proofs.scan.first_for.Reads as first-for-reads
 use Rattle.faces.proofs.scan.second_for.Reads as second-for-reads
 use Rattle.faces.proofs.scan.third_for.Reads as third-for-reads
 
-places-of-requires : tie.Need-places-of-requires
-places-of-requires c κs = search needs
+slice-aggregate-fill : tie.Need-slice-aggregate-fill
+slice-aggregate-fill c = search needs
+
+fill-requires : tie.Need-fill-requires
+fill-requires c κs = search needs
 
 slice-aggregate-first-for : tie.Need-slice-aggregate-first-for
 slice-aggregate-first-for c = search needs
 
 first-for-requires : tie.Need-first-for-requires
-first-for-requires c κs = search needs
+first-for-requires c κs = let a = c .before .before .before .before .before .before .before .args in c .before .before .fill .ensures ∙ filled-zeros (rows (a .starts .now) (a .sizes .now) (a .entries .now) (a .n)) refl
 
 returns : tie.Need-returns
 unfolding scannedAs
 returns c =
-    let a = c .before .before .before .before .before .before .before .args in
+    let a = c .before .before .before .before .before .before .before .before .before .args in
     let p = rows (a .starts .now) (a .sizes .now) (a .entries .now) (a .n) in
     scan-none p (a .n) _ (count-rows (a .starts .now) (a .sizes .now) (a .entries .now) (a .n)) (c .before .first-for .ensures) (c .if1 .taken)
 
@@ -34,23 +39,23 @@ slice-aggregate-second-for : tie.Need-slice-aggregate-second-for
 slice-aggregate-second-for c = search needs
 
 second-for-requires : tie.Need-second-for-requires
-second-for-requires c κs = search needs
+second-for-requires c κs = let a = c .before .before .before .before .before .before .before .before .before .before .args in (c .before .before .before .before .before .fill .ensures ∙ filled-zeros (rows (a .starts .now) (a .sizes .now) (a .entries .now) (a .n)) refl, omega arith)
 
 slice-aggregate-third-for : tie.Need-slice-aggregate-third-for
 slice-aggregate-third-for c = search needs
 
 third-for-requires : tie.Need-third-for-requires
 third-for-requires c κs =
-    let a = c .before .before .before .before .before .before .before .before .before .before .args in
+    let a = c .before .before .before .before .before .before .before .before .before .before .before .before .args in
     let p = rows (a .starts .now) (a .sizes .now) (a .entries .now) (a .n) in
     let below = second-below p (a .n) _ (count-rows (a .starts .now) (a .sizes .now) (a .entries .now) (a .n)) (c .before .before .before .before .first-for .ensures) (c .before .before .before .if1 .left) in
     let second = c .before .second-for .ensures in
-    (c .before .before .before .before .before .before .places-of .ensures, omega arith)
+    (c .before .before .before .before .before .before .before .fill .ensures ∙ filled-zeros p refl, omega arith)
 
 returns-2 : tie.Need-returns-2
 unfolding scannedAs
 returns-2 c =
-    let a = c .before .before .before .before .before .before .before .before .before .before .before .args in
+    let a = c .before .before .before .before .before .before .before .before .before .before .before .before .before .args in
     let p = rows (a .starts .now) (a .sizes .now) (a .entries .now) (a .n) in
     scan-some p (a .n) _ (count-rows (a .starts .now) (a .sizes .now) (a .entries .now) (a .n)) (c .before .before .before .before .before .first-for .ensures) _ _ (c .before .before .second-for .ensures) (c .third-for .ensures) (c .before .before .before .before .if1 .left)
 
@@ -58,7 +63,8 @@ pub scan-spec : {M : Type 1} → statement M
 scan-spec =
     tie.close
     (tie.spec
-    places-of-requires
+    slice-aggregate-fill
+    fill-requires
     slice-aggregate-first-for
     first-for-requires
     returns
