@@ -1,19 +1,22 @@
 -- mark::store meets its contract.
-use mathlib.Core.Path.{refl, sym}
-use native.Mathlib.Omega.{arith}
+use mathlib.Core.Path.{sym}
 use lib.Seq.{set-out}
+use native.Mathlib.Omega.{arith}
 use borrow.Author.Needs.{needs}
 use Rattle.sweep.proofs.mark.store.Statement.{statement}
 use Rattle.sweep.proofs.mark.store.Tie as tie
 
-returns : tie.Need-returns
-returns c = sym (set-out (c .before .args .t1) (c .before .args .i) (c .before .args .l) (omega arith))
+slice-write-labels : tie.Need-slice-write-labels
+slice-write-labels c = search needs
 
-array-write-labels : tie.Need-array-write-labels
-array-write-labels c = search needs
+same-length : tie.Need-same-length
+same-length c = search needs
+
+returns : tie.Need-returns
+returns c = search needs
 
 returns-2 : tie.Need-returns-2
-returns-2 c = refl
+returns-2 c = sym (set-out (c .before .args .labels .now) (c .before .args .i) (c .before .args .l) (omega arith))
 
 pub store-spec : {M : Type 1} → statement M
-store-spec = tie.close (tie.spec returns array-write-labels returns-2)
+store-spec = tie.close (tie.spec slice-write-labels same-length returns returns-2)
