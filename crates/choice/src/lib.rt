@@ -4,7 +4,7 @@ ghost use mathlib.Core.Logic.{_⊎_};
 ghost use mathlib.Core.Bool.{true, false};
 ghost use mathlib.Core.List.{List};
 ghost use Prim.Native.Nat.{ℕ, suc, _+_, _-_, _<_, _≤_, _^_};
-ghost use lib.ListN.{getD, length, set};
+ghost use lib.ListN.{getD, length};
 ghost use Rattle.model.specs.Sweep.{State, choose, choices};
 ghost use Rattle.rings.specs.Tables.{rows};
 ghost use Rattle.frontier.specs.Run.{line};
@@ -180,15 +180,6 @@ fn lower(lo: usize, x: usize) -> usize
     if x <= lo { x - 1 } else { lo }
 }
 
-// Marks c, if it has a place.
-fn mark(on: &mut [u8], c: usize)
-    ensures { λ r. ⌜ now (on .exit) ≡ set (now (on .entry)) c 1 ⌝ }
-{
-    if c < on.len() {
-        on[c] = 1;
-    }
-}
-
 // A lead of these parts.
 fn made(ok: bool, some: bool, first: usize, lo: usize) -> Lead
     ensures { λ r. ⌜ r ≡ run.lead ok some first lo ⌝ }
@@ -253,7 +244,7 @@ fn extend<'a>(
         first = c;
         lo = lower(lo, lists::whole(low, c));
         t += 1;
-        mark(on, c);
+        lists::set_byte(on, c, 1);
     }
     made(true, some, first, lo)
 }

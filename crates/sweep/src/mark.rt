@@ -2,22 +2,12 @@
 ghost use mathlib.Core.Path.{_≡_};
 ghost use mathlib.Core.List.{map, [], _∷_};
 ghost use Prim.Native.Nat.{ℕ, _+_, _≤_, _<_};
-ghost use lib.ListN.{set};
 ghost use Rattle.lists.specs.Parts.{steps};
 ghost use Rattle.lists.specs.Spans.{span};
 ghost use Rattle.model.specs.Labels.{up, right, put, turned};
 ghost use Rattle.model.specs.Sweep.{labelEdges, product};
 ghost use Rattle.rings.specs.Tables.{startsOf, rows};
 ghost use Rattle.sweep.specs.Run as run;
-
-// Puts l at place i of the labels; past the last there is nothing to do.
-pub(crate) fn store(labels: &mut [u8], i: usize, l: u8)
-    ensures { λ r. ⌜ now (labels .exit) ≡ set (now (labels .entry)) i l ⌝ }
-{
-    if i < labels.len() {
-        labels[i] = l;
-    }
-}
 
 // Puts l on the dart from u to v, if there is one.
 fn put_on<'a>(
@@ -36,7 +26,7 @@ fn put_on<'a>(
 {
     let i = rings::index_of(starts, sizes, entries, n, u, v);
     if i < rings::size_of(sizes, n, u) {
-        store(labels, lists::num(starts, u) + i, l);
+        lists::set_byte(labels, lists::num(starts, u) + i, l);
     }
 }
 

@@ -82,7 +82,7 @@ loop-again c =
     let c-is = c .before .before .before .before .before .before .before .before .before .wide-word .ensures .0 ∙ c .before .before .before .before .before .before .before .before .before .before .onward-at .ensures ∙ ap (λ (l : List ℕ). getD l (c .before .before .before .before .before .before .before .before .before .before .before .before .loop .t) 0) (under-turned p (a .f .now) (a .k) (c .before .before .before .before .before .before .before .before .before .before .before .before .before .before .before .num .ensures .0) (c .before .before .before .before .before .before .before .before .before .before .before .before .before .before .turn-of .ensures .0)) in
     let size = c .before .before .before .before .before .before .before .before .before .before .before .before .before .before .before .before .before .depth .ensures .0 in
     let least = ⊎-elim (λ h. inl h) (λ h. inr (sym (c .before .before .before .before .before .whole .ensures) ∙ h)) (c .before .before .before .before .lower .ensures) in
-    (omega arith, search needs, grows-on (c .before .before .before .before .before .before .before .before .before .before .before .before .loop .inv .2) refl (omega arith) c-is (c .before .before .before .before .before .before .before .before .before .before .before .before .before .before .before .before .before .before .before .before .before .before .before .before .before .before .pre) least (c .before .before .mark .ensures))
+    (omega arith, search needs, grows-on (c .before .before .before .before .before .before .before .before .before .before .before .before .loop .inv .2) refl (omega arith) c-is (c .before .before .before .before .before .before .before .before .before .before .before .before .before .before .before .before .before .before .before .before .before .before .before .before .before .before .pre) least (c .before .before .set-byte .ensures))
 
 made-requires-3 : tie.Need-made-requires-3 Inv-loop μ-loop
 made-requires-3 c κs = search needs
@@ -97,8 +97,8 @@ returns-3 c =
 same-length : tie.Need-same-length Inv-loop μ-loop
 same-length c = search needs
 
-mark-requires : tie.Need-mark-requires Inv-loop μ-loop
-mark-requires c κs = search needs
+set-byte-requires : tie.Need-set-byte-requires Inv-loop μ-loop
+set-byte-requires c κs = search needs
 
 same-length-2 : tie.Need-same-length-2 Inv-loop μ-loop
 same-length-2 c = search needs
@@ -125,7 +125,7 @@ extend-spec =
     whole-requires
     lower-requires
     add-t
-    mark-requires
+    set-byte-requires
     loop-less
     loop-again
     made-requires-3

@@ -29,11 +29,11 @@ neighbour-at-requires c κs = search needs
 bare-label-requires : tie.Need-bare-label-requires Inv-loop μ-loop
 bare-label-requires c κs = search needs
 
-add-store : tie.Need-add-store Inv-loop μ-loop
-add-store c = let q = c .before .before .before .before .loop .inv .0 .0 in let k = c .before .before .before .before .before .before .before .before .before .before .pre in omega arith
+add-set-byte : tie.Need-add-set-byte Inv-loop μ-loop
+add-set-byte c = let q = c .before .before .before .before .loop .inv .0 .0 in let k = c .before .before .before .before .before .before .before .before .before .before .pre in omega arith
 
-store-requires : tie.Need-store-requires Inv-loop μ-loop
-store-requires c κs = search needs
+set-byte-requires : tie.Need-set-byte-requires Inv-loop μ-loop
+set-byte-requires c κs = search needs
 
 add-t : tie.Need-add-t Inv-loop μ-loop
 add-t c = search needs
@@ -45,7 +45,7 @@ loop-again : tie.Need-loop-again Inv-loop μ-loop
 loop-again c =
     let a = c .before .before .before .before .before .before .before .before .before .before .before .before .before .args in
     let size = c .before .before .before .before .before .before .before .before .size-of .ensures .0 ∙ sym (ring-size (a .starts .now) (a .sizes .now) (a .entries .now) (a .n) (a .u)) in
-    ((c .before .before .before .before .before .before .before .loop .inv .0 .0, search needs), adding-on (c .before .before .before .before .before .before .before .loop .inv .1) refl (omega arith) refl (c .before .before .before .before .bare-label .ensures ∙ ap (run.bareLabel (a .u)) (c .before .before .before .before .before .neighbour-at .ensures)) (c .before .before .store .ensures))
+    ((c .before .before .before .before .before .before .before .loop .inv .0 .0, search needs), adding-on (c .before .before .before .before .before .before .before .loop .inv .1) refl (omega arith) refl (c .before .before .before .before .bare-label .ensures ∙ ap (run.bareLabel (a .u)) (c .before .before .before .before .before .neighbour-at .ensures)) (c .before .before .set-byte .ensures))
 
 same-length : tie.Need-same-length Inv-loop μ-loop
 same-length c = c .before .loop .inv .0 .1
@@ -57,4 +57,4 @@ returns c =
     adding-end (c .before .loop .inv .1) (omega arith)
 
 pub bare-ring-spec : {M : Type 1} → statement M
-bare-ring-spec = tie.close (tie.spec Inv-loop μ-loop size-of-requires loop-holds neighbour-at-requires bare-label-requires add-store store-requires add-t loop-less loop-again same-length returns)
+bare-ring-spec = tie.close (tie.spec Inv-loop μ-loop size-of-requires loop-holds neighbour-at-requires bare-label-requires add-set-byte set-byte-requires add-t loop-less loop-again same-length returns)
