@@ -76,20 +76,20 @@ pub fn whole(a: &[usize], i: usize) -> usize
     if i < m { a[i] } else { 0 }
 }
 
-// Puts a byte at i; past the end there is nothing to put.
-pub fn set_byte(a: &mut [u8], i: usize, x: u8)
-    ensures { λ r. ⌜ now (a .exit) ≡ set (now (a .entry)) i x ⌝ }
+// Puts a byte at a place; past the end there is nothing to put.
+pub fn set_byte(a: &mut [u8], place: usize, x: u8)
+    ensures { λ r. ⌜ now (a .exit) ≡ set (now (a .entry)) place x ⌝ }
 {
-    if i < a.len() {
-        a[i] = x;
+    if place < a.len() {
+        a[place] = x;
     }
 }
 
-// Puts a number of two bytes at i; past the end there is nothing to put.
-pub fn set_word(a: &mut [u16], i: usize, x: u16)
-    ensures { λ r. ⌜ now (a .exit) ≡ set (now (a .entry)) i x ⌝ }
+// Puts a number of two bytes at a place; past the end there is nothing to put.
+pub fn set_word(a: &mut [u16], at: usize, x: u16)
+    ensures { λ r. ⌜ now (a .exit) ≡ set (now (a .entry)) at x ⌝ }
 {
-    if i < a.len() {
-        a[i] = x;
+    if at < a.len() {
+        a[at] = x;
     }
 }

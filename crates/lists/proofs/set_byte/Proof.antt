@@ -16,7 +16,7 @@ returns : tie.Need-returns
 returns c = search needs
 
 returns-2 : tie.Need-returns-2
-returns-2 c = sym (set-out (c .before .args .a .now) (c .before .args .i) (c .before .args .x) (omega arith))
+returns-2 c = sym (set-out (c .before .args .a .now) (c .before .args .place) (c .before .args .x) (omega arith))
 
 pub set-byte-spec : {M : Type 1} → statement M
 set-byte-spec = tie.close (tie.spec slice-write-a same-length returns returns-2)

@@ -19,7 +19,7 @@ returns : tie.Need-returns
 returns c = search needs
 
 returns-2 : tie.Need-returns-2
-returns-2 c = sym (set-out (c .before .args .a .now) (c .before .args .i) (c .before .args .x) (omega arith))
+returns-2 c = sym (set-out (c .before .args .a .now) (c .before .args .at) (c .before .args .x) (omega arith))
 
 pub set-word-spec : {M : Type 1} → statement M
 set-word-spec = tie.close (tie.spec mul-a slice-write-a same-length returns returns-2)
