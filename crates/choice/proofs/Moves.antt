@@ -9,8 +9,7 @@ use lib.Dec.{ltb}
 use borrow.Author.Tests.{eq-eqb, ne-eqb, lt-ltb, le-ltb}
 use Rattle.model.specs.Plan.{Plan, ring}
 use Rattle.lists.specs.Folds.{some}
-use Rattle.choice.specs.declared.Trail.{Trail}
-use Rattle.choice.specs.Run.{promising, beyond, knot, tangled, blocked, same}
+use Rattle.choice.specs.Run.{Trail, promising, beyond, knot, tangled, blocked, same}
 
 -- ---- may a context come before the list?
 -- the test of a context, by its ring

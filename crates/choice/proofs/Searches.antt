@@ -24,12 +24,11 @@ use Rattle.model.proofs.Eligible.{getD-mem, mem-getD, squeeze-mem, chordless-ap
 use Rattle.model.proofs.Choices.{Positions, chosen-taken, none-taken}
 use Rattle.lists.specs.Folds.{each}
 use Rattle.frontier.specs.declared.Line.{Line}
-use Rattle.choice.specs.declared.Trail.{Trail}
 use Rattle.choice.specs.declared.Found.the-variants.{At, Nothing}
 use Rattle.frontier.specs.Front.{Sane, Front}
 use Rattle.frontier.specs.Run.{line}
 use Rattle.pairs.specs.Run.{placed, fits}
-use Rattle.choice.specs.Run.{beyond, knot, tangled, blocked, same, promising, startTrail}
+use Rattle.choice.specs.Run.{Trail, beyond, knot, tangled, blocked, same, promising, startTrail}
 use Rattle.choice.specs.Search.{foundAs, Trails, Stops, bare, barred, Extends, Best}
 use Rattle.pairs.proofs.Dirt.{repeats-right, or-left, squeeze-before, clean-once}
 use Rattle.frontier.proofs.Lines.{getD-padded, getD-none}

@@ -13,9 +13,8 @@ use Rattle.lists.specs.Spans.{zeros}
 use Rattle.model.specs.Plan.{Plan, ring, adjacent}
 use Rattle.model.specs.Sweep.{below}
 use Rattle.model.proofs.Plans.{mem-adjacent}
-use Rattle.choice.specs.declared.Trail.{Trail}
 use Rattle.frontier.specs.Run.{depth, under}
-use Rattle.choice.specs.Run.{trail, startTrail, blocked}
+use Rattle.choice.specs.Run.{Trail, trail, startTrail, blocked}
 use Rattle.choice.specs.Search.{Lows, Trails, bare, barred, Extends}
 use Rattle.frontier.proofs.Lines.{getD-none}
 use Rattle.frontier.proofs.Under.{below-is, depth-le, back-suc}

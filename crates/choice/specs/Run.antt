@@ -7,11 +7,27 @@ use lib.Dec.{eqb, ltb}
 use Rattle.lists.specs.Folds.{some}
 use Rattle.lists.specs.Spans.{zeros}
 use Rattle.model.specs.Plan.{Plan, ring}
-use Rattle.choice.specs.declared.Trail.{Trail}
+use Rattle.choice.specs.declared.Lead.{Lead}
+
+-- a lead of these parts
+abbrev pub lead : Bool → Bool → ℕ → ℕ → Lead
+lead ok some first lo = record { ok = ok; some = some; first = first; lo = lo }
+
+-- what a search knows of the list so far: a lead, and a mark for each context of the list
+pub record Trail : Type 0 where
+  pub ok : Bool
+  pub some : Bool
+  pub first : ℕ
+  pub lo : ℕ
+  pub on : List ℕ
 
 -- a trail of these parts
 abbrev pub trail : Bool → Bool → ℕ → ℕ → List ℕ → Trail
 trail ok some first lo on = record { ok = ok; some = some; first = first; lo = lo; on = on }
+
+-- the trail of a lead and its marks
+abbrev pub trailOf : Lead → List ℕ → Trail
+trailOf l on = trail (l .ok) (l .some) (l .first) (l .lo) on
 
 -- the trail of no list
 unfoldable pub startTrail : ℕ → Trail

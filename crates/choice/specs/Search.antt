@@ -7,10 +7,9 @@ use lib.ListN.{getD}
 use Rattle.model.specs.Outcome.{Outcome, accepted, refused}
 use Rattle.model.specs.Plan.{Plan, adjacent}
 use Rattle.model.specs.Sweep.{State, below, eligible}
-use Rattle.choice.specs.declared.Trail.{Trail}
 use Rattle.choice.specs.declared.Found.{Found}
 use Rattle.choice.specs.declared.Found.the-variants.{At, Nothing}
-use Rattle.choice.specs.Run.{blocked}
+use Rattle.choice.specs.Run.{Trail, blocked}
 
 -- the pair that a step takes, or 14
 unfoldable pub foundAs : Found → Outcome (ℕ × ℕ)

@@ -1,7 +1,7 @@
 // The pair of positions that a step of the sweep takes: the largest j, then the largest i, that are eligible.
 ghost use mathlib.Core.Path.{_≡_};
 ghost use mathlib.Core.Logic.{_⊎_};
-ghost use mathlib.Core.Bool.{true};
+ghost use mathlib.Core.Bool.{true, false};
 ghost use mathlib.Core.List.{List};
 ghost use Prim.Native.Nat.{ℕ, suc, _+_, _-_, _<_, _≤_, _^_};
 ghost use lib.ListN.{getD, length};
@@ -12,15 +12,15 @@ ghost use Rattle.pairs.specs.Run.{placed};
 ghost use Rattle.choice.specs.Run as run;
 ghost use Rattle.frontier.specs.Front.{Sane, Front};
 ghost use Rattle.choice.specs.Search.{foundAs, Lows, Trails, Extends, Best};
+ghost use Rattle.choice.specs.Run.{trailOf};
 use frontier::Line;
 
-// What a search knows of the list so far: whether there is one, its first context, the lowest frontier position that lists some context of it, and a mark for each context of it. It is not ok where the list is good for no pair.
-struct Trail {
+// What a search knows of the list so far, beside a mark for each context of it: whether there is one, its first context, the lowest frontier position that lists some context of it. It is not ok where the list is good for no pair.
+struct Lead {
     pub ok: bool,
     pub some: bool,
     pub first: usize,
     pub lo: usize,
-    pub on: [u8; 256],
 }
 
 // The pair of positions that a step takes.
@@ -180,21 +180,21 @@ fn lower(lo: usize, x: usize) -> usize
     if x <= lo { x - 1 } else { lo }
 }
 
-// A trail of these parts.
-fn made(ok: bool, some: bool, first: usize, lo: usize, on: [u8; 256]) -> Trail
-    ensures { λ r. ⌜ r ≡ run.trail ok some first lo on ⌝ }
+// A lead of these parts.
+fn made(ok: bool, some: bool, first: usize, lo: usize) -> Lead
+    ensures { λ r. ⌜ r ≡ run.lead ok some first lo ⌝ }
 {
-    Trail {
+    Lead {
         ok,
         some,
         first,
         lo,
-        on,
     }
 }
 
-// The trail of the list with what is below position k put before it.
+// The lead of the list with what is below position k put before it; each context that is put is marked.
 fn extend<'a>(
+    on: &mut [u8],
     starts: &'a [u16],
     sizes: &'a [u8],
     entries: &'a [u16],
@@ -204,20 +204,19 @@ fn extend<'a>(
     seen: &'a [u8],
     place: &'a [usize],
     low: &'a [usize],
-    trail: Trail,
+    lead: Lead,
     k: usize,
     j: usize,
-) -> Trail
+) -> Lead
     requires { ⌜ Lows (rows (now starts) (now sizes) (now entries) n) (now f) m (now low) ⌝ }
-    ensures { λ r. ⌜ Extends (rows (now (starts .entry)) (now (sizes .entry)) (now (entries .entry)) n) (now (f .entry)) m (now (seen .entry)) (now (place .entry)) j k trail r ⌝ }
+    ensures { λ r. ⌜ Extends (rows (now (starts .entry)) (now (sizes .entry)) (now (entries .entry)) n) (now (f .entry)) m (now (seen .entry)) (now (place .entry)) j k (trailOf lead (now (on .entry))) (trailOf r (now (on .exit))) ⌝ }
 {
-    let mut on = trail.on;
-    let mut some = trail.some;
-    let mut first = trail.first;
-    let mut lo = trail.lo;
+    let mut some = lead.some;
+    let mut first = lead.first;
+    let mut lo = lead.lo;
     let q = frontier::below::depth(starts, sizes, entries, n, f, k);
     if q == 0 {
-        return made(false, some, first, lo, on);
+        return made(false, some, first, lo);
     }
     let u = lists::num(f, k);
     let x = frontier::below::turn_of(starts, sizes, entries, n, f, k);
@@ -230,7 +229,7 @@ fn extend<'a>(
             sizes,
             entries,
             n,
-            &on,
+            on,
             seen,
             place,
             some,
@@ -239,30 +238,22 @@ fn extend<'a>(
             fj,
             j,
         ) {
-            return made(false, some, first, lo, on);
+            return made(false, some, first, lo);
         }
         some = true;
         first = c;
         lo = lower(lo, lists::whole(low, c));
         t += 1;
-        if c < 256 {
-            on[c] = 1;
-        }
+        lists::set_byte(on, c, 1);
     }
-    made(true, some, first, lo, on)
+    made(true, some, first, lo)
 }
 
-// A trail of no list, in a frontier of m contexts.
-fn start(m: usize) -> Trail
-    ensures { λ r. ⌜ r ≡ run.startTrail m ⌝ }
+// The lead of no list, in a frontier of m contexts.
+fn start(m: usize) -> Lead
+    ensures { λ r. ⌜ r ≡ run.lead true false 0 m ⌝ }
 {
-    Trail {
-        ok: true,
-        some: false,
-        first: 0,
-        lo: m,
-        on: [0u8; 256],
-    }
+    made(true, false, 0, m)
 }
 
 // May the pair of positions k - 1 and j be eligible? No position before k - 1 lists a context of the list, and position k - 1 lists neither the context at j nor one of the list but the first.
@@ -272,15 +263,15 @@ fn promising<'a>(
     entries: &'a [u16],
     n: usize,
     f: &'a [u16],
-    trail: Trail,
+    on: &'a [u8],
+    lead: Lead,
     k: usize,
     j: usize,
 ) -> bool
-    ensures { λ r. ⌜ r ≡ run.promising (rows (now (starts .entry)) (now (sizes .entry)) (now (entries .entry)) n) (now (f .entry)) trail k j ⌝ }
+    ensures { λ r. ⌜ r ≡ run.promising (rows (now (starts .entry)) (now (sizes .entry)) (now (entries .entry)) n) (now (f .entry)) (trailOf lead (now (on .entry))) k j ⌝ }
 {
     let i = lists::minus(k, 1);
-    let on = trail.on;
-    if i > trail.lo {
+    if i > lead.lo {
         return false;
     }
     !tangled(
@@ -288,9 +279,9 @@ fn promising<'a>(
         sizes,
         entries,
         n,
-        &on,
+        on,
         lists::num(f, i),
-        trail.first,
+        lead.first,
         lists::num(f, j),
     )
 }
@@ -313,10 +304,12 @@ fn search<'a>(
     requires { ⌜ j < m ⌝ }
     ensures { λ r. ⌜ (Sane (rows (now (starts .entry)) (now (sizes .entry)) (now (entries .entry)) n) → (s : State) → Front s (line true m (now (f .entry)) marks) → Best (rows (now (starts .entry)) (now (sizes .entry)) (now (entries .entry)) n) s j r) ⌝ }
 {
-    let mut trail = start(m);
+    let mut on = [0u8; 256];
+    let mut lead = start(m);
     let mut k = j;
     while k > 1 {
         let t = extend(
+            &mut on,
             starts,
             sizes,
             entries,
@@ -326,16 +319,16 @@ fn search<'a>(
             &marks,
             place,
             low,
-            trail,
+            lead,
             k - 1,
             j,
         );
         if !t.ok {
             return 0;
         }
-        trail = t;
+        lead = t;
         k -= 1;
-        if promising(starts, sizes, entries, n, f, t, k, j) {
+        if promising(starts, sizes, entries, n, f, &on, t, k, j) {
             if pairs::chords::fits(starts, sizes, entries, n, f, m, marks, k - 1, j) {
                 return k;
             }

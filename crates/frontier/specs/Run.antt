@@ -9,11 +9,16 @@ use Rattle.lists.specs.Parts.{indexOf}
 use Rattle.lists.specs.Spans.{zeros}
 use Rattle.model.specs.Plan.{Plan, ring, onward}
 use Rattle.frontier.specs.declared.Line.{Line}
+use Rattle.frontier.specs.declared.Tally.{Tally}
 
 -- ---- lines
 -- a line of these parts
 abbrev pub line : Bool → ℕ → List ℕ → List ℕ → Line
 line ok len at marks = record { ok = ok; len = len; at = at; marks = marks }
+
+-- the line of a tally and the arrays
+abbrev pub lineOf : Tally → List ℕ → List ℕ → Line
+lineOf t at marks = line (t .ok) (t .len) at marks
 
 -- the line with x at its end; it fails where it is full
 unfoldable pub pushed : Line → ℕ → Line

@@ -1,7 +1,8 @@
 // The frontier of the sweep in flat arrays: the line that holds it, the first frontier, and what is below it.
 ghost use mathlib.Core.Path.{_≡_};
-ghost use Prim.Native.Nat.{_-_, _<_, _^_};
-ghost use lib.ListN.{getD, set};
+ghost use mathlib.Core.List.{List};
+ghost use Prim.Native.Nat.{ℕ, _-_, _<_, _^_};
+ghost use lib.ListN.{getD};
 ghost use Rattle.model.specs.Plan.{ring};
 ghost use Rattle.rings.specs.Tables.{rows};
 ghost use Rattle.frontier.specs.Run as run;
@@ -17,60 +18,26 @@ pub struct Line {
     pub marks: [u8; 256],
 }
 
-// The contexts with x at place i; as they are where i is past the last.
-fn put_at(mut a: [u16; 512], i: usize, x: u16) -> [u16; 512]
-    ensures { λ r. ⌜ r ≡ set a i x ⌝ }
-{
-    if i >= 512 {
-        return a;
-    }
-    a[i] = x;
-    a
+// A line whose arrays are lent: whether it is ok, and how many contexts it has.
+pub struct Tally {
+    pub ok: bool,
+    pub len: usize,
 }
 
-// The marks with x at place i; as they are where i is past the last.
-pub fn put_mark(mut a: [u8; 256], i: usize, x: u8) -> [u8; 256]
-    ensures { λ r. ⌜ r ≡ set a i x ⌝ }
+// The line with x at its end, its contexts in the array `at`; it fails where the 512 places are full.
+pub fn push(at: &mut [u16], line: Tally, x: u16) -> Tally
+    ensures { λ r. ⌜ ((marks : List ℕ) → run.lineOf r (now (at .exit)) marks ≡ run.pushed (run.lineOf line (now (at .entry)) marks) x) ⌝ }
 {
-    if i >= 256 {
-        return a;
-    }
-    a[i] = x;
-    a
-}
-
-// A line with nothing on it, and these marks.
-pub fn fresh(marks: [u8; 256]) -> Line
-    ensures { λ r. ⌜ r ≡ run.fresh marks ⌝ }
-{
-    Line {
-        ok: true,
-        len: 0,
-        at: [0u16; 512],
-        marks,
-    }
-}
-
-// The line with x at its end; it fails where it is full.
-pub fn push(v: Line, x: u16) -> Line
-    ensures { λ r. ⌜ r ≡ run.pushed v x ⌝ }
-{
-    let at = v.at;
-    let marks = v.marks;
-    if v.len < 512 {
-        let b = put_at(at, v.len, x);
-        return Line {
-            ok: v.ok,
-            len: v.len + 1,
-            at: b,
-            marks,
+    if line.len < 512 {
+        lists::set_word(at, line.len, x);
+        return Tally {
+            ok: line.ok,
+            len: line.len + 1,
         };
     }
-    Line {
+    Tally {
         ok: false,
-        len: v.len,
-        at,
-        marks,
+        len: line.len,
     }
 }
 

@@ -1,7 +1,7 @@
 // Lists: total accessors of lent arrays, where what lies outside reads as 0. The words and laws of lists that every other crate uses are in specs/ and proofs/.
 ghost use mathlib.Core.Path.{_≡_};
 ghost use Prim.Native.Nat.{_+_, _-_, _*_, _<_, _^_, min};
-ghost use lib.ListN.{getD};
+ghost use lib.ListN.{getD, set};
 
 // A byte as a number.
 pub fn wide_byte(x: u8) -> usize
@@ -74,4 +74,22 @@ pub fn whole(a: &[usize], i: usize) -> usize
 {
     let m = a.len();
     if i < m { a[i] } else { 0 }
+}
+
+// Puts a byte at a place; past the end there is nothing to put.
+pub fn set_byte(a: &mut [u8], place: usize, x: u8)
+    ensures { λ r. ⌜ now (a .exit) ≡ set (now (a .entry)) place x ⌝ }
+{
+    if place < a.len() {
+        a[place] = x;
+    }
+}
+
+// Puts a number of two bytes at a place; past the end there is nothing to put.
+pub fn set_word(a: &mut [u16], at: usize, x: u16)
+    ensures { λ r. ⌜ now (a .exit) ≡ set (now (a .entry)) at x ⌝ }
+{
+    if at < a.len() {
+        a[at] = x;
+    }
 }

@@ -31,7 +31,7 @@ ends-getD (a ∷ b ∷ l) c =
     rw (z, ne-eqb (suc (suc (length l))) 0 (λ h. omega arith)) (sym (rw (y, ne-eqb (suc (length l)) 0 (λ h. omega arith))) ∙ ends-getD (b ∷ l) c)
 
 -- the test of the last entry is that of the list
-last-ends : (v : Line) (l : List ℕ) (c : ℕ) → Rep v l → lastIs v c ≡ endsIn l c
+last-ends : (v : Line) (l : List ℕ) (c : ℕ) → Rep v l → lastIs (v .at) (v .len) c ≡ endsIn l c
 unfolding lastIs
 last-ends v l c r = (λ i. cond (eqb (r .len i) 0) false (eqb c (getD (r .at i) (r .len i - 1) 0))) ∙ ap (λ (x : ℕ). cond (eqb (length l) 0) false (eqb c x)) (getD-padded 512 l (length l - 1)) ∙ ends-getD l c
 
@@ -47,7 +47,7 @@ abbrev pub Comes : List ℕ → Line → List ℕ → Type 0
 Comes seen v l = Good seen v l ⊎ ((v .ok ≡ false) × (dirty seen l ≡ true))
 
 -- a context is barred where it is a border context, on the list, or was on the frontier
-barred-is : (seen : List ℕ) (v : Line) (l : List ℕ) (c : ℕ) → c < 200 → Good seen v l → barred v c ≡ (border c || (member c l || member c seen))
+barred-is : (seen : List ℕ) (v : Line) (l : List ℕ) (c : ℕ) → c < 200 → Good seen v l → barred (v .marks) c ≡ (border c || (member c l || member c seen))
 unfolding barred
 barred-is seen v l c h g =
     ap (λ (t : Bool). cond (ltb c 4) true (not t)) (g .marks .mark c (omega arith))
@@ -91,7 +91,7 @@ module _ (seen : List ℕ) (v : Line) (l : List ℕ) (c : ℕ) (h : c < 200) (g 
   -- what one context comes to
   pub add-comes : Comes seen (added v c) (joined l c)
   unfolding added joined failed
-  add-comes = subst (λ (t : Bool). Comes seen (cond t v (cond (barred v c) (failed v) (noted (pushed v c) c))) (joined l c)) (sym (last-ends v l c (g .rep))) (subst (λ (t : Bool). Comes seen (cond (endsIn l c) v (cond t (failed v) (noted (pushed v c) c))) (joined l c)) (sym (barred-is seen v l c h g)) (go (endsIn l c) (border c) refl (member c l || member c seen) refl))
+  add-comes = subst (λ (t : Bool). Comes seen (cond t v (cond (barred (v .marks) c) (failed v) (noted (pushed v c) c))) (joined l c)) (sym (last-ends v l c (g .rep))) (subst (λ (t : Bool). Comes seen (cond (endsIn l c) v (cond t (failed v) (noted (pushed v c) c))) (joined l c)) (sym (barred-is seen v l c h g)) (go (endsIn l c) (border c) refl (member c l || member c seen) refl))
     where
       go : (t b : Bool) → border c ≡ b → (m : Bool) → (member c l || member c seen) ≡ m
           → Comes seen (cond t v (cond (b || m) (line false (v .len) (v .at) (v .marks)) (noted (pushed v c) c))) (cond t l (l ++ (c ∷ [])))
@@ -118,7 +118,7 @@ pushed-off v c e = go (ltb (v .len) 512)
 -- and when a context is added
 added-off : (v : Line) (c : ℕ) → v .ok ≡ false → (added v c) .ok ≡ false
 unfolding added failed noted
-added-off v c e = go (lastIs v c) (barred v c)
+added-off v c e = go (lastIs (v .at) (v .len) c) (barred (v .marks) c)
   where
     go : (s t : Bool) → (cond s v (cond t (line false (v .len) (v .at) (v .marks)) (line (pushed v c .ok) (pushed v c .len) (pushed v c .at) (set (pushed v c .marks) c 1)))) .ok ≡ false
     go true t = e

@@ -1,6 +1,6 @@
 -- What the code computes, step by step: lists, lines, chords, the test of a pair.
 use Prim.Native.Nat.{ℕ, suc, _+_, _-_, _≤_, _<_}
-use mathlib.Core.Path.{_≡_, ap, sym, _∙_}
+use mathlib.Core.Path.{_≡_, refl, ap, sym, _∙_}
 use mathlib.Core.List.{List}
 use mathlib.Core.Bool.{Bool, true, false, cond}
 use native.Mathlib.Omega.{arith}
@@ -11,7 +11,7 @@ use Rattle.model.specs.Plan.{Plan, ring}
 use Rattle.lists.specs.Folds.{some}
 use Rattle.frontier.specs.declared.Line.{Line}
 use Rattle.frontier.specs.Run.{line, pushed}
-use Rattle.pairs.specs.Run.{backAdded, belowAdded, listing, replaced, chordAt, sound, fits}
+use Rattle.pairs.specs.Run.{noted, backAdded, belowAdded, listing, replaced, chordAt, sound, fits}
 
 -- ---- lists and lines
 -- a list that is whole takes what is below
@@ -24,17 +24,16 @@ pub below-off : (p : Plan) (f : List ℕ) (k : ℕ) (v : Line) → v .ok ≡ fal
 unfolding belowAdded
 below-off p f k v o = sym (ap (λ (b : Bool). cond b (backAdded p f k v) v) o)
 
--- there is room
-pub append-in : (ok : Bool) (len x y : ℕ) (at : List ℕ) {marks : List ℕ} {ok′ : Bool} {len′ : ℕ} {at′ : List ℕ} → len < 512 → at′ ≡ set at len y → y ≡ x → len′ ≡ len + 1 → ok′ ≡ ok
-    → line ok′ len′ at′ marks ≡ pushed (line ok len at marks) x
-unfolding pushed
-append-in ok len x y at h a q l o = rw (lt-ltb len 512 h, a, q, l, o)
-
--- the line is full
-pub append-out : (ok : Bool) (len x : ℕ) (at : List ℕ) {marks : List ℕ} {ok′ : Bool} {len′ : ℕ} {at′ : List ℕ} → 512 ≤ len → at′ ≡ at → len′ ≡ len → ok′ ≡ false
-    → line ok′ len′ at′ marks ≡ pushed (line ok len at marks) x
-unfolding pushed
-append-out ok len x at h a l o = rw (le-ltb len 512 h, a, l, o)
+-- a context marked before it is put at the end of a line, or after
+pub push-noted : (v : Line) (c : ℕ) → noted (pushed v c) c ≡ pushed (line (v .ok) (v .len) (v .at) (set (v .marks) c 1)) c
+unfolding noted pushed
+push-noted v c = go (ltb (v .len) 512)
+  where
+    go : (t : Bool)
+        → noted (cond t (line (v .ok) (v .len + 1) (set (v .at) (v .len) c) (v .marks)) (line false (v .len) (v .at) (v .marks))) c
+        ≡ cond t (line (v .ok) (v .len + 1) (set (v .at) (v .len) c) (set (v .marks) c 1)) (line false (v .len) (v .at) (set (v .marks) c 1))
+    go true = refl
+    go false = refl
 
 -- ---- chords
 -- the test of a position, by its ring

@@ -8,6 +8,7 @@ use Rattle.lists.specs.Folds.{through, down, some}
 use Rattle.lists.specs.Spans.{zeros}
 use Rattle.model.specs.Plan.{Plan, ring}
 use Rattle.frontier.specs.declared.Line.{Line}
+use Rattle.frontier.specs.declared.Tally.{Tally}
 use Rattle.frontier.specs.Run.{line, depth, under, pushed, fresh}
 
 -- ---- lists
@@ -15,13 +16,17 @@ use Rattle.frontier.specs.Run.{line, depth, under, pushed, fresh}
 unfoldable pub failed : Line → Line
 failed v = line false (v .len) (v .at) (v .marks)
 
--- c is the last of the line
-unfoldable pub lastIs : Line → ℕ → Bool
-lastIs v c = cond (eqb (v .len) 0) false (eqb c (getD (v .at) (v .len - 1) 0))
+-- its tally
+abbrev pub lost : Tally → Tally
+lost t = record { ok = false; len = t .len }
+
+-- c is the last of the first len contexts
+unfoldable pub lastIs : List ℕ → ℕ → ℕ → Bool
+lastIs at len c = cond (eqb len 0) false (eqb c (getD at (len - 1) 0))
 
 -- c is a border context, or is or was on the frontier, or is on the list
-unfoldable pub barred : Line → ℕ → Bool
-barred v c = cond (ltb c 4) true (not (eqb (getD (v .marks) c 0) 0))
+unfoldable pub barred : List ℕ → ℕ → Bool
+barred marks c = cond (ltb c 4) true (not (eqb (getD marks c 0) 0))
 
 -- the line with c marked
 unfoldable pub noted : Line → ℕ → Line
@@ -29,7 +34,7 @@ noted v c = line (v .ok) (v .len) (v .at) (set (v .marks) c 1)
 
 -- the list with c at its end, unless it stands there; it fails where c may not be on the list
 unfoldable pub added : Line → ℕ → Line
-added v c = cond (lastIs v c) v (cond (barred v c) (failed v) (noted (pushed v c) c))
+added v c = cond (lastIs (v .at) (v .len) c) v (cond (barred (v .marks) c) (failed v) (noted (pushed v c) c))
 
 -- the list with what is below position k, the last of the ring first; it fails where nothing is
 unfoldable pub backAdded : Plan → List ℕ → ℕ → Line → Line

@@ -1,98 +1,85 @@
 // The list of a pair of positions, and the frontier with that list in place.
 ghost use mathlib.Core.Path.{_≡_};
+ghost use mathlib.Core.List.{List};
 ghost use Prim.Native.Nat.{ℕ, suc, _+_, _-_, _<_, _^_};
 ghost use Rattle.rings.specs.Tables.{rows};
+ghost use Rattle.frontier.specs.Run.{lineOf};
 ghost use Rattle.pairs.specs.Run as run;
 use frontier::Line;
+use frontier::Tally;
 
-// A line that failed.
-fn failed(v: Line) -> Line
-    ensures { λ r. ⌜ r ≡ run.failed v ⌝ }
+// Is c the last of the first len contexts?
+fn last_is(at: &[u16], len: usize, c: u16) -> bool
+    ensures { λ r. ⌜ r ≡ run.lastIs (now (at .entry)) len c ⌝ }
 {
-    let at = v.at;
-    let marks = v.marks;
-    Line {
-        ok: false,
-        len: v.len,
-        at,
-        marks,
-    }
-}
-
-// Is c the last of the line?
-fn last_is(v: Line, c: u16) -> bool
-    ensures { λ r. ⌜ r ≡ run.lastIs v c ⌝ }
-{
-    let at = v.at;
-    if v.len == 0 {
+    if len == 0 {
         false
     } else {
-        c == lists::word(&at, v.len - 1)
+        c == lists::word(at, len - 1)
     }
 }
 
-// Is c a border context, or one that is or was on the frontier or is on the list?
-fn barred(v: Line, c: u16) -> bool
-    ensures { λ r. ⌜ r ≡ run.barred v c ⌝ }
+// Is c a border context, or one that is marked: it is or was on the frontier or is on the list?
+fn barred(marks: &[u8], c: u16) -> bool
+    ensures { λ r. ⌜ r ≡ run.barred (now (marks .entry)) c ⌝ }
 {
-    let marks = v.marks;
     if c < 4 {
         true
     } else {
-        lists::byte(&marks, lists::wide_word(c)) != 0
+        lists::byte(marks, lists::wide_word(c)) != 0
     }
 }
 
-// The line with c marked.
-fn noted(v: Line, c: u16) -> Line
-    ensures { λ r. ⌜ r ≡ run.noted v c ⌝ }
+// A list that failed.
+fn failed(list: Tally) -> Tally
+    ensures { λ r. ⌜ r ≡ run.lost list ⌝ }
 {
-    let at = v.at;
-    let old = v.marks;
-    let marks = frontier::put_mark(old, lists::wide_word(c), 1);
-    Line {
-        ok: v.ok,
-        len: v.len,
-        at,
-        marks,
+    Tally {
+        ok: false,
+        len: list.len,
     }
 }
 
-// The list with c at its end, unless it stands there; it fails where c may not be on the list.
-fn add(v: Line, c: u16) -> Line
-    ensures { λ r. ⌜ r ≡ run.added v c ⌝ }
+// The list with c at its end, marked, unless it stands there; it fails where c may not be on the list.
+fn add(at: &mut [u16], marks: &mut [u8], list: Tally, c: u16) -> Tally
+    ensures { λ r. ⌜ lineOf r (now (at .exit)) (now (marks .exit)) ≡ run.added (lineOf list (now (at .entry)) (now (marks .entry))) c ⌝ }
 {
-    if last_is(v, c) {
-        return v;
+    if last_is(at, list.len, c) {
+        return list;
     }
-    if barred(v, c) {
-        return failed(v);
+    if barred(marks, c) {
+        return failed(list);
     }
-    noted(frontier::push(v, c), c)
+    lists::set_byte(marks, lists::wide_word(c), 1);
+    frontier::push(at, list, c)
 }
 
 // The list with what is below position k; it fails where nothing is.
 fn add_back<'a>(
+    at: &mut [u16],
+    marks: &mut [u8],
     starts: &'a [u16],
     sizes: &'a [u8],
     entries: &'a [u16],
     n: usize,
     f: &'a [u16],
     k: usize,
-    v: Line,
-) -> Line
-    ensures { λ r. ⌜ r ≡ run.backAdded (rows (now (starts .entry)) (now (sizes .entry)) (now (entries .entry)) n) (now (f .entry)) k v ⌝ }
+    list: Tally,
+) -> Tally
+    ensures { λ r. ⌜ lineOf r (now (at .exit)) (now (marks .exit)) ≡ run.backAdded (rows (now (starts .entry)) (now (sizes .entry)) (now (entries .entry)) n) (now (f .entry)) k (lineOf list (now (at .entry)) (now (marks .entry))) ⌝ }
 {
     let q = frontier::below::depth(starts, sizes, entries, n, f, k);
     if q == 0 {
-        return failed(v);
+        return failed(list);
     }
     let u = lists::num(f, k);
     let x = frontier::below::turn_of(starts, sizes, entries, n, f, k);
-    let mut w = v;
+    let mut w = list;
     let mut t = q;
     while t > 0 {
         w = add(
+            at,
+            marks,
             w,
             frontier::onward_at(starts, sizes, entries, n, u, x, t - 1),
         );
@@ -103,20 +90,22 @@ fn add_back<'a>(
 
 // The same, unless the list failed before.
 fn add_below<'a>(
+    at: &mut [u16],
+    marks: &mut [u8],
     starts: &'a [u16],
     sizes: &'a [u8],
     entries: &'a [u16],
     n: usize,
     f: &'a [u16],
     k: usize,
-    v: Line,
-) -> Line
-    ensures { λ r. ⌜ r ≡ run.belowAdded (rows (now (starts .entry)) (now (sizes .entry)) (now (entries .entry)) n) (now (f .entry)) k v ⌝ }
+    list: Tally,
+) -> Tally
+    ensures { λ r. ⌜ lineOf r (now (at .exit)) (now (marks .exit)) ≡ run.belowAdded (rows (now (starts .entry)) (now (sizes .entry)) (now (entries .entry)) n) (now (f .entry)) k (lineOf list (now (at .entry)) (now (marks .entry))) ⌝ }
 {
-    if v.ok {
-        return add_back(starts, sizes, entries, n, f, k, v);
+    if list.ok {
+        return add_back(at, marks, starts, sizes, entries, n, f, k, list);
     }
-    v
+    list
 }
 
 // The list of what is below positions a to j - 1.
@@ -132,34 +121,33 @@ pub fn listed<'a>(
 ) -> Line
     ensures { λ r. ⌜ r ≡ run.listing (rows (now (starts .entry)) (now (sizes .entry)) (now (entries .entry)) n) (now (f .entry)) marks a j ⌝ }
 {
-    let mut v = frontier::fresh(marks);
+    let mut at = [0u16; 512];
+    let mut on = marks;
+    let mut list = Tally { ok: true, len: 0 };
     let mut k = a;
     while k < j {
-        v = add_below(starts, sizes, entries, n, f, k, v);
+        list = add_below(&mut at, &mut on, starts, sizes, entries, n, f, k, list);
         k += 1;
     }
-    v
+    Line {
+        ok: list.ok,
+        len: list.len,
+        at,
+        marks: on,
+    }
 }
 
 // The line with positions a to e - 1 of f at its end.
-fn append(v: Line, f: &[u16], a: usize, e: usize) -> Line
-    ensures { λ r. ⌜ r ≡ run.appended v (now (f .entry)) a e ⌝ }
+fn append(at: &mut [u16], line: Tally, f: &[u16], a: usize, e: usize) -> Tally
+    ensures { λ r. ⌜ ((marks : List ℕ) → lineOf r (now (at .exit)) marks ≡ run.appended (lineOf line (now (at .entry)) marks) (now (f .entry)) a e) ⌝ }
 {
-    let marks = v.marks;
-    let mut at = v.at;
-    let mut len = v.len;
-    let mut ok = v.ok;
+    let mut v = line;
     let mut k = a;
     while k < e {
-        if len < 512 {
-            at[len] = lists::word(f, k);
-            len += 1;
-        } else {
-            ok = false;
-        }
+        v = frontier::push(at, v, lists::word(f, k));
         k += 1;
     }
-    Line { ok, len, at, marks }
+    v
 }
 
 // The frontier of m contexts with the list g put in place of positions a to j - 1.
@@ -168,7 +156,14 @@ pub fn replaced(f: &[u16], m: usize, a: usize, j: usize, g: Line) -> Line
 {
     let l = g.at;
     let marks = g.marks;
-    let v = append(frontier::fresh(marks), f, 0, a);
-    let w = append(v, &l, 0, g.len);
-    append(w, f, j, m)
+    let mut at = [0u16; 512];
+    let left = append(&mut at, Tally { ok: true, len: 0 }, f, 0, a);
+    let middle = append(&mut at, left, &l, 0, g.len);
+    let whole = append(&mut at, middle, f, j, m);
+    Line {
+        ok: whole.ok,
+        len: whole.len,
+        at,
+        marks,
+    }
 }

@@ -11,7 +11,7 @@ use Rattle.lists.specs.Spans.{stretch, span, zeros, padded}
 use Rattle.lists.proofs.Concats.{concat-append}
 use Rattle.lists.proofs.Places.{index-below}
 use Rattle.lists.proofs.Spans.{span-more, span-end}
-use Rattle.model.proofs.LabelCounts.{put-long}
+use Rattle.model.proofs.LabelCounts.{put-long, edges-long}
 use Rattle.model.specs.Plan.{Plan, Dart, count, neighbour, entries, ring, adjacent, entryCount}
 use Rattle.model.specs.Labels.{start, put, turned}
 use Rattle.model.specs.Sweep.{labelEdges, product}
@@ -59,6 +59,10 @@ module _ {p : Plan} {l : ℕ} {ds₀ : List Dart} {ls₀ : List ℕ} {ds : List 
   -- several edges
   pub draws-part : (es : List Dart) {ds′ : List Dart} {ls′ : List ℕ} → ds ≡ es ++ ds′ → ls′ ≡ labelEdges p l es ls → Draws p l ds₀ ls₀ ds′ ls′
   draws-part es {ds′} e q = record { same = inv .same ∙ ap (λ (d : List Dart). labelEdges p l d ls) e ∙ edges-append p l es ds′ ls ∙ ap (labelEdges p l ds′) (sym q) }
+
+  -- there are as many labels as before
+  pub draws-size : length ls ≡ length ls₀
+  draws-size = sym (edges-long p l ds ls) ∙ sym (ap length (inv .same)) ∙ edges-long p l ds₀ ls₀
 
   -- after the loop
   pub draws-end : ds ≡ [] → ls ≡ labelEdges p l ds₀ ls₀

@@ -20,29 +20,26 @@ fn bare_label(u: usize, v: usize) -> u8
     5
 }
 
-// The labels with those of u's ring put at k and after.
+// Puts the labels of u's ring at k and after.
 fn bare_ring<'a>(
+    labels: &mut [u8],
     starts: &'a [u16],
     sizes: &'a [u8],
     entries: &'a [u16],
     n: usize,
-    labels: [u8; 1186],
     k: usize,
     u: usize,
-) -> [u8; 1186]
+)
     requires { ⌜ k ≤ 1186 ⌝ }
-    ensures { λ r. ⌜ run.Adds (rows (now (starts .entry)) (now (sizes .entry)) (now (entries .entry)) n) k u labels r ⌝ }
+    ensures { λ r. ⌜ run.Adds (rows (now (starts .entry)) (now (sizes .entry)) (now (entries .entry)) n) k u (now (labels .entry)) (now (labels .exit)) ⌝ }
 {
     let q = rings::size_of(sizes, n, u);
-    let mut b = labels;
     let mut t = 0;
     while t < q {
         let l = bare_label(u, rings::neighbour_at(starts, sizes, entries, n, u, t));
-        let d = crate::mark::store(b, k + t, l);
-        b = d;
+        lists::set_byte(labels, k + t, l);
         t += 1;
     }
-    b
 }
 
 // The labels before the sweep.
@@ -59,8 +56,7 @@ pub(crate) fn bare_labels<'a>(
     let mut k = 0;
     let mut u = 0;
     while u < n {
-        let d = bare_ring(starts, sizes, entries, n, b, k, u);
-        b = d;
+        bare_ring(&mut b, starts, sizes, entries, n, k, u);
         k += rings::size_of(sizes, n, u);
         u += 1;
     }

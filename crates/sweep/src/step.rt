@@ -17,108 +17,65 @@ use crate::Ended;
 use choice::Found;
 use frontier::Line;
 
-// The labels of a step that puts the list g in place of positions i + 1 to j - 1.
+// Puts the labels of a step that puts the list g in place of positions i + 1 to j - 1 of the frontier f.
 fn step_labels<'a>(
+    labels: &mut [u8],
     starts: &'a [u16],
     sizes: &'a [u8],
     entries: &'a [u16],
     n: usize,
-    labels: [u8; 1186],
-    v: Line,
+    f: &'a [u16],
     g: Line,
     i: usize,
     j: usize,
-) -> [u8; 1186]
+)
     requires { ⌜ now starts ≡ startsOf (now sizes) ⌝ }
     requires { ⌜ n ≤ 200 ⌝ }
     requires { ⌜ i < 512 ⌝ }
     requires { ⌜ j < 512 ⌝ }
-    ensures { λ r. ⌜ r ≡ run.stepLabels (rows (now (starts .entry)) (now (sizes .entry)) (now (entries .entry)) n) (v .at) g i j labels ⌝ }
+    ensures { λ r. ⌜ now (labels .exit) ≡ run.stepLabels (rows (now (starts .entry)) (now (sizes .entry)) (now (entries .entry)) n) (now (f .entry)) g i j (now (labels .entry)) ⌝ }
 {
-    let f = v.at;
     let l = g.at;
-    let b = crate::mark::from_all(starts, sizes, entries, n, labels, &l, g.len, &f, i + 1, j);
-    crate::mark::along(starts, sizes, entries, n, b, &f, i, j + 1)
+    crate::mark::from_all(labels, starts, sizes, entries, n, &l, g.len, f, i + 1, j);
+    crate::mark::along(labels, starts, sizes, entries, n, f, i, j + 1);
 }
 
-// The labels of a finished sweep: up from South, right along the frontier.
+// Puts the labels of a sweep finished with the frontier f of m contexts: up from South, right along the frontier.
 fn finish_labels<'a>(
+    labels: &mut [u8],
     starts: &'a [u16],
     sizes: &'a [u8],
     entries: &'a [u16],
     n: usize,
-    labels: [u8; 1186],
-    v: Line,
-) -> [u8; 1186]
+    f: &'a [u16],
+    m: usize,
+)
     requires { ⌜ now starts ≡ startsOf (now sizes) ⌝ }
     requires { ⌜ n ≤ 200 ⌝ }
-    ensures { λ r. ⌜ r ≡ run.finishLabels (rows (now (starts .entry)) (now (sizes .entry)) (now (entries .entry)) n) (v .at) (v .len) labels ⌝ }
+    ensures { λ r. ⌜ now (labels .exit) ≡ run.finishLabels (rows (now (starts .entry)) (now (sizes .entry)) (now (entries .entry)) n) (now (f .entry)) m (now (labels .entry)) ⌝ }
 {
-    let f = v.at;
-    let b = crate::mark::from_one(
-        starts,
-        sizes,
-        entries,
-        n,
-        labels,
-        2,
-        &f,
-        1,
-        lists::minus(v.len, 1),
-    );
-    crate::mark::along(starts, sizes, entries, n, b, &f, 0, v.len)
+    let last = lists::minus(m, 1);
+    crate::mark::from_one(labels, starts, sizes, entries, n, 2, f, 1, last);
+    crate::mark::along(labels, starts, sizes, entries, n, f, 0, m);
 }
 
-// Is the sweep of the frontier v unfinished?
-fn goes_on<'a>(starts: &'a [u16], sizes: &'a [u8], entries: &'a [u16], n: usize, v: Line) -> bool
-    ensures { λ r. ⌜ r ≡ unfinished (rows (now (starts .entry)) (now (sizes .entry)) (now (entries .entry)) n) (v .at) (v .len) ⌝ }
-{
-    let f = v.at;
-    frontier::below::is_unfinished(starts, sizes, entries, n, &f, v.len)
-}
-
-// The list of what is below positions i + 1 to j - 1 of the frontier v.
-fn list_of<'a>(
-    starts: &'a [u16],
-    sizes: &'a [u8],
-    entries: &'a [u16],
-    n: usize,
-    v: Line,
-    i: usize,
-    j: usize,
-) -> Line
-    requires { ⌜ i < 512 ⌝ }
-    ensures { λ r. ⌜ r ≡ listing (rows (now (starts .entry)) (now (sizes .entry)) (now (entries .entry)) n) (v .at) (v .marks) (suc i) j ⌝ }
-{
-    let f = v.at;
-    let marks = v.marks;
-    pairs::list::listed(starts, sizes, entries, n, &f, marks, i + 1, j)
-}
-
-// The frontier v with the list g put in place of positions i + 1 to j - 1.
-fn next_line(v: Line, g: Line, i: usize, j: usize) -> Line
-    requires { ⌜ i < 512 ⌝ }
-    ensures { λ r. ⌜ r ≡ replaced (v .at) (v .len) (suc i) j g ⌝ }
-{
-    let f = v.at;
-    pairs::list::replaced(&f, v.len, i + 1, j, g)
-}
-
-// The first labels: bare, and up on the darts to North.
+// The first labels, for the first frontier f of m contexts: bare, and up on the darts to North.
 fn first_labels<'a>(
     starts: &'a [u16],
     sizes: &'a [u8],
     entries: &'a [u16],
     n: usize,
-    v: Line,
+    f: &'a [u16],
+    m: usize,
 ) -> [u8; 1186]
     requires { ⌜ now starts ≡ startsOf (now sizes) ⌝ }
     requires { ⌜ fit (rows (now starts) (now sizes) (now entries) n) ≡ true ⌝ }
-    ensures { λ r. ⌜ r ≡ run.firstLabels (rows (now (starts .entry)) (now (sizes .entry)) (now (entries .entry)) n) (v .at) (v .len) ⌝ }
+    ensures { λ r. ⌜ r ≡ run.firstLabels (rows (now (starts .entry)) (now (sizes .entry)) (now (entries .entry)) n) (now (f .entry)) m ⌝ }
 {
-    let f = v.at;
-    let b = crate::first::bare_labels(starts, sizes, entries, n);
-    crate::mark::to_north(starts, sizes, entries, n, b, &f, 1, lists::minus(v.len, 1))
+    let mut labels = crate::first::bare_labels(starts, sizes, entries, n);
+    let last = lists::minus(m, 1);
+    crate::mark::to_north(&mut labels, starts, sizes, entries, n, f, 1, last);
+    labels
 }
 
 // No labels: the sweep is stuck.
@@ -138,23 +95,26 @@ pub(crate) fn run<'a>(starts: &'a [u16], sizes: &'a [u8], entries: &'a [u16], n:
     ensures { λ r. ⌜ r ≡ run.endedAs (run.swept (rows (now (starts .entry)) (now (sizes .entry)) (now (entries .entry)) n)) ⌝ }
 {
     let mut v = frontier::first::first_line(starts, sizes, entries, n);
-    let mut labels = first_labels(starts, sizes, entries, n, v);
+    let first = v.at;
+    let mut labels = first_labels(starts, sizes, entries, n, &first, v.len);
     let mut k = n;
     while k > 0 {
-        if !goes_on(starts, sizes, entries, n, v) {
+        let f = v.at;
+        if !frontier::below::is_unfinished(starts, sizes, entries, n, &f, v.len) {
+            finish_labels(&mut labels, starts, sizes, entries, n, &f, v.len);
             return Ended {
                 finished: true,
-                labels: finish_labels(starts, sizes, entries, n, labels, v),
+                labels,
             };
         }
         let found = choice::choose(starts, sizes, entries, n, v);
         let Found::At(i, j) = found else {
             return stuck();
         };
-        let g = list_of(starts, sizes, entries, n, v, i, j);
-        let b = step_labels(starts, sizes, entries, n, labels, v, g, i, j);
-        labels = b;
-        v = next_line(v, g, i, j);
+        let marks = v.marks;
+        let g = pairs::list::listed(starts, sizes, entries, n, &f, marks, i + 1, j);
+        step_labels(&mut labels, starts, sizes, entries, n, &f, g, i, j);
+        v = pairs::list::replaced(&f, v.len, i + 1, j, g);
         k -= 1;
     }
     stuck()

@@ -1,22 +1,27 @@
--- list::push meets its contract.
-use mathlib.Core.Path.{refl}
+-- push meets its contract.
+use borrow.Author.Tests.{lt-ltb, le-ltb}
 use native.Mathlib.Omega.{arith}
 use borrow.Author.Needs.{needs}
-use Rattle.frontier.proofs.Moves.{pushed-in, pushed-out}
 use Rattle.frontier.proofs.push.Statement.{statement}
 use Rattle.frontier.proofs.push.Tie as tie
+use Rattle.frontier.specs.Run as run
 
-put-at-requires : tie.Need-put-at-requires
-put-at-requires c κs = search needs
+set-word-requires : tie.Need-set-word-requires
+set-word-requires c κs = search needs
 
-add-t7 : tie.Need-add-t7
-add-t7 c = search needs
+add-t8 : tie.Need-add-t8
+add-t8 c = search needs
+
+same-length : tie.Need-same-length
+same-length c = search needs
 
 returns : tie.Need-returns
-returns c = pushed-in (c .before .before .before .before .before .before .args .v) (c .before .before .before .before .before .before .args .x) (omega arith) refl (c .before .put-at .ensures)
+unfolding run.pushed
+returns c = λ marks. rw (lt-ltb (c .before .before .before .before .before .before .before .before .args .line .len) 512 (omega arith), c .before .before .before .set-word .ensures)
 
 returns-2 : tie.Need-returns-2
-returns-2 c = pushed-out (c .before .before .before .before .args .v) (c .before .before .before .before .args .x) (omega arith)
+unfolding run.pushed
+returns-2 c = λ marks. rw (le-ltb (c .before .before .before .args .line .len) 512 (omega arith))
 
 pub push-spec : {M : Type 1} → statement M
-push-spec = tie.close (tie.spec put-at-requires add-t7 returns returns-2)
+push-spec = tie.close (tie.spec set-word-requires add-t8 same-length returns returns-2)

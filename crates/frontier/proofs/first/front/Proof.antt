@@ -14,13 +14,10 @@ use Rattle.frontier.proofs.first.front.Tie as tie
 use Rattle.frontier.specs.Run as run
 
 abbrev Inv-loop : tie.InvT-loop
-Inv-loop starts sizes entries n v₀ t₀ v t = Sinks (λ (i : ℕ) w. run.pushed w (getD (ring (rows starts sizes entries n) 0) (suc i) 0)) (length (ring (rows starts sizes entries n) 0) - 2) (run.pushed (run.fresh (zeros 256)) 3) t v
+Inv-loop starts sizes entries n at₀ v₀ t₀ at v t = (length at ≡ 512) × Sinks (λ (i : ℕ) w. run.pushed w (getD (ring (rows starts sizes entries n) 0) (suc i) 0)) (length (ring (rows starts sizes entries n) 0) - 2) (run.pushed (run.fresh (zeros 256)) 3) t (run.lineOf v at (zeros 256))
 
 abbrev μ-loop : tie.MeasureT-loop
-μ-loop starts sizes entries n v₀ t₀ v t = t
-
-fresh-requires : tie.Need-fresh-requires Inv-loop μ-loop
-fresh-requires c κs = search needs
+μ-loop starts sizes entries n at₀ v₀ t₀ at v t = t
 
 push-requires : tie.Need-push-requires Inv-loop μ-loop
 push-requires c κs = search needs
@@ -32,10 +29,10 @@ minus-requires : tie.Need-minus-requires Inv-loop μ-loop
 minus-requires c κs = search needs
 
 loop-holds : tie.Need-loop-holds Inv-loop μ-loop
-unfolding zeros
+unfolding zeros run.fresh
 loop-holds c =
-    let a = c .before .before .before .before .before .before .before .args in
-    sinks-from (c .minus .ensures ∙ ap (λ (k : ℕ). k - 2) (c .before .size-of .ensures .0 ∙ sym (ring-size (a .starts .now) (a .sizes .now) (a .entries .now) (a .n) 0))) (c .before .before .push .ensures ∙ ap (λ w. run.pushed w 3) (c .before .before .before .fresh .ensures))
+    let a = c .before .before .before .before .before .before .before .before .args in
+    (search needs, sinks-from (c .minus .ensures ∙ ap (λ (k : ℕ). k - 2) (c .before .size-of .ensures .0 ∙ sym (ring-size (a .starts .now) (a .sizes .now) (a .entries .now) (a .n) 0))) (c .before .before .before .push .ensures (zeros 256)))
 
 entry-at-requires : tie.Need-entry-at-requires Inv-loop μ-loop
 entry-at-requires c κs = search needs
@@ -51,16 +48,44 @@ loop-less c = search needs
 
 loop-again : tie.Need-loop-again Inv-loop μ-loop
 loop-again c =
-    let a = c .before .before .before .before .before .before .before .before .before .before .before .args in
-    let z : c .before .before .before .loop .t ≡ suc (c .before .before .before .loop .t - 1) = omega arith in
-    sinks-on (c .before .before .before .loop .inv) z (c .push2 .ensures ∙ ap (run.pushed (c .before .before .before .loop .v)) (c .before .entry-at .ensures ∙ ap (λ (i : ℕ). getD (ring (rows (a .starts .now) (a .sizes .now) (a .entries .now) (a .n)) 0) i 0) z))
+    let a = c .before .before .before .before .before .before .before .before .before .before .before .before .before .before .args in
+    let z : c .before .before .before .before .before .loop .t ≡ suc (c .before .before .before .before .before .loop .t - 1) = omega arith in
+    let entry = c .before .before .entry-at .ensures ∙ ap (λ (i : ℕ). getD (ring (rows (a .starts .now) (a .sizes .now) (a .entries .now) (a .n)) 0) i 0) z in
+    (search needs, sinks-on (c .before .before .before .before .before .loop .inv .1) z (c .before .push2 .ensures (zeros 256) ∙ ap (run.pushed (run.lineOf (c .before .before .before .before .before .loop .v) (c .before .before .before .before .before .loop .at) (zeros 256))) entry))
 
 push-requires-3 : tie.Need-push-requires-3 Inv-loop μ-loop
 push-requires-3 c κs = search needs
 
 returns : tie.Need-returns Inv-loop μ-loop
-unfolding run.front
-returns c = c .push3 .ensures ∙ ap (λ w. run.pushed w 1) (sinks-end (c .before .before .loop .inv) (omega arith))
+unfolding run.front zeros
+returns c = c .before .push3 .ensures (zeros 256) ∙ ap (λ w. run.pushed w 1) (sinks-end (c .before .before .before .before .loop .inv .1) (omega arith))
+
+slice-aggregate-push : tie.Need-slice-aggregate-push Inv-loop μ-loop
+slice-aggregate-push c = search needs
+
+slice-aggregate-push-2 : tie.Need-slice-aggregate-push-2 Inv-loop μ-loop
+slice-aggregate-push-2 c = search needs
+
+slice-aggregate-push-3 : tie.Need-slice-aggregate-push-3 Inv-loop μ-loop
+slice-aggregate-push-3 c = search needs
 
 pub front-spec : {M : Type 1} → statement M
-front-spec = tie.close (tie.spec Inv-loop μ-loop fresh-requires push-requires size-of-requires minus-requires loop-holds entry-at-requires push-requires-2 sub-t loop-less loop-again push-requires-3 returns)
+front-spec =
+    tie.close
+    (tie.spec
+    Inv-loop
+    μ-loop
+    slice-aggregate-push
+    push-requires
+    size-of-requires
+    minus-requires
+    loop-holds
+    slice-aggregate-push-2
+    entry-at-requires
+    push-requires-2
+    sub-t
+    loop-less
+    loop-again
+    slice-aggregate-push-3
+    push-requires-3
+    returns)

@@ -6,9 +6,6 @@ use Rattle.pairs.proofs.list.barred.Statement.{statement}
 use Rattle.pairs.proofs.list.barred.Tie as tie
 use Rattle.pairs.specs.Run as run
 
-slice-aggregate-byte : tie.Need-slice-aggregate-byte
-slice-aggregate-byte c = search needs
-
 wide-word-requires : tie.Need-wide-word-requires
 wide-word-requires c κs = search needs
 
@@ -21,7 +18,7 @@ returns c = rw (lt-ltb (c .before .before .args .c) 4 (omega arith))
 
 returns-2 : tie.Need-returns-2
 unfolding run.barred
-returns-2 c = rw (le-ltb (c .before .before .before .before .before .args .c) 4 (omega arith), c .byte .ensures .0, c .before .wide-word .ensures .0)
+returns-2 c = rw (le-ltb (c .before .before .before .before .args .c) 4 (omega arith), c .byte .ensures .0, c .before .wide-word .ensures .0)
 
 pub barred-spec : {M : Type 1} → statement M
-barred-spec = tie.close (tie.spec slice-aggregate-byte wide-word-requires byte-requires returns returns-2)
+barred-spec = tie.close (tie.spec wide-word-requires byte-requires returns returns-2)

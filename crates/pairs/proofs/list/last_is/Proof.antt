@@ -6,9 +6,6 @@ use Rattle.pairs.proofs.list.last_is.Statement.{statement}
 use Rattle.pairs.proofs.list.last_is.Tie as tie
 use Rattle.pairs.specs.Run as run
 
-slice-aggregate-word : tie.Need-slice-aggregate-word
-slice-aggregate-word c = search needs
-
 sub-word : tie.Need-sub-word
 sub-word c = search needs
 
@@ -17,11 +14,11 @@ word-requires c κs = search needs
 
 returns : tie.Need-returns
 unfolding run.lastIs
-returns c = let v = c .before .before .before .args .v in rw (eq-eqb (v .len) 0 (omega arith))
+returns c = rw (eq-eqb (c .before .before .args .len) 0 (omega arith))
 
 returns-2 : tie.Need-returns-2
 unfolding run.lastIs
-returns-2 c = let v = c .before .before .before .before .before .before .args .v in rw (ne-eqb (v .len) 0 (λ h. omega arith), c .word .ensures)
+returns-2 c = rw (ne-eqb (c .before .before .before .args .len) 0 (λ h. omega arith), c .word .ensures)
 
 pub last-is-spec : {M : Type 1} → statement M
-last-is-spec = tie.close (tie.spec slice-aggregate-word sub-word word-requires returns returns-2)
+last-is-spec = tie.close (tie.spec sub-word word-requires returns returns-2)

@@ -15,21 +15,24 @@ size-of-requires c κs = search needs
 num-requires : tie.Need-num-requires
 num-requires c κs = search needs
 
-add-store : tie.Need-add-store
-add-store c = search needs
+add-set-byte : tie.Need-add-set-byte
+add-set-byte c = search needs
 
-store-requires : tie.Need-store-requires
-store-requires c κs = search needs
+set-byte-requires : tie.Need-set-byte-requires
+set-byte-requires c κs = search needs
+
+same-length : tie.Need-same-length
+same-length c = search needs
 
 returns : tie.Need-returns
 returns c =
-    let a = c .before .before .before .before .before .before .before .before .args in
-    c .store .ensures ∙ put-in (a .starts .now) (a .sizes .now) (a .entries .now) (a .n) (c .before .before .before .before .before .before .before .before .pre .0) (c .before .before .before .before .before .before .before .before .pre .1) (a .u) (a .v) (c .before .num .ensures .0) (c .before .before .before .before .index-of .ensures .0) (c .before .before .before .size-of .ensures .0) (a .labels) (a .l) (omega arith)
+    let a = c .before .before .before .before .before .before .before .before .before .before .before .before .args in
+    c .before .before .set-byte .ensures ∙ put-in (a .starts .now) (a .sizes .now) (a .entries .now) (a .n) (c .before .before .before .before .before .before .before .before .before .before .before .before .pre .0) (c .before .before .before .before .before .before .before .before .before .before .before .before .pre .1) (a .u) (a .v) (c .before .before .before .num .ensures .0) (c .before .before .before .before .before .before .before .index-of .ensures .0) (c .before .before .before .before .before .before .size-of .ensures .0) (a .labels .now) (a .l) (omega arith)
 
 returns-2 : tie.Need-returns-2
 returns-2 c =
-    let a = c .before .before .before .before .before .before .args in
-    put-out (a .starts .now) (a .sizes .now) (a .entries .now) (a .n) (c .before .before .before .before .before .before .pre .0) (c .before .before .before .before .before .before .pre .1) (a .u) (a .v) refl (c .before .before .index-of .ensures .0) (c .before .size-of .ensures .0) (a .labels) (a .l) (omega arith)
+    let a = c .before .before .before .before .before .before .before .args in
+    put-out (a .starts .now) (a .sizes .now) (a .entries .now) (a .n) (c .before .before .before .before .before .before .before .pre .0) (c .before .before .before .before .before .before .before .pre .1) (a .u) (a .v) refl (c .before .before .index-of .ensures .0) (c .before .size-of .ensures .0) (a .labels .now) (a .l) (omega arith)
 
 pub put-on-spec : {M : Type 1} → statement M
-put-on-spec = tie.close (tie.spec index-of-requires size-of-requires num-requires add-store store-requires returns returns-2)
+put-on-spec = tie.close (tie.spec index-of-requires size-of-requires num-requires add-set-byte set-byte-requires same-length returns returns-2)

@@ -11,27 +11,24 @@ use Rattle.sweep.proofs.step.finish_labels.Statement.{statement}
 use Rattle.sweep.proofs.step.finish_labels.Tie as tie
 use Rattle.sweep.specs.Run as run
 
-slice-aggregate-from-one : tie.Need-slice-aggregate-from-one
-slice-aggregate-from-one c = search needs
-
 minus-requires : tie.Need-minus-requires
 minus-requires c κs = search needs
 
 from-one-requires : tie.Need-from-one-requires
-from-one-requires c κs = c .before .before .before .before .before .before .pre
+from-one-requires c κs = c .before .before .before .before .before .before .before .pre
 
-slice-aggregate-along : tie.Need-slice-aggregate-along
-slice-aggregate-along c = search needs
+same-length : tie.Need-same-length
+same-length c = search needs
 
 along-requires : tie.Need-along-requires
-along-requires c κs = c .before .before .before .before .before .before .before .before .pre
+along-requires c κs = c .before .before .before .before .before .before .before .before .before .before .before .pre
 
 returns : tie.Need-returns
 unfolding run.finishLabels
 returns c =
-    let a = c .before .before .before .before .before .before .before .before .before .args in
+    let a = c .before .before .before .before .before .before .before .before .before .before .before .before .before .before .args in
     let p = rows (a .starts .now) (a .sizes .now) (a .entries .now) (a .n) in
-    c .along .ensures ∙ ap (labelEdges p right (steps (span (a .v .at) 0 (a .v .len)))) (c .before .before .from-one .ensures ∙ ap (λ (e : ℕ). labelEdges p up (run.fan 2 (span (a .v .at) 1 e)) (a .labels)) (c .before .before .before .minus .ensures))
+    c .before .before .along .ensures ∙ ap (labelEdges p right (steps (span (a .f .now) 0 (a .m)))) (c .before .before .before .before .before .before .from-one .ensures ∙ ap (λ (e : ℕ). labelEdges p up (run.fan 2 (span (a .f .now) 1 e)) (a .labels .now)) (c .before .before .before .before .before .before .before .before .minus .ensures))
 
 pub finish-labels-spec : {M : Type 1} → statement M
-finish-labels-spec = tie.close (tie.spec slice-aggregate-from-one minus-requires from-one-requires slice-aggregate-along along-requires returns)
+finish-labels-spec = tie.close (tie.spec minus-requires from-one-requires along-requires same-length returns)

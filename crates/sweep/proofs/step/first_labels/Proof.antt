@@ -16,11 +16,11 @@ use Rattle.sweep.specs.Run as run
 bare-labels-requires : tie.Need-bare-labels-requires
 bare-labels-requires c κs = fit-says _ (c .before .before .before .before .pre .1) .room
 
-slice-aggregate-to-north : tie.Need-slice-aggregate-to-north
-slice-aggregate-to-north c = search needs
-
 minus-requires : tie.Need-minus-requires
 minus-requires c κs = search needs
+
+slice-aggregate-to-north : tie.Need-slice-aggregate-to-north
+slice-aggregate-to-north c = search needs
 
 to-north-requires : tie.Need-to-north-requires
 to-north-requires c κs =
@@ -32,9 +32,9 @@ to-north-requires c κs =
 returns : tie.Need-returns
 unfolding run.firstLabels
 returns c =
-    let a = c .before .before .before .before .before .before .before .before .args in
+    let a = c .before .before .before .before .before .before .before .before .before .args in
     let p = rows (a .starts .now) (a .sizes .now) (a .entries .now) (a .n) in
-    c .to-north .ensures ∙ (λ i. labelEdges p up (product (span (a .v .at) 1 (c .before .minus .ensures i)) (0 ∷ [])) (c .before .before .before .bare-labels .ensures i))
+    c .before .to-north .ensures ∙ (λ i. labelEdges p up (product (span (a .f .now) 1 (c .before .before .before .minus .ensures i)) (0 ∷ [])) (c .before .before .before .before .bare-labels .ensures i))
 
 pub first-labels-spec : {M : Type 1} → statement M
-first-labels-spec = tie.close (tie.spec bare-labels-requires slice-aggregate-to-north minus-requires to-north-requires returns)
+first-labels-spec = tie.close (tie.spec bare-labels-requires minus-requires slice-aggregate-to-north to-north-requires returns)

@@ -14,29 +14,26 @@ use Rattle.sweep.specs.Run as run
 slice-aggregate-from-all : tie.Need-slice-aggregate-from-all
 slice-aggregate-from-all c = search needs
 
-slice-aggregate-from-all-2 : tie.Need-slice-aggregate-from-all-2
-slice-aggregate-from-all-2 c = search needs
-
 add-from-all : tie.Need-add-from-all
 add-from-all c = search needs
 
 from-all-requires : tie.Need-from-all-requires
-from-all-requires c κs = (c .before .before .before .before .before .before .before .pre .0, c .before .before .before .before .before .before .before .pre .1 .0)
+from-all-requires c κs = (c .before .before .before .before .before .before .before .before .pre .0, c .before .before .before .before .before .before .before .before .pre .1 .0)
 
-slice-aggregate-along : tie.Need-slice-aggregate-along
-slice-aggregate-along c = search needs
+same-length : tie.Need-same-length
+same-length c = search needs
 
 add-along : tie.Need-add-along
 add-along c = search needs
 
 along-requires : tie.Need-along-requires
-along-requires c κs = (c .before .before .before .before .before .before .before .before .before .pre .0, c .before .before .before .before .before .before .before .before .before .pre .1 .0)
+along-requires c κs = (c .before .before .before .before .before .before .before .before .before .before .before .before .pre .0, c .before .before .before .before .before .before .before .before .before .before .before .before .pre .1 .0)
 
 returns : tie.Need-returns
 unfolding run.stepLabels
 returns c =
-    let a = c .before .before .before .before .before .before .before .before .before .before .args in
-    c .along .ensures ∙ ap (labelEdges (rows (a .starts .now) (a .sizes .now) (a .entries .now) (a .n)) right (steps (span (a .v .at) (a .i) (a .j + 1)))) (c .before .before .from-all .ensures)
+    let a = c .before .before .before .before .before .before .before .before .before .before .before .before .before .before .before .args in
+    c .before .before .along .ensures ∙ ap (labelEdges (rows (a .starts .now) (a .sizes .now) (a .entries .now) (a .n)) right (steps (span (a .f .now) (a .i) (a .j + 1)))) (c .before .before .before .before .before .before .from-all .ensures)
 
 pub step-labels-spec : {M : Type 1} → statement M
-step-labels-spec = tie.close (tie.spec slice-aggregate-from-all slice-aggregate-from-all-2 add-from-all from-all-requires slice-aggregate-along add-along along-requires returns)
+step-labels-spec = tie.close (tie.spec slice-aggregate-from-all add-from-all from-all-requires add-along along-requires same-length returns)
