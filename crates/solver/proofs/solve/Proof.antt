@@ -1,19 +1,15 @@
 -- solve meets its contract.
-use Rattle.solver.proofs.Relax.{raised-start, fewer, solved-large, solved-none, solved-found}
+use Rattle.solver.proofs.Relax.{fewer, solved-large, solved-none, solved-found}
 use Rattle.solver.specs.Relaxing.{Raised}
 use Rattle.solver.specs.Constraints.{listed}
 use Rattle.rings.specs.Tables.{sumOf}
 use Prim.Native.Nat.{_-_, _*_}
-use mathlib.Core.Path.{refl, _∙_}
+use mathlib.Core.Path.{_∙_}
 use borrow.Author.Tests.{not-true, not-false}
 use native.Mathlib.Omega.{arith}
 use borrow.Author.Needs.{needs}
 use Rattle.solver.proofs.solve.Statement.{statement}
 use Rattle.solver.proofs.solve.Tie as tie
-use Rattle.solver.proofs.solve.Reads as reads
-use Rattle.solver.proofs.solve.Lts as lts
-use Rattle.solver.proofs.nothing.Reads as nothing-reads
-use Rattle.solver.proofs.pass.Reads as pass-reads
 
 abbrev Inv-loop : tie.InvT-loop
 Inv-loop n count lows highs gaps at₀ back₀ at back = Raised n (listed lows highs gaps count) at
@@ -21,39 +17,33 @@ Inv-loop n count lows highs gaps at₀ back₀ at back = Raised n (listed lows h
 abbrev μ-loop : tie.MeasureT-loop
 μ-loop n count lows highs gaps at₀ back₀ at back = 200 * n - sumOf at
 
--- src/lib.rt:104:9
 nothing-requires : tie.Need-nothing-requires Inv-loop μ-loop
 nothing-requires c κs = search needs
 
--- src/lib.rt:104:9
 returns : tie.Need-returns Inv-loop μ-loop
 returns c = c .nothing .ensures ∙ solved-large _ (c .before .before .before .before .before .args .lows .now) (c .before .before .before .before .before .args .highs .now) (c .before .before .before .before .before .args .gaps .now) (c .before .before .before .before .before .args .count) (c .before .if1 .taken)
 
--- src/lib.rt:108:5
+first-pass-requires : tie.Need-first-pass-requires Inv-loop μ-loop
+first-pass-requires c κs = c .if1 .left
+
 loop-holds : tie.Need-loop-holds Inv-loop μ-loop
-loop-holds c = raised-start refl
+loop-holds c = c .first-pass .ensures
 
--- src/lib.rt:109:13
 pass-requires : tie.Need-pass-requires Inv-loop μ-loop
-pass-requires c κs = (c .before .if1 .left, c .loop .inv)
+pass-requires c κs = (c .before .before .if1 .left, c .loop .inv)
 
--- src/lib.rt:111:13
 nothing-requires-2 : tie.Need-nothing-requires-2 Inv-loop μ-loop
 nothing-requires-2 c κs = search needs
 
--- src/lib.rt:111:13
 returns-2 : tie.Need-returns-2 Inv-loop μ-loop
-returns-2 c = c .nothing2 .ensures ∙ solved-none _ (c .before .before .before .before .before .before .before .before .args .lows .now) (c .before .before .before .before .before .before .before .before .args .highs .now) (c .before .before .before .before .before .before .before .before .args .gaps .now) (c .before .before .before .before .before .before .before .before .args .count) (c .before .before .before .before .if1 .left) (c .before .before .pass .ensures .none (c .before .if2 .taken))
+returns-2 c = c .nothing2 .ensures ∙ solved-none _ (c .before .before .before .before .before .before .before .before .before .args .lows .now) (c .before .before .before .before .before .before .before .before .before .args .highs .now) (c .before .before .before .before .before .before .before .before .before .args .gaps .now) (c .before .before .before .before .before .before .before .before .before .args .count) (c .before .before .before .before .before .if1 .left) (c .before .before .pass .ensures .none (c .before .if2 .taken))
 
--- src/lib.rt:115:13
 returns-3 : tie.Need-returns-3 Inv-loop μ-loop
-returns-3 c = solved-found _ (c .before .before .before .before .before .before .before .before .before .before .args .lows .now) (c .before .before .before .before .before .before .before .before .before .before .args .highs .now) (c .before .before .before .before .before .before .before .before .before .before .args .gaps .now) (c .before .before .before .before .before .before .before .before .before .before .args .count) _ (c .before .before .before .before .before .before .if1 .left) (c .before .before .before .before .pass .ensures .raised (c .before .before .before .if2 .left)) (c .before .before .before .before .pass .ensures .still (c .before .before .before .if2 .left) (not-true _ (c .if3 .taken)))
+returns-3 c = solved-found _ (c .before .before .before .before .before .before .before .before .before .before .before .args .lows .now) (c .before .before .before .before .before .before .before .before .before .before .before .args .highs .now) (c .before .before .before .before .before .before .before .before .before .before .before .args .gaps .now) (c .before .before .before .before .before .before .before .before .before .before .before .args .count) _ (c .before .before .before .before .before .before .before .if1 .left) (c .before .before .before .before .pass .ensures .raised (c .before .before .before .if2 .left)) (c .before .before .before .before .pass .ensures .still (c .before .before .before .if2 .left) (not-true _ (c .if3 .taken)))
 
--- src/lib.rt:108:5
 loop-less : tie.Need-loop-less Inv-loop μ-loop
 loop-less c = fewer (c .before .before .before .before .before .loop .at) (c .before .before .before .before .pass .ensures .raised (c .before .before .before .if2 .left)) (c .before .before .before .before .pass .ensures .more (c .before .before .before .if2 .left) (not-false _ (c .if3 .left)))
 
--- src/lib.rt:108:5
 loop-again : tie.Need-loop-again Inv-loop μ-loop
 loop-again c = c .before .before .before .before .pass .ensures .raised (c .before .before .before .if2 .left)
 
@@ -65,6 +55,7 @@ solve-spec =
     μ-loop
     nothing-requires
     returns
+    first-pass-requires
     loop-holds
     pass-requires
     nothing-requires-2
