@@ -2,14 +2,15 @@
 // the program prints a line with its number, its n and what open answers, then a line for each check that applies, with the
 // numbers found, which ends in `ok` or `WRONG`. The last line says how many checks there were and how many were wrong. The checks:
 //
-//    opened   a file without a chart is not drawn yet: there is no width or height, and same is refused 13 at 0
+//    opened   a file without a chart is not drawn yet: its width and height are 0, and same is refused 13 at 0
 //    scan     the three contexts that enclose others, if there are any, are neighbours of each other and no face
-//    drawn    sweep, then chart: CHARTED where it is accepted, LABELLED where it cannot be drawn, 11, and OPEN where there are no labels, 13
+//    drawn    sweep, then chart: CHARTED where chart is accepted; LABELLED where it cannot be drawn, 11; OPEN where there are no labels, 13
 //    areas    every inner face of the chart has a positive doubled area, and they sum to 2wh
 //    turned   the first edge that turns alone, 0 clockwise or 1 counterclockwise: nothing of the chart stands
-//    afresh   drawn again it is the chart of the new labels: as when they are offered to the file opened anew, byte for byte
+//    afresh   drawn again it is the chart of the new labels: as when they are offered to the sheet as it was opened, byte for byte
 //
-// stdin beside this crate is made by tools/checklist_plans.py.
+// An answer is the number of a refusal and its place: 0 at 0 is accepted, or yes, and 1 at 0 is no. stdin beside this crate is
+// made by tools/checklist_plans.py.
 use sheet::Answer;
 use sheet::Compared;
 use sheet::Outcome;
@@ -23,18 +24,36 @@ struct Tally {
     wrong: usize,
 }
 
-// The inner faces of a chart: how many there are, how many of them are positive, the sum and the least of their doubled areas.
+// The inner faces of a chart: how many there are, how many of them are positive, the least and the sum of their doubled areas.
 struct Areas {
     faces: usize,
     positive: usize,
-    sum: usize,
     least: usize,
+    sum: usize,
 }
 
-// A word, then a number.
-fn print(word: &[u8], x: usize) {
-    io::write_all(1, word);
-    io::print_decimal(1, x as u64);
+// Writes a text from an index on, up to its next `#`, and a number in place of that; the index behind it.
+fn show_part(text: &[u8], from: usize, x: usize) -> usize {
+    let mut i = from;
+    while i < text.len() {
+        if lists::byte(text, i) == 35 {
+            io::print_decimal(1, x as u64);
+            return i + 1;
+        }
+        io::write_all(1, framing::ring_part(text, i, 1));
+        i += 1;
+    }
+    i
+}
+
+// Writes a text with these numbers for its `#`s.
+fn show(text: &[u8], a: usize, b: usize, c: usize, d: usize, e: usize) {
+    let after_a = show_part(text, 0, a);
+    let after_b = show_part(text, after_a, b);
+    let after_c = show_part(text, after_b, c);
+    let after_d = show_part(text, after_c, d);
+    let after_e = show_part(text, after_d, e);
+    show_part(text, after_e, 0);
 }
 
 // The end of a check's line; the tally with it.
@@ -52,137 +71,125 @@ fn judge(tally: Tally, right: bool) -> Tally {
     }
 }
 
-// A refusal: its number and its place; whether it has this number, and place 0.
-fn print_refusal(number: u8, place: usize, due: u8) -> bool {
-    print(b" refused ", lists::wide_byte(number));
-    print(b" at ", place);
-    if number == due { place == 0 } else { false }
+// A refusal as a number: its own, and 256 times its place.
+fn refusal(number: u8, place: usize) -> usize {
+    lists::wide_byte(number) + place % 65536 * 256
 }
 
-// What a call answers; whether it is what is due: a refusal of this number, or accepted where that is 0.
-fn print_answer(answer: Answer, due: u8) -> bool {
+// What a call that changes a sheet answers, as a number: 0 is accepted.
+fn answer_of(outcome: Outcome) -> usize {
+    let answer = outcome.answer;
     match answer {
-        Answer::Accepted => {
-            io::write_all(1, b" accepted");
-            due == 0
-        }
-        Answer::Refused(number, place) => print_refusal(number, place, due),
+        Answer::Accepted => 0,
+        Answer::Refused(number, place) => refusal(number, place),
     }
 }
 
-// What same answers; whether it is what is due: a refusal of this number, or yes where that is 0.
-fn print_same(a: Sheet, b: Sheet, due: u8) -> bool {
-    let answer = reports::same(a, b);
-    match answer {
-        Compared::Same => {
-            io::write_all(1, b", same yes");
-            due == 0
-        }
-        Compared::Different => {
-            io::write_all(1, b", same no");
-            false
-        }
-        Compared::Refused(number, place) => {
-            io::write_all(1, b", same");
-            print_refusal(number, place, due)
-        }
+// What same answers, as a number: 0 is yes, 1 is no.
+fn same_of(a: Sheet, b: Sheet) -> usize {
+    let compared = reports::same(a, b);
+    match compared {
+        Compared::Same => 0,
+        Compared::Different => 1,
+        Compared::Refused(number, place) => refusal(number, place),
     }
 }
 
-// A stage.
-fn print_stage(rank: usize) {
-    match rank {
-        0 => {
-            io::write_all(1, b" EMPTY");
-        }
-        1 => {
-            io::write_all(1, b" OPEN");
-        }
-        2 => {
-            io::write_all(1, b" LABELLED");
-        }
-        _ => {
-            io::write_all(1, b" CHARTED");
-        }
-    }
+// The number of a sheet's stage.
+fn stage_of(sheet: Sheet) -> usize {
+    sheet::rank_of(sheet::stage_of(sheet))
 }
 
-// The number of a sheet's stage, which is printed with its width and height.
-fn print_sheet(sheet: Sheet) -> usize {
-    let rank = sheet::rank_of(sheet::stage_of(sheet));
-    print_stage(rank);
-    print(b" ", lists::wide_word(sheet.w));
-    print(b"x", lists::wide_word(sheet.h));
-    rank
+// Writes a sheet's stage, width and height; the number of the stage.
+fn show_sheet(sheet: Sheet) -> usize {
+    let stage = stage_of(sheet);
+    let names = b"EMPTY    OPEN     LABELLED CHARTED  ";
+    io::write_all(1, framing::ring_part(names, stage % 4 * 9, 9));
+    show(
+        b"#x#",
+        lists::wide_word(sheet.w),
+        lists::wide_word(sheet.h),
+        0,
+        0,
+        0,
+    );
+    stage
 }
 
 // The check that a sheet has no chart.
 fn check_undrawn(tally: Tally, sheet: Sheet) -> Tally {
-    print_sheet(sheet);
-    let right = print_same(sheet, sheet, 13);
+    show_sheet(sheet);
+    let same = same_of(sheet, sheet);
+    show(b", same # at #", same % 256, same / 256, 0, 0, 0);
     if sheet.w != 0 {
         return judge(tally, false);
     }
     if sheet.h != 0 {
         return judge(tally, false);
     }
-    judge(tally, right)
+    judge(tally, same == 13)
 }
 
 // The context after v on the face of the dart from u to v; 256 where v is no neighbour of u.
-fn third_of(sheet: Sheet, u: usize, v: usize) -> usize {
-    let sizes = sheet.sizes;
-    let entries = sheet.entries;
-    let starts = rings::starts_of(&sizes);
-    let n = lists::wide_word(sheet.n);
-    if rings::is_adjacent(&starts, &sizes, &entries, n, u, v) {
-        return rings::next_of(&starts, &sizes, &entries, n, v, u);
+fn third_in<'a>(
+    starts: &'a [u16],
+    sizes: &'a [u8],
+    entries: &'a [u16],
+    n: usize,
+    u: usize,
+    v: usize,
+) -> usize {
+    if rings::is_adjacent(starts, sizes, entries, n, u, v) {
+        return rings::next_of(starts, sizes, entries, n, v, u);
     }
     256
 }
 
+// The same in the plan of a sheet.
+fn third_of(sheet: Sheet, u: usize, v: usize) -> usize {
+    let sizes = sheet.sizes;
+    let entries = sheet.entries;
+    let starts = rings::starts_of(&sizes);
+    third_in(&starts, &sizes, &entries, lists::wide_word(sheet.n), u, v)
+}
+
 // Are three contexts neighbours of each other, and no face?
 fn encloses(sheet: Sheet, a: usize, b: usize, c: usize) -> bool {
+    let after = third_of(sheet, a, b);
+    if after == c {
+        return false;
+    }
+    if third_of(sheet, b, a) == c {
+        return false;
+    }
     if third_of(sheet, b, c) == 256 {
         return false;
     }
     if third_of(sheet, c, a) == 256 {
         return false;
     }
-    let left = third_of(sheet, a, b);
-    if left == 256 {
-        return false;
-    }
-    if left == c {
-        return false;
-    }
-    third_of(sheet, b, a) != c
+    after != 256
 }
 
 // The check of scan.
 fn check_scan(tally: Tally, sheet: Sheet) -> Tally {
-    let answer = reports::scan(sheet);
-    match answer {
+    let scanned = reports::scan(sheet);
+    match scanned {
         Scanned::Triple(a, b, c) => {
-            print(b"  scan ", a);
-            print(b",", b);
-            print(b",", c);
+            show(b"  scan: #,#,#", a, b, c, 0, 0);
             judge(tally, encloses(sheet, a, b, c))
         }
         Scanned::Nothing => {
-            io::write_all(1, b"  scan none");
+            io::write_all(1, b"  scan: none");
             judge(tally, true)
         }
-        Scanned::Refused(number, place) => {
-            io::write_all(1, b"  scan");
-            judge(tally, print_refusal(number, place, 0))
-        }
+        Scanned::Refused(_, _) => judge(tally, false),
     }
 }
 
-// What chart must have answered where it leaves a stage: accepted, cannot be drawn, or no labels.
-fn chart_due(rank: usize) -> u8 {
-    match rank {
+// What chart must have answered where it leaves a stage.
+fn chart_due(stage: usize) -> usize {
+    match stage {
         3 => 0,
         2 => 11,
         _ => 13,
@@ -190,26 +197,18 @@ fn chart_due(rank: usize) -> u8 {
 }
 
 // The check of sweep and chart.
-fn check_drawn(tally: Tally, swept: Answer, drawn: Outcome) -> Tally {
-    io::write_all(1, b"  drawn: sweep");
-    print_answer(swept, 0);
-    io::write_all(1, b", chart");
-    let answer = drawn.answer;
-    let sheet = drawn.sheet;
-    let rank = sheet::rank_of(sheet::stage_of(sheet));
-    let right = print_answer(answer, chart_due(rank));
-    print_sheet(sheet);
-    judge(tally, right)
-}
-
-// The areas with one more face.
-fn with_area(areas: Areas, area: usize) -> Areas {
-    Areas {
-        faces: std::num::wrapping_add_usize(areas.faces, 1),
-        positive: std::num::wrapping_add_usize(areas.positive, lists::lesser(area, 1)),
-        sum: std::num::wrapping_add_usize(areas.sum, area),
-        least: lists::lesser(areas.least, area),
-    }
+fn check_drawn(tally: Tally, swept: usize, charted: usize, sheet: Sheet) -> Tally {
+    io::write_all(1, b"  drawn: ");
+    let stage = show_sheet(sheet);
+    show(
+        b", sweep # at #, chart # at #",
+        swept % 256,
+        swept / 256,
+        charted % 256,
+        charted / 256,
+        0,
+    );
+    judge(tally, charted == chart_due(stage))
 }
 
 // A number, or 0 where it is negative.
@@ -217,11 +216,21 @@ fn positive_part(area: i64) -> usize {
     if 0 <= area { area as usize } else { 0 }
 }
 
-// The doubled area of a face of a sheet's chart; 0 where it is not positive.
-fn area_of(sheet: Sheet, u: usize, v: usize, w: usize) -> usize {
+// The areas with one more face.
+fn with_area(areas: Areas, area: usize) -> Areas {
+    Areas {
+        faces: std::num::wrapping_add_usize(areas.faces, 1),
+        positive: std::num::wrapping_add_usize(areas.positive, lists::lesser(area, 1)),
+        least: lists::lesser(areas.least, area),
+        sum: std::num::wrapping_add_usize(areas.sum, area),
+    }
+}
+
+// The areas with the face u, v, w of a sheet's chart.
+fn with_face(areas: Areas, sheet: Sheet, u: usize, v: usize, w: usize) -> Areas {
     let xs = sheet.xs;
     let ys = sheet.ys;
-    positive_part(areas::area_of(&xs, &ys, u, v, w))
+    with_area(areas, positive_part(areas::area_of(&xs, &ys, u, v, w)))
 }
 
 // The areas with the inner face that the dart from u to v is on, where u is its lowest context.
@@ -239,16 +248,16 @@ fn with_dart(areas: Areas, sheet: Sheet, u: usize, v: usize) -> Areas {
     if w == 256 {
         return areas;
     }
-    with_area(areas, area_of(sheet, u, v, w))
+    with_face(areas, sheet, u, v, w)
 }
 
-// The areas of the inner faces of a sheet's chart, each dart tried once.
+// The areas of the inner faces of a sheet's chart, each pair of contexts tried as a dart.
 fn areas_of(sheet: Sheet) -> Areas {
     let mut areas = Areas {
         faces: 0,
         positive: 0,
-        sum: 0,
         least: 4294967296,
+        sum: 0,
     };
     let mut dart = 0;
     while dart < 65536 {
@@ -259,20 +268,23 @@ fn areas_of(sheet: Sheet) -> Areas {
     areas
 }
 
-// The doubled area of a sheet's whole chart.
-fn doubled_whole(sheet: Sheet) -> usize {
-    2 * lists::wide_word(sheet.w) * lists::wide_word(sheet.h)
+// The doubled area of a rectangle.
+fn doubled(w: u16, h: u16) -> usize {
+    2 * lists::wide_word(w) * lists::wide_word(h)
 }
 
 // The check of the areas.
 fn check_areas(tally: Tally, sheet: Sheet) -> Tally {
     let areas = areas_of(sheet);
-    let whole = doubled_whole(sheet);
-    print(b"  areas: faces ", areas.faces);
-    print(b", positive ", areas.positive);
-    print(b", least ", areas.least);
-    print(b", sum ", areas.sum);
-    print(b", 2wh ", whole);
+    let whole = doubled(sheet.w, sheet.h);
+    show(
+        b"  areas: faces #, positive #, least #, sum #, 2wh #",
+        areas.faces,
+        areas.positive,
+        areas.least,
+        areas.sum,
+        whole,
+    );
     if areas.positive != areas.faces {
         return judge(tally, false);
     }
@@ -293,11 +305,7 @@ fn turns(sheet: Sheet, number: usize) -> bool {
         return false;
     }
     let outcome = turn_by(sheet, number);
-    let answer = outcome.answer;
-    match answer {
-        Answer::Accepted => true,
-        Answer::Refused(_, _) => false,
-    }
+    answer_of(outcome) == 0
 }
 
 // The number of the first turn of one edge that is accepted; 102400 if there is none.
@@ -314,8 +322,8 @@ fn first_turn(sheet: Sheet) -> usize {
 
 // A sheet's file in a buffer; its length.
 fn write_into(sheet: Sheet, out: &mut [u8]) -> usize {
-    let answer = reports::write(sheet, out);
-    match answer {
+    let written = reports::write(sheet, out);
+    match written {
         Written::Length(k) => k,
         Written::Refused(_, _) => 0,
     }
@@ -333,109 +341,114 @@ fn same_bytes<'a>(a: &'a [u8], b: &'a [u8], k: usize) -> usize {
     i
 }
 
-// Are the files of two sheets the same bytes?
-fn same_files(a: Sheet, b: Sheet) -> bool {
+// The check that two sheets have the same chart and the same file.
+fn check_same(tally: Tally, a: Sheet, b: Sheet) -> Tally {
     let mut one = io::large_buffer();
-    let mut other = io::large_buffer();
     let size = write_into(a, &mut one);
+    let mut other = io::large_buffer();
     let size_other = write_into(b, &mut other);
-    let same = same_bytes(&one, &other, size);
-    print(b", bytes ", size);
-    print(b" and ", size_other);
-    print(b", the same ", same);
+    let equal = same_bytes(&one, &other, size);
+    let same = same_of(a, b);
+    show(
+        b"same # at #, bytes # and #, equal #",
+        same % 256,
+        same / 256,
+        size,
+        size_other,
+        equal,
+    );
     if size != size_other {
-        return false;
+        return judge(tally, false);
     }
-    same == size
+    if equal != size {
+        return judge(tally, false);
+    }
+    judge(tally, same == 0)
 }
 
-// The labels of a sheet offered to a file opened anew, and charted.
-fn drawn_anew(file: &[u8], sheet: Sheet) -> Sheet {
-    let sizes = sheet.sizes;
+// The labels of a sheet offered to another one, and charted.
+fn drawn_anew(opened: Sheet, sheet: Sheet) -> Sheet {
     let labels = sheet.labels;
-    let total = fit::total_of(&sizes, lists::wide_word(sheet.n));
-    let part = framing::ring_part(&labels, 0, total);
-    let opened = opening::open_file(sheet::fresh_sheet(), file);
-    let offered = calls::offer(opened.sheet, part);
-    let drawn = calls::chart(offered.sheet);
-    drawn.sheet
+    let count = lists::minus(6 * lists::wide_word(sheet.n), 14);
+    let offered = calls::offer(opened, framing::ring_part(&labels, 0, count));
+    let charted = calls::chart(offered.sheet);
+    charted.sheet
 }
 
 // The check of the chart that is drawn after a turn, behind the one before it.
-fn check_afresh(tally: Tally, file: &[u8], old: Sheet, turned: Sheet) -> Tally {
-    let outcome = calls::chart(turned);
-    let afresh = outcome.sheet;
-    io::write_all(1, b"  afresh: before");
-    print_sheet(old);
-    io::write_all(1, b", after");
-    print_sheet(afresh);
-    let anew = drawn_anew(file, turned);
-    let right = print_same(afresh, anew, 0);
-    if same_files(afresh, anew) {
-        return judge(tally, right);
-    }
-    judge(tally, false)
+fn check_afresh(tally: Tally, opened: Sheet, old: Sheet, turned: Sheet) -> Tally {
+    let charted = calls::chart(turned);
+    let new = charted.sheet;
+    show(
+        b"  afresh: #x# before, #x# after, ",
+        lists::wide_word(old.w),
+        lists::wide_word(old.h),
+        lists::wide_word(new.w),
+        lists::wide_word(new.h),
+        0,
+    );
+    check_same(tally, new, drawn_anew(opened, turned))
 }
 
 // The checks of a turn of a part of a chart.
-fn check_turn(tally: Tally, file: &[u8], drawn: Sheet) -> Tally {
-    let number = first_turn(drawn);
+fn check_turn(tally: Tally, opened: Sheet, sheet: Sheet) -> Tally {
+    let number = first_turn(sheet);
     if number == 102400 {
         io::write_all(1, b"  turned: no edge turns alone");
         return judge(tally, true);
     }
-    print(b"  turned: edge ", number / 512);
-    print(b",", number / 2 % 256);
-    print(b" direction ", number % 2);
-    let outcome = turn_by(drawn, number);
+    let outcome = turn_by(sheet, number);
     let turned = outcome.sheet;
-    check_afresh(check_undrawn(tally, turned), file, drawn, turned)
+    show(
+        b"  turned: edge #,# direction #, ",
+        number / 512,
+        number / 2 % 256,
+        number % 2,
+        0,
+        0,
+    );
+    check_afresh(check_undrawn(tally, turned), opened, sheet, turned)
 }
 
-// The checks of a sheet as a file opens it, which has no chart.
+// The check of a sheet as a file opens it, where that has no chart.
 fn check_opened(tally: Tally, sheet: Sheet) -> Tally {
-    if sheet::rank_of(sheet::stage_of(sheet)) == 3 {
+    if stage_of(sheet) == 3 {
         return tally;
     }
-    io::write_all(1, b"  opened:");
+    io::write_all(1, b"  opened: ");
     check_undrawn(tally, sheet)
 }
 
 // The checks of a plan.
-fn check_plan(tally: Tally, file: &[u8], sheet: Sheet) -> Tally {
-    let swept = calls::sweep(sheet);
-    let answer = swept.answer;
-    let drawn = calls::chart(swept.sheet);
+fn check_plan(tally: Tally, sheet: Sheet) -> Tally {
     let before = check_scan(check_opened(tally, sheet), sheet);
-    let after = check_drawn(before, answer, drawn);
-    let chart = drawn.sheet;
-    if sheet::rank_of(sheet::stage_of(chart)) != 3 {
+    let swept = calls::sweep(sheet);
+    let charted = calls::chart(swept.sheet);
+    let drawn = charted.sheet;
+    let after = check_drawn(before, answer_of(swept), answer_of(charted), drawn);
+    if stage_of(drawn) != 3 {
         return after;
     }
-    check_turn(check_areas(after, chart), file, chart)
+    check_turn(check_areas(after, drawn), sheet, drawn)
 }
 
 // A file: its number, its n, what open answers, and the checks where it is accepted.
 fn check_file(tally: Tally, number: usize, file: &[u8]) -> Tally {
     let outcome = opening::open_file(sheet::fresh_sheet(), file);
-    let answer = outcome.answer;
+    let answer = answer_of(outcome);
     let sheet = outcome.sheet;
-    print(b"plan ", number);
-    print(b": n ", lists::wide_word(sheet.n));
-    io::write_all(1, b", open");
-    let accepted = print_answer(answer, 0);
-    io::write_all(1, b"\n");
-    if accepted {
-        return check_plan(tally, file, sheet);
+    show(
+        b"plan #: n #, open # at #\n",
+        number,
+        lists::wide_word(sheet.n),
+        answer % 256,
+        answer / 256,
+        0,
+    );
+    if answer != 0 {
+        return tally;
     }
-    tally
-}
-
-// The last line.
-fn print_tally(tally: Tally) {
-    print(b"", tally.checks);
-    print(b" checks, ", tally.wrong);
-    io::write_all(1, b" wrong\n");
+    check_plan(tally, sheet)
 }
 
 // Runs the files of standard input, one after another.
@@ -455,5 +468,5 @@ fn main() {
         tally = more;
         at += 2 + size;
     }
-    print_tally(tally);
+    show(b"# checks, # wrong\n", tally.checks, tally.wrong, 0, 0, 0);
 }
