@@ -24,6 +24,7 @@
 // stdin and stdout beside this crate are made by the reference in rust/, by its examples calls_script and run_calls.
 use sheet::Answer;
 use sheet::Compared;
+use sheet::Outcome;
 use sheet::RingAnswer;
 use sheet::Scanned;
 use sheet::Sheet;
@@ -163,29 +164,10 @@ fn print_sheet(sheet: Sheet) {
     io::write_all(1, b"\n");
 }
 
-// Open: the sheet afterwards.
-fn run_open(sheet: Sheet, file: &[u8]) -> Sheet {
-    let outcome = opening::open_file(sheet, file);
+// A call that changes a sheet, behind its name: the sheet afterwards.
+fn print_call(name: &[u8], outcome: Outcome) -> Sheet {
     let answer = outcome.answer;
-    io::write_all(1, b"open");
-    print_answer(answer);
-    outcome.sheet
-}
-
-// Offer: the sheet afterwards.
-fn run_offer(sheet: Sheet, labels: &[u8]) -> Sheet {
-    let outcome = calls::offer(sheet, labels);
-    let answer = outcome.answer;
-    io::write_all(1, b"offer");
-    print_answer(answer);
-    outcome.sheet
-}
-
-// Sweep: the sheet afterwards.
-fn run_sweep(sheet: Sheet) -> Sheet {
-    let outcome = calls::sweep(sheet);
-    let answer = outcome.answer;
-    io::write_all(1, b"sweep");
+    io::write_all(1, name);
     print_answer(answer);
     outcome.sheet
 }
@@ -215,21 +197,12 @@ fn direction_of(argument: &[u8]) -> u8 {
     if argument.len() == 0 { 0 } else { argument[0] }
 }
 
-// Turn, with its list and its direction: the sheet afterwards.
-fn run_list(sheet: Sheet, list: &[u16], direction: u8) -> Sheet {
-    let outcome = calls::turn(sheet, list, direction);
-    let answer = outcome.answer;
-    io::write_all(1, b"turn");
-    print_answer(answer);
-    outcome.sheet
-}
-
 // Turn, with the first numbers of a list: the sheet afterwards.
 fn run_part(sheet: Sheet, list: &[u16], count: usize, direction: u8) -> Sheet {
     if list.len() < count {
         return sheet;
     }
-    run_list(sheet, &list[..count], direction)
+    print_call(b"turn", calls::turn(sheet, &list[..count], direction))
 }
 
 // Turn: the sheet afterwards.
@@ -237,15 +210,6 @@ fn run_turn(sheet: Sheet, argument: &[u8]) -> Sheet {
     let mut list = number_room();
     let count = copy_numbers(&mut list, argument);
     run_part(sheet, &list, count, direction_of(argument))
-}
-
-// Chart: the sheet afterwards.
-fn run_chart(sheet: Sheet) -> Sheet {
-    let outcome = calls::chart(sheet);
-    let answer = outcome.answer;
-    io::write_all(1, b"chart");
-    print_answer(answer);
-    outcome.sheet
 }
 
 // A sheet written into the first bytes of a buffer.
@@ -369,11 +333,11 @@ fn run_fresh() -> Sheet {
 fn run_call(sheet: Sheet, kind: usize, argument: &[u8]) -> Sheet {
     match kind {
         0 => run_fresh(),
-        1 => run_open(sheet, argument),
-        2 => run_offer(sheet, argument),
-        3 => run_sweep(sheet),
+        1 => print_call(b"open", opening::open_file(sheet, argument)),
+        2 => print_call(b"offer", calls::offer(sheet, argument)),
+        3 => print_call(b"sweep", calls::sweep(sheet)),
         4 => run_turn(sheet, argument),
-        _ => run_chart(sheet),
+        _ => print_call(b"chart", calls::chart(sheet)),
     }
 }
 

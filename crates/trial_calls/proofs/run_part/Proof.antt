@@ -7,23 +7,40 @@ use Rattle.trial_calls.proofs.run_part.Statement.{statement}
 use Rattle.trial_calls.proofs.run_part.Tie as tie
 use Rattle.trial_calls.proofs.run_part.Reads as reads
 use Rattle.trial_calls.proofs.run_part.Lts as lts
-use Rattle.trial_calls.proofs.run_list.Reads as run-list-reads
+use Rattle.calls.proofs.turn.Reads as turn-reads
+use Rattle.trial_calls.proofs.print_call.Reads as print-call-reads
 
--- src/main.rt:224:9
+-- src/main.rt:203:9
 returns : tie.Need-returns
 returns c = search needs
 
--- src/main.rt:226:21
-slice-aggregate-run-list : tie.Need-slice-aggregate-run-list
-slice-aggregate-run-list c = let a = c .before .before .before .args in sym (length-take-le (a .count) (a .list .now) (omega arith))
+-- src/main.rt:205:16
+slice-aggregate-print-call : tie.Need-slice-aggregate-print-call
+slice-aggregate-print-call c = search needs
 
--- src/main.rt:226:5
-run-list-requires : tie.Need-run-list-requires
-run-list-requires c κs = search needs
+-- src/main.rt:205:44
+slice-aggregate-turn : tie.Need-slice-aggregate-turn
+slice-aggregate-turn c = let a = c .before .before .before .before .args in sym (length-take-le (a .count) (a .list .now) (omega arith))
 
--- src/main.rt:222:1
+-- src/main.rt:205:25
+turn-requires : tie.Need-turn-requires
+turn-requires c κs = search needs
+
+-- src/main.rt:205:5
+print-call-requires : tie.Need-print-call-requires
+print-call-requires c κs = search needs
+
+-- src/main.rt:201:1
 returns-2 : tie.Need-returns-2
 returns-2 c = search needs
 
 pub run-part-spec : {M : Type 1} → statement M
-run-part-spec = tie.close (tie.spec returns slice-aggregate-run-list run-list-requires returns-2)
+run-part-spec =
+    tie.close
+    (tie.spec
+    returns
+    slice-aggregate-print-call
+    slice-aggregate-turn
+    turn-requires
+    print-call-requires
+    returns-2)

@@ -1,0 +1,57 @@
+-- first_turn is safe and ends.
+use Prim.Native.Nat.{_-_, _≤_}
+use native.Mathlib.Omega.{arith}
+use borrow.Author.Needs.{needs}
+use Rattle.checklist.proofs.first_turn.Statement.{statement}
+use Rattle.checklist.proofs.first_turn.Tie as tie
+use Rattle.checklist.proofs.first_turn.Reads as reads
+use Rattle.checklist.proofs.first_turn.Lts as lts
+use Rattle.checklist.proofs.turns.Reads as turns-reads
+
+abbrev Inv-loop : tie.InvT-loop
+Inv-loop sheet number₀ number = number ≤ 102400
+
+abbrev μ-loop : tie.MeasureT-loop
+μ-loop sheet number₀ number = 102400 - number
+
+-- src/main.rt:297:5
+loop-holds : tie.Need-loop-holds Inv-loop μ-loop
+loop-holds c = search needs
+
+-- src/main.rt:298:12
+turns-requires : tie.Need-turns-requires Inv-loop μ-loop
+turns-requires c κs = search needs
+
+-- src/main.rt:299:13
+returns : tie.Need-returns Inv-loop μ-loop
+returns c = search needs
+
+-- src/main.rt:301:9
+add-number : tie.Need-add-number Inv-loop μ-loop
+add-number c = search needs
+
+-- src/main.rt:297:5
+loop-less : tie.Need-loop-less Inv-loop μ-loop
+loop-less c = search needs
+
+-- src/main.rt:297:5
+loop-again : tie.Need-loop-again Inv-loop μ-loop
+loop-again c = search needs
+
+-- src/main.rt:295:1
+returns-2 : tie.Need-returns-2 Inv-loop μ-loop
+returns-2 c = search needs
+
+pub first-turn-spec : {M : Type 1} → statement M
+first-turn-spec =
+    tie.close
+    (tie.spec
+    Inv-loop
+    μ-loop
+    loop-holds
+    turns-requires
+    returns
+    add-number
+    loop-less
+    loop-again
+    returns-2)

@@ -1,0 +1,472 @@
+// The checklist of an installation. Standard input holds plan files, each behind its length in two bytes, little-endian. For each
+// the program prints a line with its number, its n and what open answers, then a line for each check that applies, with the
+// numbers found, which ends in `ok` or `WRONG`. The last line says how many checks there were and how many were wrong. The checks:
+//
+//    opened   a file without a chart is not drawn yet: its width and height are 0, and same is refused 13 at 0
+//    scan     the three contexts that enclose others, if there are any, are neighbours of each other and no face
+//    drawn    sweep, then chart: CHARTED where chart is accepted; LABELLED where it cannot be drawn, 11; OPEN where there are no labels, 13
+//    areas    every inner face of the chart has a positive doubled area, and they sum to 2wh
+//    turned   the first edge that turns alone, 0 clockwise or 1 counterclockwise: nothing of the chart stands
+//    afresh   drawn again it is the chart of the new labels: as when they are offered to the sheet as it was opened, byte for byte
+//
+// An answer is the number of a refusal and its place: 0 at 0 is accepted, or yes, and 1 at 0 is no. stdin beside this crate is
+// made by tools/checklist_plans.py.
+use sheet::Answer;
+use sheet::Compared;
+use sheet::Outcome;
+use sheet::Scanned;
+use sheet::Sheet;
+use sheet::Written;
+
+// How many checks there were, and how many of them were wrong.
+struct Tally {
+    checks: usize,
+    wrong: usize,
+}
+
+// The inner faces of a chart: how many there are, how many of them are positive, the least and the sum of their doubled areas.
+struct Areas {
+    faces: usize,
+    positive: usize,
+    least: usize,
+    sum: usize,
+}
+
+// Writes a text from an index on, up to its next `#`, and a number in place of that; the index behind it.
+fn show_part(text: &[u8], from: usize, x: usize) -> usize {
+    let mut i = from;
+    while i < text.len() {
+        if lists::byte(text, i) == 35 {
+            io::print_decimal(1, x as u64);
+            return i + 1;
+        }
+        io::write_all(1, framing::ring_part(text, i, 1));
+        i += 1;
+    }
+    i
+}
+
+// Writes a text with these numbers for its `#`s.
+fn show(text: &[u8], a: usize, b: usize, c: usize, d: usize, e: usize) {
+    let after_a = show_part(text, 0, a);
+    let after_b = show_part(text, after_a, b);
+    let after_c = show_part(text, after_b, c);
+    let after_d = show_part(text, after_c, d);
+    let after_e = show_part(text, after_d, e);
+    show_part(text, after_e, 0);
+}
+
+// The end of a check's line; the tally with it.
+fn judge(tally: Tally, right: bool) -> Tally {
+    let checks = std::num::wrapping_add_usize(tally.checks, 1);
+    let wrong = tally.wrong;
+    if right {
+        io::write_all(1, b": ok\n");
+        return Tally { checks, wrong };
+    }
+    io::write_all(1, b": WRONG\n");
+    Tally {
+        checks,
+        wrong: std::num::wrapping_add_usize(wrong, 1),
+    }
+}
+
+// A refusal as a number: its own, and 256 times its place.
+fn refusal(number: u8, place: usize) -> usize {
+    lists::wide_byte(number) + place % 65536 * 256
+}
+
+// What a call that changes a sheet answers, as a number: 0 is accepted.
+fn answer_of(outcome: Outcome) -> usize {
+    let answer = outcome.answer;
+    match answer {
+        Answer::Accepted => 0,
+        Answer::Refused(number, place) => refusal(number, place),
+    }
+}
+
+// What same answers, as a number: 0 is yes, 1 is no.
+fn same_of(a: Sheet, b: Sheet) -> usize {
+    let compared = reports::same(a, b);
+    match compared {
+        Compared::Same => 0,
+        Compared::Different => 1,
+        Compared::Refused(number, place) => refusal(number, place),
+    }
+}
+
+// The number of a sheet's stage.
+fn stage_of(sheet: Sheet) -> usize {
+    sheet::rank_of(sheet::stage_of(sheet))
+}
+
+// Writes a sheet's stage, width and height; the number of the stage.
+fn show_sheet(sheet: Sheet) -> usize {
+    let stage = stage_of(sheet);
+    let names = b"EMPTY    OPEN     LABELLED CHARTED  ";
+    io::write_all(1, framing::ring_part(names, stage % 4 * 9, 9));
+    show(
+        b"#x#",
+        lists::wide_word(sheet.w),
+        lists::wide_word(sheet.h),
+        0,
+        0,
+        0,
+    );
+    stage
+}
+
+// The check that a sheet has no chart.
+fn check_undrawn(tally: Tally, sheet: Sheet) -> Tally {
+    show_sheet(sheet);
+    let same = same_of(sheet, sheet);
+    show(b", same # at #", same % 256, same / 256, 0, 0, 0);
+    if sheet.w != 0 {
+        return judge(tally, false);
+    }
+    if sheet.h != 0 {
+        return judge(tally, false);
+    }
+    judge(tally, same == 13)
+}
+
+// The context after v on the face of the dart from u to v; 256 where v is no neighbour of u.
+fn third_in<'a>(
+    starts: &'a [u16],
+    sizes: &'a [u8],
+    entries: &'a [u16],
+    n: usize,
+    u: usize,
+    v: usize,
+) -> usize {
+    if rings::is_adjacent(starts, sizes, entries, n, u, v) {
+        return rings::next_of(starts, sizes, entries, n, v, u);
+    }
+    256
+}
+
+// The same in the plan of a sheet.
+fn third_of(sheet: Sheet, u: usize, v: usize) -> usize {
+    let sizes = sheet.sizes;
+    let entries = sheet.entries;
+    let starts = rings::starts_of(&sizes);
+    third_in(&starts, &sizes, &entries, lists::wide_word(sheet.n), u, v)
+}
+
+// Are three contexts neighbours of each other, and no face?
+fn encloses(sheet: Sheet, a: usize, b: usize, c: usize) -> bool {
+    let after = third_of(sheet, a, b);
+    if after == c {
+        return false;
+    }
+    if third_of(sheet, b, a) == c {
+        return false;
+    }
+    if third_of(sheet, b, c) == 256 {
+        return false;
+    }
+    if third_of(sheet, c, a) == 256 {
+        return false;
+    }
+    after != 256
+}
+
+// The check of scan.
+fn check_scan(tally: Tally, sheet: Sheet) -> Tally {
+    let scanned = reports::scan(sheet);
+    match scanned {
+        Scanned::Triple(a, b, c) => {
+            show(b"  scan: #,#,#", a, b, c, 0, 0);
+            judge(tally, encloses(sheet, a, b, c))
+        }
+        Scanned::Nothing => {
+            io::write_all(1, b"  scan: none");
+            judge(tally, true)
+        }
+        Scanned::Refused(_, _) => judge(tally, false),
+    }
+}
+
+// What chart must have answered where it leaves a stage.
+fn chart_due(stage: usize) -> usize {
+    match stage {
+        3 => 0,
+        2 => 11,
+        _ => 13,
+    }
+}
+
+// The check of sweep and chart.
+fn check_drawn(tally: Tally, swept: usize, charted: usize, sheet: Sheet) -> Tally {
+    io::write_all(1, b"  drawn: ");
+    let stage = show_sheet(sheet);
+    show(
+        b", sweep # at #, chart # at #",
+        swept % 256,
+        swept / 256,
+        charted % 256,
+        charted / 256,
+        0,
+    );
+    judge(tally, charted == chart_due(stage))
+}
+
+// A number, or 0 where it is negative.
+fn positive_part(area: i64) -> usize {
+    if 0 <= area { area as usize } else { 0 }
+}
+
+// The areas with one more face.
+fn with_area(areas: Areas, area: usize) -> Areas {
+    Areas {
+        faces: std::num::wrapping_add_usize(areas.faces, 1),
+        positive: std::num::wrapping_add_usize(areas.positive, lists::lesser(area, 1)),
+        least: lists::lesser(areas.least, area),
+        sum: std::num::wrapping_add_usize(areas.sum, area),
+    }
+}
+
+// The areas with the face u, v, w of a sheet's chart.
+fn with_face(areas: Areas, sheet: Sheet, u: usize, v: usize, w: usize) -> Areas {
+    let xs = sheet.xs;
+    let ys = sheet.ys;
+    with_area(areas, positive_part(areas::area_of(&xs, &ys, u, v, w)))
+}
+
+// The areas with the inner face that the dart from u to v is on, where u is its lowest context.
+fn with_dart(areas: Areas, sheet: Sheet, u: usize, v: usize) -> Areas {
+    if v <= u {
+        return areas;
+    }
+    if faces::is_outer(u, v) {
+        return areas;
+    }
+    let w = third_of(sheet, u, v);
+    if w <= u {
+        return areas;
+    }
+    if w == 256 {
+        return areas;
+    }
+    with_face(areas, sheet, u, v, w)
+}
+
+// The areas of the inner faces of a sheet's chart, each pair of contexts tried as a dart.
+fn areas_of(sheet: Sheet) -> Areas {
+    let mut areas = Areas {
+        faces: 0,
+        positive: 0,
+        least: 4294967296,
+        sum: 0,
+    };
+    let mut dart = 0;
+    while dart < 65536 {
+        let more = with_dart(areas, sheet, dart / 256, dart % 256);
+        areas = more;
+        dart += 1;
+    }
+    areas
+}
+
+// The doubled area of a rectangle.
+fn doubled(w: u16, h: u16) -> usize {
+    2 * lists::wide_word(w) * lists::wide_word(h)
+}
+
+// The check of the areas.
+fn check_areas(tally: Tally, sheet: Sheet) -> Tally {
+    let areas = areas_of(sheet);
+    let whole = doubled(sheet.w, sheet.h);
+    show(
+        b"  areas: faces #, positive #, least #, sum #, 2wh #",
+        areas.faces,
+        areas.positive,
+        areas.least,
+        areas.sum,
+        whole,
+    );
+    if areas.positive != areas.faces {
+        return judge(tally, false);
+    }
+    judge(tally, areas.sum == whole)
+}
+
+// The turn with this number: of the edge from u to v in a direction it is 512u + 2v + direction.
+fn turn_by(sheet: Sheet, number: usize) -> Outcome {
+    let mut edge = [0u16; 2];
+    edge[0] = (number / 512 % 256) as u16;
+    edge[1] = (number / 2 % 256) as u16;
+    calls::turn(sheet, &edge, (number % 2) as u8)
+}
+
+// Does the turn with this number turn an edge from its lower context?
+fn turns(sheet: Sheet, number: usize) -> bool {
+    if number / 2 % 256 <= number / 512 {
+        return false;
+    }
+    let outcome = turn_by(sheet, number);
+    answer_of(outcome) == 0
+}
+
+// The number of the first turn of one edge that is accepted; 102400 if there is none.
+fn first_turn(sheet: Sheet) -> usize {
+    let mut number = 0;
+    while number < 102400 {
+        if turns(sheet, number) {
+            return number;
+        }
+        number += 1;
+    }
+    number
+}
+
+// A sheet's file in a buffer; its length.
+fn write_into(sheet: Sheet, out: &mut [u8]) -> usize {
+    let written = reports::write(sheet, out);
+    match written {
+        Written::Length(k) => k,
+        Written::Refused(_, _) => 0,
+    }
+}
+
+// How many of the first k bytes are the same in both, up to the first that differs.
+fn same_bytes<'a>(a: &'a [u8], b: &'a [u8], k: usize) -> usize {
+    let mut i = 0;
+    while i < k {
+        if lists::byte(a, i) != lists::byte(b, i) {
+            return i;
+        }
+        i += 1;
+    }
+    i
+}
+
+// The check that two sheets have the same chart and the same file.
+fn check_same(tally: Tally, a: Sheet, b: Sheet) -> Tally {
+    let mut one = io::large_buffer();
+    let size = write_into(a, &mut one);
+    let mut other = io::large_buffer();
+    let size_other = write_into(b, &mut other);
+    let equal = same_bytes(&one, &other, size);
+    let same = same_of(a, b);
+    show(
+        b"same # at #, bytes # and #, equal #",
+        same % 256,
+        same / 256,
+        size,
+        size_other,
+        equal,
+    );
+    if size != size_other {
+        return judge(tally, false);
+    }
+    if equal != size {
+        return judge(tally, false);
+    }
+    judge(tally, same == 0)
+}
+
+// The labels of a sheet offered to another one, and charted.
+fn drawn_anew(opened: Sheet, sheet: Sheet) -> Sheet {
+    let labels = sheet.labels;
+    let count = lists::minus(6 * lists::wide_word(sheet.n), 14);
+    let offered = calls::offer(opened, framing::ring_part(&labels, 0, count));
+    let charted = calls::chart(offered.sheet);
+    charted.sheet
+}
+
+// The check of the chart that is drawn after a turn, behind the one before it.
+fn check_afresh(tally: Tally, opened: Sheet, old: Sheet, turned: Sheet) -> Tally {
+    let charted = calls::chart(turned);
+    let new = charted.sheet;
+    show(
+        b"  afresh: #x# before, #x# after, ",
+        lists::wide_word(old.w),
+        lists::wide_word(old.h),
+        lists::wide_word(new.w),
+        lists::wide_word(new.h),
+        0,
+    );
+    check_same(tally, new, drawn_anew(opened, turned))
+}
+
+// The checks of a turn of a part of a chart.
+fn check_turn(tally: Tally, opened: Sheet, sheet: Sheet) -> Tally {
+    let number = first_turn(sheet);
+    if number == 102400 {
+        io::write_all(1, b"  turned: no edge turns alone");
+        return judge(tally, true);
+    }
+    let outcome = turn_by(sheet, number);
+    let turned = outcome.sheet;
+    show(
+        b"  turned: edge #,# direction #, ",
+        number / 512,
+        number / 2 % 256,
+        number % 2,
+        0,
+        0,
+    );
+    check_afresh(check_undrawn(tally, turned), opened, sheet, turned)
+}
+
+// The check of a sheet as a file opens it, where that has no chart.
+fn check_opened(tally: Tally, sheet: Sheet) -> Tally {
+    if stage_of(sheet) == 3 {
+        return tally;
+    }
+    io::write_all(1, b"  opened: ");
+    check_undrawn(tally, sheet)
+}
+
+// The checks of a plan.
+fn check_plan(tally: Tally, sheet: Sheet) -> Tally {
+    let before = check_scan(check_opened(tally, sheet), sheet);
+    let swept = calls::sweep(sheet);
+    let charted = calls::chart(swept.sheet);
+    let drawn = charted.sheet;
+    let after = check_drawn(before, answer_of(swept), answer_of(charted), drawn);
+    if stage_of(drawn) != 3 {
+        return after;
+    }
+    check_turn(check_areas(after, drawn), sheet, drawn)
+}
+
+// A file: its number, its n, what open answers, and the checks where it is accepted.
+fn check_file(tally: Tally, number: usize, file: &[u8]) -> Tally {
+    let outcome = opening::open_file(sheet::fresh_sheet(), file);
+    let answer = answer_of(outcome);
+    let sheet = outcome.sheet;
+    show(
+        b"plan #: n #, open # at #\n",
+        number,
+        lists::wide_word(sheet.n),
+        answer % 256,
+        answer / 256,
+        0,
+    );
+    if answer != 0 {
+        return tally;
+    }
+    check_plan(tally, sheet)
+}
+
+// Runs the files of standard input, one after another.
+fn main() {
+    let mut space = io::large_buffer();
+    let got = io::read_full(0, &mut space);
+    let mut tally = Tally {
+        checks: 0,
+        wrong: 0,
+    };
+    let mut number = 0;
+    let mut at = 0;
+    while at < got {
+        let size = lists::word_at(&space, at);
+        number = std::num::wrapping_add_usize(number, 1);
+        let more = check_file(tally, number, framing::ring_part(&space, at + 2, size));
+        tally = more;
+        at += 2 + size;
+    }
+    show(b"# checks, # wrong\n", tally.checks, tally.wrong, 0, 0, 0);
+}
