@@ -32,30 +32,6 @@ struct Areas {
     sum: usize,
 }
 
-// Writes a text from an index on, up to its next `#`, and a number in place of that; the index behind it.
-fn show_part(text: &[u8], from: usize, x: usize) -> usize {
-    let mut i = from;
-    while i < text.len() {
-        if lists::byte(text, i) == 35 {
-            io::print_decimal(1, x as u64);
-            return i + 1;
-        }
-        io::write_all(1, framing::ring_part(text, i, 1));
-        i += 1;
-    }
-    i
-}
-
-// Writes a text with these numbers for its `#`s.
-fn show(text: &[u8], a: usize, b: usize, c: usize, d: usize, e: usize) {
-    let after_a = show_part(text, 0, a);
-    let after_b = show_part(text, after_a, b);
-    let after_c = show_part(text, after_b, c);
-    let after_d = show_part(text, after_c, d);
-    let after_e = show_part(text, after_d, e);
-    show_part(text, after_e, 0);
-}
-
 // The end of a check's line; the tally with it.
 fn judge(tally: Tally, right: bool) -> Tally {
     let checks = std::num::wrapping_add_usize(tally.checks, 1);
@@ -105,7 +81,7 @@ fn show_sheet(sheet: Sheet) -> usize {
     let stage = stage_of(sheet);
     let names = b"EMPTY    OPEN     LABELLED CHARTED  ";
     io::write_all(1, framing::ring_part(names, stage % 4 * 9, 9));
-    show(
+    console::show(
         b"#x#",
         lists::wide_word(sheet.w),
         lists::wide_word(sheet.h),
@@ -120,7 +96,7 @@ fn show_sheet(sheet: Sheet) -> usize {
 fn check_undrawn(tally: Tally, sheet: Sheet) -> Tally {
     show_sheet(sheet);
     let same = same_of(sheet, sheet);
-    show(b", same # at #", same % 256, same / 256, 0, 0, 0);
+    console::show(b", same # at #", same % 256, same / 256, 0, 0, 0);
     if sheet.w != 0 {
         return judge(tally, false);
     }
@@ -176,7 +152,7 @@ fn check_scan(tally: Tally, sheet: Sheet) -> Tally {
     let scanned = reports::scan(sheet);
     match scanned {
         Scanned::Triple(a, b, c) => {
-            show(b"  scan: #,#,#", a, b, c, 0, 0);
+            console::show(b"  scan: #,#,#", a, b, c, 0, 0);
             judge(tally, encloses(sheet, a, b, c))
         }
         Scanned::Nothing => {
@@ -200,7 +176,7 @@ fn chart_due(stage: usize) -> usize {
 fn check_drawn(tally: Tally, swept: usize, charted: usize, sheet: Sheet) -> Tally {
     io::write_all(1, b"  drawn: ");
     let stage = show_sheet(sheet);
-    show(
+    console::show(
         b", sweep # at #, chart # at #",
         swept % 256,
         swept / 256,
@@ -277,7 +253,7 @@ fn doubled(w: u16, h: u16) -> usize {
 fn check_areas(tally: Tally, sheet: Sheet) -> Tally {
     let areas = areas_of(sheet);
     let whole = doubled(sheet.w, sheet.h);
-    show(
+    console::show(
         b"  areas: faces #, positive #, least #, sum #, 2wh #",
         areas.faces,
         areas.positive,
@@ -349,7 +325,7 @@ fn check_same(tally: Tally, a: Sheet, b: Sheet) -> Tally {
     let size_other = write_into(b, &mut other);
     let equal = same_bytes(&one, &other, size);
     let same = same_of(a, b);
-    show(
+    console::show(
         b"same # at #, bytes # and #, equal #",
         same % 256,
         same / 256,
@@ -379,7 +355,7 @@ fn drawn_anew(opened: Sheet, sheet: Sheet) -> Sheet {
 fn check_afresh(tally: Tally, opened: Sheet, old: Sheet, turned: Sheet) -> Tally {
     let charted = calls::chart(turned);
     let new = charted.sheet;
-    show(
+    console::show(
         b"  afresh: #x# before, #x# after, ",
         lists::wide_word(old.w),
         lists::wide_word(old.h),
@@ -399,7 +375,7 @@ fn check_turn(tally: Tally, opened: Sheet, sheet: Sheet) -> Tally {
     }
     let outcome = turn_by(sheet, number);
     let turned = outcome.sheet;
-    show(
+    console::show(
         b"  turned: edge #,# direction #, ",
         number / 512,
         number / 2 % 256,
@@ -437,7 +413,7 @@ fn check_file(tally: Tally, number: usize, file: &[u8]) -> Tally {
     let outcome = opening::open_file(sheet::fresh_sheet(), file);
     let answer = answer_of(outcome);
     let sheet = outcome.sheet;
-    show(
+    console::show(
         b"plan #: n #, open # at #\n",
         number,
         lists::wide_word(sheet.n),
@@ -468,5 +444,5 @@ fn main() {
         tally = more;
         at += 2 + size;
     }
-    show(b"# checks, # wrong\n", tally.checks, tally.wrong, 0, 0, 0);
+    console::show(b"# checks, # wrong\n", tally.checks, tally.wrong, 0, 0, 0);
 }
