@@ -50,7 +50,9 @@ pub fn sweep_labels<'a>(sizes: &'a [u8], entries: &'a [u16], n: usize) -> Swept
         return bare(SweepAnswer::Unfit);
     }
     let starts = rings::starts_of(sizes);
-    let ended = step::run(&starts, sizes, entries, n);
+    let mut places = [0u8; 40000];
+    places::fill(&mut places, &starts, sizes, entries, n);
+    let ended = step::run(&places, &starts, sizes, entries, n);
     let labels = ended.labels;
     if !ended.finished {
         return bare(SweepAnswer::Stuck);

@@ -7,11 +7,13 @@ ghost use Rattle.lists.specs.Spans.{span};
 ghost use Rattle.model.specs.Labels.{up, right, put, turned};
 ghost use Rattle.model.specs.Sweep.{labelEdges, product};
 ghost use Rattle.rings.specs.Tables.{startsOf, rows};
+ghost use Rattle.places.specs.Places.{placesOf};
 ghost use Rattle.sweep.specs.Run as run;
 
 // Puts l on the dart from u to v, if there is one.
 fn put_on<'a>(
     labels: &mut [u8],
+    places: &'a [u8],
     starts: &'a [u16],
     sizes: &'a [u8],
     entries: &'a [u16],
@@ -22,9 +24,10 @@ fn put_on<'a>(
 )
     requires { ⌜ now starts ≡ startsOf (now sizes) ⌝ }
     requires { ⌜ n ≤ 200 ⌝ }
+    requires { ⌜ now places ≡ placesOf (rows (now starts) (now sizes) (now entries) n) ⌝ }
     ensures { λ r. ⌜ now (labels .exit) ≡ put (rows (now (starts .entry)) (now (sizes .entry)) (now (entries .entry)) n) u v l (now (labels .entry)) ⌝ }
 {
-    let i = rings::index_of(starts, sizes, entries, n, u, v);
+    let i = places::index_by(places, starts, sizes, entries, n, u, v);
     if i < rings::size_of(sizes, n, u) {
         lists::set_byte(labels, lists::num(starts, u) + i, l);
     }
@@ -33,6 +36,7 @@ fn put_on<'a>(
 // Puts l on the dart from u to v, and its opposite on the reverse.
 fn edge<'a>(
     labels: &mut [u8],
+    places: &'a [u8],
     starts: &'a [u16],
     sizes: &'a [u8],
     entries: &'a [u16],
@@ -43,16 +47,18 @@ fn edge<'a>(
 )
     requires { ⌜ now starts ≡ startsOf (now sizes) ⌝ }
     requires { ⌜ n ≤ 200 ⌝ }
+    requires { ⌜ now places ≡ placesOf (rows (now starts) (now sizes) (now entries) n) ⌝ }
     requires { ⌜ l < 4 ⌝ }
     ensures { λ r. ⌜ now (labels .exit) ≡ run.edge (rows (now (starts .entry)) (now (sizes .entry)) (now (entries .entry)) n) l u v (now (labels .entry)) ⌝ }
 {
-    put_on(labels, starts, sizes, entries, n, (l + 2) % 4, v, u);
-    put_on(labels, starts, sizes, entries, n, l, u, v);
+    put_on(labels, places, starts, sizes, entries, n, (l + 2) % 4, v, u);
+    put_on(labels, places, starts, sizes, entries, n, l, u, v);
 }
 
 // Puts up on the darts from positions a to e - 1 of f to North.
 pub(crate) fn to_north<'a>(
     labels: &mut [u8],
+    places: &'a [u8],
     starts: &'a [u16],
     sizes: &'a [u8],
     entries: &'a [u16],
@@ -63,11 +69,22 @@ pub(crate) fn to_north<'a>(
 )
     requires { ⌜ now starts ≡ startsOf (now sizes) ⌝ }
     requires { ⌜ n ≤ 200 ⌝ }
+    requires { ⌜ now places ≡ placesOf (rows (now starts) (now sizes) (now entries) n) ⌝ }
     ensures { λ r. ⌜ now (labels .exit) ≡ labelEdges (rows (now (starts .entry)) (now (sizes .entry)) (now (entries .entry)) n) up (product (span (now (f .entry)) a e) (0 ∷ [])) (now (labels .entry)) ⌝ }
 {
     let mut k = a;
     while k < e {
-        edge(labels, starts, sizes, entries, n, 0, lists::num(f, k), 0);
+        edge(
+            labels,
+            places,
+            starts,
+            sizes,
+            entries,
+            n,
+            0,
+            lists::num(f, k),
+            0,
+        );
         k += 1;
     }
 }
@@ -75,6 +92,7 @@ pub(crate) fn to_north<'a>(
 // Puts up on the darts from u to positions a to e - 1 of f.
 pub(crate) fn from_one<'a>(
     labels: &mut [u8],
+    places: &'a [u8],
     starts: &'a [u16],
     sizes: &'a [u8],
     entries: &'a [u16],
@@ -86,11 +104,22 @@ pub(crate) fn from_one<'a>(
 )
     requires { ⌜ now starts ≡ startsOf (now sizes) ⌝ }
     requires { ⌜ n ≤ 200 ⌝ }
+    requires { ⌜ now places ≡ placesOf (rows (now starts) (now sizes) (now entries) n) ⌝ }
     ensures { λ r. ⌜ now (labels .exit) ≡ labelEdges (rows (now (starts .entry)) (now (sizes .entry)) (now (entries .entry)) n) up (run.fan u (span (now (f .entry)) a e)) (now (labels .entry)) ⌝ }
 {
     let mut k = a;
     while k < e {
-        edge(labels, starts, sizes, entries, n, 0, u, lists::num(f, k));
+        edge(
+            labels,
+            places,
+            starts,
+            sizes,
+            entries,
+            n,
+            0,
+            u,
+            lists::num(f, k),
+        );
         k += 1;
     }
 }
@@ -98,6 +127,7 @@ pub(crate) fn from_one<'a>(
 // Puts up on the darts from the first m of g to positions a to e - 1 of f.
 pub(crate) fn from_all<'a>(
     labels: &mut [u8],
+    places: &'a [u8],
     starts: &'a [u16],
     sizes: &'a [u8],
     entries: &'a [u16],
@@ -110,11 +140,23 @@ pub(crate) fn from_all<'a>(
 )
     requires { ⌜ now starts ≡ startsOf (now sizes) ⌝ }
     requires { ⌜ n ≤ 200 ⌝ }
+    requires { ⌜ now places ≡ placesOf (rows (now starts) (now sizes) (now entries) n) ⌝ }
     ensures { λ r. ⌜ now (labels .exit) ≡ labelEdges (rows (now (starts .entry)) (now (sizes .entry)) (now (entries .entry)) n) up (product (span (now (g .entry)) 0 m) (span (now (f .entry)) a e)) (now (labels .entry)) ⌝ }
 {
     let mut k = 0;
     while k < m {
-        from_one(labels, starts, sizes, entries, n, lists::num(g, k), f, a, e);
+        from_one(
+            labels,
+            places,
+            starts,
+            sizes,
+            entries,
+            n,
+            lists::num(g, k),
+            f,
+            a,
+            e,
+        );
         k += 1;
     }
 }
@@ -122,6 +164,7 @@ pub(crate) fn from_all<'a>(
 // Puts right on the edges along positions i to e - 1 of f.
 pub(crate) fn along<'a>(
     labels: &mut [u8],
+    places: &'a [u8],
     starts: &'a [u16],
     sizes: &'a [u8],
     entries: &'a [u16],
@@ -132,6 +175,7 @@ pub(crate) fn along<'a>(
 )
     requires { ⌜ now starts ≡ startsOf (now sizes) ⌝ }
     requires { ⌜ n ≤ 200 ⌝ }
+    requires { ⌜ now places ≡ placesOf (rows (now starts) (now sizes) (now entries) n) ⌝ }
     ensures { λ r. ⌜ now (labels .exit) ≡ labelEdges (rows (now (starts .entry)) (now (sizes .entry)) (now (entries .entry)) n) right (steps (span (now (f .entry)) i e)) (now (labels .entry)) ⌝ }
 {
     let last = lists::minus(e, 1);
@@ -139,6 +183,7 @@ pub(crate) fn along<'a>(
     while k < last {
         edge(
             labels,
+            places,
             starts,
             sizes,
             entries,

@@ -12,6 +12,7 @@ ghost use Rattle.rings.specs.Tables.{startsOf, rows};
 ghost use Rattle.fit.specs.Fits.{fit};
 ghost use Rattle.frontier.specs.Run.{unfinished};
 ghost use Rattle.pairs.specs.Run.{listing, replaced};
+ghost use Rattle.places.specs.Places.{placesOf};
 ghost use Rattle.sweep.specs.Run as run;
 use crate::Ended;
 use choice::Found;
@@ -20,6 +21,7 @@ use frontier::Line;
 // Puts the labels of a step that puts the list g in place of positions i + 1 to j - 1 of the frontier f.
 fn step_labels<'a>(
     labels: &mut [u8],
+    places: &'a [u8],
     starts: &'a [u16],
     sizes: &'a [u8],
     entries: &'a [u16],
@@ -31,18 +33,32 @@ fn step_labels<'a>(
 )
     requires { ⌜ now starts ≡ startsOf (now sizes) ⌝ }
     requires { ⌜ n ≤ 200 ⌝ }
+    requires { ⌜ now places ≡ placesOf (rows (now starts) (now sizes) (now entries) n) ⌝ }
     requires { ⌜ i < 512 ⌝ }
     requires { ⌜ j < 512 ⌝ }
     ensures { λ r. ⌜ now (labels .exit) ≡ run.stepLabels (rows (now (starts .entry)) (now (sizes .entry)) (now (entries .entry)) n) (now (f .entry)) g i j (now (labels .entry)) ⌝ }
 {
     let l = g.at;
-    crate::mark::from_all(labels, starts, sizes, entries, n, &l, g.len, f, i + 1, j);
-    crate::mark::along(labels, starts, sizes, entries, n, f, i, j + 1);
+    crate::mark::from_all(
+        labels,
+        places,
+        starts,
+        sizes,
+        entries,
+        n,
+        &l,
+        g.len,
+        f,
+        i + 1,
+        j,
+    );
+    crate::mark::along(labels, places, starts, sizes, entries, n, f, i, j + 1);
 }
 
 // Puts the labels of a sweep finished with the frontier f of m contexts: up from South, right along the frontier.
 fn finish_labels<'a>(
     labels: &mut [u8],
+    places: &'a [u8],
     starts: &'a [u16],
     sizes: &'a [u8],
     entries: &'a [u16],
@@ -52,15 +68,17 @@ fn finish_labels<'a>(
 )
     requires { ⌜ now starts ≡ startsOf (now sizes) ⌝ }
     requires { ⌜ n ≤ 200 ⌝ }
+    requires { ⌜ now places ≡ placesOf (rows (now starts) (now sizes) (now entries) n) ⌝ }
     ensures { λ r. ⌜ now (labels .exit) ≡ run.finishLabels (rows (now (starts .entry)) (now (sizes .entry)) (now (entries .entry)) n) (now (f .entry)) m (now (labels .entry)) ⌝ }
 {
     let last = lists::minus(m, 1);
-    crate::mark::from_one(labels, starts, sizes, entries, n, 2, f, 1, last);
-    crate::mark::along(labels, starts, sizes, entries, n, f, 0, m);
+    crate::mark::from_one(labels, places, starts, sizes, entries, n, 2, f, 1, last);
+    crate::mark::along(labels, places, starts, sizes, entries, n, f, 0, m);
 }
 
 // The first labels, for the first frontier f of m contexts: bare, and up on the darts to North.
 fn first_labels<'a>(
+    places: &'a [u8],
     starts: &'a [u16],
     sizes: &'a [u8],
     entries: &'a [u16],
@@ -70,11 +88,12 @@ fn first_labels<'a>(
 ) -> [u8; 1186]
     requires { ⌜ now starts ≡ startsOf (now sizes) ⌝ }
     requires { ⌜ fit (rows (now starts) (now sizes) (now entries) n) ≡ true ⌝ }
+    requires { ⌜ now places ≡ placesOf (rows (now starts) (now sizes) (now entries) n) ⌝ }
     ensures { λ r. ⌜ r ≡ run.firstLabels (rows (now (starts .entry)) (now (sizes .entry)) (now (entries .entry)) n) (now (f .entry)) m ⌝ }
 {
     let mut labels = crate::first::bare_labels(starts, sizes, entries, n);
     let last = lists::minus(m, 1);
-    crate::mark::to_north(&mut labels, starts, sizes, entries, n, f, 1, last);
+    crate::mark::to_north(&mut labels, places, starts, sizes, entries, n, f, 1, last);
     labels
 }
 
@@ -89,19 +108,26 @@ fn stuck() -> Ended
 }
 
 // The steps of the sweep, at most n of them.
-pub(crate) fn run<'a>(starts: &'a [u16], sizes: &'a [u8], entries: &'a [u16], n: usize) -> Ended
+pub(crate) fn run<'a>(
+    places: &'a [u8],
+    starts: &'a [u16],
+    sizes: &'a [u8],
+    entries: &'a [u16],
+    n: usize,
+) -> Ended
     requires { ⌜ now starts ≡ startsOf (now sizes) ⌝ }
     requires { ⌜ fit (rows (now starts) (now sizes) (now entries) n) ≡ true ⌝ }
+    requires { ⌜ now places ≡ placesOf (rows (now starts) (now sizes) (now entries) n) ⌝ }
     ensures { λ r. ⌜ r ≡ run.endedAs (run.swept (rows (now (starts .entry)) (now (sizes .entry)) (now (entries .entry)) n)) ⌝ }
 {
     let mut v = frontier::first::first_line(starts, sizes, entries, n);
     let first = v.at;
-    let mut labels = first_labels(starts, sizes, entries, n, &first, v.len);
+    let mut labels = first_labels(places, starts, sizes, entries, n, &first, v.len);
     let mut k = n;
     while k > 0 {
         let f = v.at;
         if !frontier::below::is_unfinished(starts, sizes, entries, n, &f, v.len) {
-            finish_labels(&mut labels, starts, sizes, entries, n, &f, v.len);
+            finish_labels(&mut labels, places, starts, sizes, entries, n, &f, v.len);
             return Ended {
                 finished: true,
                 labels,
@@ -113,7 +139,7 @@ pub(crate) fn run<'a>(starts: &'a [u16], sizes: &'a [u8], entries: &'a [u16], n:
         };
         let marks = v.marks;
         let g = pairs::list::listed(starts, sizes, entries, n, &f, marks, i + 1, j);
-        step_labels(&mut labels, starts, sizes, entries, n, &f, g, i, j);
+        step_labels(&mut labels, places, starts, sizes, entries, n, &f, g, i, j);
         v = pairs::list::replaced(&f, v.len, i + 1, j, g);
         k -= 1;
     }
