@@ -1,5 +1,5 @@
 -- What the test of a plan says: where it fails, and what holds of a plan that fits.
-use Prim.Native.Nat.{ℕ, zero, suc, _-_, _≤_, _<_}
+use Prim.Native.Nat.{ℕ, zero, suc, _-_, _≤_, _<_, min}
 use mathlib.Core.Path.{_≡_, refl, sym, ap, _∙_}
 use mathlib.Core.List.{List, [], _∷_, _++_, List·Memᴰ}
 use mathlib.Core.Bool.{Bool, true, false, not, _&&_, _||_}
@@ -29,6 +29,10 @@ pub none-each : (f : ℕ → Bool) (rs : List (List ℕ)) → any f (concat rs) 
 none-each f [] h u = refl
 none-each f (r ∷ rs) h zero = or-no (any f r) (any f (concat rs)) (sym (any-append f r (concat rs)) ∙ h) .0
 none-each f (r ∷ rs) h (suc u) = none-each f rs (or-no (any f r) (any f (concat rs)) (sym (any-append f r (concat rs)) ∙ h) .1) u
+
+-- of at most 200 rings all are counted
+pub all-counted : (sizes : List ℕ) {n k : ℕ} → n ≤ 200 → k ≡ startOf sizes (min n 200) → k ≡ startOf sizes n
+all-counted sizes {n} h e = e ∙ ap (startOf sizes) (omega arith)
 
 -- ---- the test
 module _ (sizes es : List ℕ) (n : ℕ) where

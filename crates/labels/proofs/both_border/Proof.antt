@@ -6,7 +6,7 @@ use Rattle.labels.proofs.both_border.Statement.{statement}
 use Rattle.labels.proofs.both_border.Tie as tie
 
 returns : tie.Need-returns
-returns c = sym (rw (lt-ltb (c .before .args .u) 4 (c .if1 .taken)))
+returns c = sym (rw (lt-ltb (c .before .args .u) 4 (omega arith)))
 
 returns-2 : tie.Need-returns-2
 returns-2 c = sym (rw (le-ltb (c .before .args .u) 4 (omega arith)))
