@@ -147,10 +147,7 @@ pub fn turn_labels<'a>(
     ensures answer { λ r. ⌜ outcomeOf (r .answer) (labelsIn (now (sizes .entry)) n (r .labels)) ≡ turnOf (now (sizes .entry)) (now (entries .entry)) n labels (now (items .entry)) direction ⌝ }
     ensures labels { λ r. ⌜ r .labels ≡ arrayAfter labels (turnOf (now (sizes .entry)) (now (entries .entry)) n labels (now (items .entry)) direction) ⌝ }
 {
-    if 200 < n {
-        return kept(TurnAnswer::Unfit, labels);
-    }
-    if 1186 < fit::total_of(sizes, n) {
+    if !fit::is_in_bounds(sizes, n) {
         return kept(TurnAnswer::Unfit, labels);
     }
     let starts = rings::starts_of(sizes);
