@@ -4,7 +4,7 @@ ghost use Prim.Native.Nat.{min, _<_, _^_};
 ghost use lib.Dec.{leb};
 ghost use Rattle.lists.specs.Tests.{any};
 ghost use Rattle.lists.specs.Spans.{span};
-ghost use Rattle.rings.specs.Tables.{startOf, table};
+ghost use Rattle.rings.specs.Tables.{startOf, table, inBounds};
 ghost use Rattle.fit.specs.Fits.{strange, fit};
 
 // How many entries the first n rings have; of more than 200 rings, the first 200.
@@ -20,6 +20,13 @@ pub fn total_of(sizes: &[u8], n: usize) -> usize
         u += 1;
     }
     sum
+}
+
+// Do the rings fit the arrays: at most 200 of them, with at most 1186 entries?
+pub fn is_in_bounds(sizes: &[u8], n: usize) -> bool
+    ensures { λ r. ⌜ r ≡ inBounds (now (sizes .entry)) n ⌝ }
+{
+    n <= 200 && total_of(sizes, n) <= 1186
 }
 
 // Does one of the first k entries name no context below n?

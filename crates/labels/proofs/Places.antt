@@ -1,7 +1,7 @@
 -- Where the labels of a ring stand in a flat array, and what the model says of them there.
 use Prim.Native.Nat.{ℕ, zero, suc, _+_, _-_, _%_, _≤_, _<_, min}
 use mathlib.Core.Path.{_≡_, refl, sym, ap, _∙_}
-use mathlib.Core.List.{List, [], _∷_, _++_, map}
+use mathlib.Core.List.{List, [], _∷_, map}
 use mathlib.Core.Bool.{Bool, true, false, cond}
 use native.Mathlib.Omega.{arith}
 use lib.ListN.{length, getD, set, take, drop, length-append, length-take, List·getD-eq-default}
@@ -20,6 +20,9 @@ use Rattle.model.specs.Labels.{unlabelled, start, labelsAround, labelOf, put}
 use Rattle.rings.specs.Tables.{startOf, startsOf, sizeOf, rows, table}
 use Rattle.rings.proofs.Rows.{start-first, start-more, size-outside, entries-rows, ring-rows, ring-size, member-index}
 use Rattle.rings.specs.Tables.{held}
+use Rattle.places.specs.Places.{placesOf, indexBy}
+use Rattle.places.proofs.Look.{index-told}
+use Rattle.labels.specs.LabelBy.{labelBy}
 
 -- inside a list it does not matter what lies outside
 pub getD-inside : (l : List ℕ) (i d e : ℕ) → i < length l → getD l i d ≡ getD l i e
@@ -98,7 +101,7 @@ module _ (starts sizes es : List ℕ) (n : ℕ) (same : starts ≡ startsOf size
     begins h = from-s ∙ start-held u (within u i (omega arith))
 
     -- there is a dart from u to v: its label stands at s + i
-    pub label-there : (ls : List ℕ) → i < k → getD ls (s + i) unlabelled ≡ labelOf (table sizes es n) ls u v
+    label-there : (ls : List ℕ) → i < k → getD ls (s + i) unlabelled ≡ labelOf (table sizes es n) ls u v
     unfolding labelOf labelsAround
     label-there ls h =
         sym
@@ -108,7 +111,7 @@ module _ (starts sizes es : List ℕ) (n : ℕ) (same : starts ≡ startsOf size
         ∙ ap (λ (p : Plan). labelOf p ls u v) is-table
 
     -- there is none, and no label
-    pub label-none : (ls : List ℕ) → k ≤ i → unlabelled ≡ labelOf (table sizes es n) ls u v
+    label-none : (ls : List ℕ) → k ≤ i → unlabelled ≡ labelOf (table sizes es n) ls u v
     unfolding labelOf labelsAround
     label-none ls h =
         let l = length-take (length (entries Rows u)) (drop (start Rows u) ls) in
@@ -136,6 +139,18 @@ module _ (starts sizes es : List ℕ) (n : ℕ) (same : starts ≡ startsOf size
     unfolding put
     put-none ls l h = sym (rw (is-dart ∙ le-ltb i k h)) ∙ ap (λ (p : Plan). put p u v l ls) is-table
 
+  -- What the look-up by the plan's own table says is the label of the dart
+  pub label-told : {t : List ℕ} → t ≡ placesOf Rows → (ls : List ℕ) (u v : ℕ) {r : ℕ} → r ≡ labelBy t starts Rows ls u v → r ≡ labelOf (table sizes es n) ls u v
+  unfolding labelBy
+  label-told {t} own ls u v e = e ∙ go (ltb (indexBy t Rows u v) (length (ring Rows u))) refl
+    where
+      at : indexBy t Rows u v ≡ indexOf v (ring Rows u)
+      at = index-told Rows own u v refl
+
+      go : (b : Bool) → ltb (indexBy t Rows u v) (length (ring Rows u)) ≡ b → cond b (getD ls (getD starts u 0 + indexBy t Rows u v) unlabelled) unlabelled ≡ labelOf (table sizes es n) ls u v
+      go true q = label-there u v refl at (ring-size starts sizes es n u) ls (ltb-true (indexBy t Rows u v) (length (ring Rows u)) q)
+      go false q = label-none u v refl at (ring-size starts sizes es n u) ls (ltb-false (indexBy t Rows u v) (length (ring Rows u)) q)
+
   -- ---- the labels around u, and the entries of its ring, as a stretch of an array
   module _ (u : ℕ) {s k : ℕ} (from-s : s ≡ getD starts u 0) (size : k ≡ sizeOf sizes n u) where
     pub around-held : (ls : List ℕ) → u < n → slice s (s + k) ls ≡ labelsAround (table sizes es n) ls u
@@ -149,3 +164,19 @@ module _ (starts sizes es : List ℕ) (n : ℕ) (same : starts ≡ startsOf size
         any-map f neighbour (span es s (s + k))
         ∙ (λ j. any f (map neighbour (stretch es (from-s j) ((z ∙ size) j))))
         ∙ ap (any f) (sym (ring-rows starts sizes es n u) ∙ ap (λ (p : Plan). ring p u) is-table)
+
+-- ---- the look-up of a label, case by case as the code makes it
+module _ (t starts sizes es : List ℕ) (n : ℕ) (ls : List ℕ) (u v : ℕ) {i k : ℕ} (at : i ≡ indexBy t (rows starts sizes es n) u v) (size : k ≡ sizeOf sizes n u) where
+  -- the test of the code
+  same-test : ltb (indexBy t (rows starts sizes es n) u v) (length (ring (rows starts sizes es n) u)) ≡ ltb i k
+  same-test = λ j. ltb (sym at j) ((ring-size starts sizes es n u ∙ sym size) j)
+
+  -- a label in u's part
+  pub look-there : {s : ℕ} → s ≡ getD starts u 0 → i < k → getD ls (s + i) unlabelled ≡ labelBy t starts (rows starts sizes es n) ls u v
+  unfolding labelBy
+  look-there from-s h = (λ j. getD ls (from-s j + at j) unlabelled) ∙ sym (rw (same-test ∙ lt-ltb i k h))
+
+  -- none
+  pub look-none : k ≤ i → unlabelled ≡ labelBy t starts (rows starts sizes es n) ls u v
+  unfolding labelBy
+  look-none h = sym (rw (same-test ∙ le-ltb i k h))

@@ -1,9 +1,12 @@
 // Labels of darts in a flat array: the label of a dart, four runs and the label rules, each equal to a definition of the model.
 ghost use mathlib.Core.Path.{_≡_};
-ghost use Prim.Native.Nat.{min, _≤_, _<_, _^_};
+ghost use mathlib.Core.Bool.{_&&_};
+ghost use Prim.Native.Nat.{_<_, _^_};
 ghost use lib.ListN.{getD};
-ghost use Rattle.model.specs.Labels.{unlabelled, labelOf, due};
-ghost use Rattle.rings.specs.Tables.{startsOf, table};
+ghost use Rattle.model.specs.Plan.{border};
+ghost use Rattle.model.specs.Labels.{unlabelled, due};
+ghost use Rattle.rings.specs.Tables.{rows};
+ghost use Rattle.labels.specs.LabelBy.{labelBy};
 
 pub mod rules;
 mod runs;
@@ -33,8 +36,16 @@ pub fn due_label(u: usize) -> usize
     }
 }
 
-// The label of the dart from u to v, where the rings begin at these starts.
-fn label_in<'a>(
+// Are both border contexts?
+pub fn both_border(u: usize, v: usize) -> bool
+    ensures { λ r. ⌜ r ≡ (border u && border v) ⌝ }
+{
+    if u < 4 { v < 4 } else { false }
+}
+
+// The label of the dart from u to v by a table of positions, where the rings' labels begin at these starts; 5 where there is no dart.
+pub fn label_by<'a>(
+    places: &'a [u8],
     starts: &'a [u16],
     sizes: &'a [u8],
     entries: &'a [u16],
@@ -43,12 +54,10 @@ fn label_in<'a>(
     u: usize,
     v: usize,
 ) -> usize
-    requires { ⌜ now starts ≡ startsOf (now sizes) ⌝ }
-    requires { ⌜ n ≤ 200 ⌝ }
-    ensures { λ r. ⌜ r ≡ labelOf (table (now (sizes .entry)) (now (entries .entry)) n) (now (labels .entry)) u v ⌝ }
+    ensures { λ r. ⌜ r ≡ labelBy (now (places .entry)) (now (starts .entry)) (rows (now (starts .entry)) (now (sizes .entry)) (now (entries .entry)) n) (now (labels .entry)) u v ⌝ }
     ensures { λ r. ⌜ r < 2 ^ 8 ⌝ }
 {
-    let i = rings::index_of(starts, sizes, entries, n, u, v);
+    let i = places::index_by(places, starts, sizes, entries, n, u, v);
     if i < rings::size_of(sizes, n, u) {
         return label_at(labels, lists::num(starts, u) + i);
     }

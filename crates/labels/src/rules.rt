@@ -1,23 +1,16 @@
 // The label rules: the lowest context that breaks them.
 ghost use mathlib.Core.Path.{_≡_};
-ghost use mathlib.Core.Bool.{_&&_};
 ghost use Prim.Native.Nat.{min, _≤_, _<_};
 ghost use Rattle.lists.specs.Tests.{any};
 ghost use Rattle.lists.specs.Ranges.{lowest};
-ghost use Rattle.model.specs.Plan.{ring, border};
+ghost use Rattle.model.specs.Plan.{ring};
 ghost use Rattle.model.specs.Labels.{badDart, notDue, badRing, breaks};
-ghost use Rattle.rings.specs.Tables.{startsOf, table};
-ghost use Rattle.rings.specs.Tables.{held};
-
-// Are both border contexts?
-fn both_border(u: usize, v: usize) -> bool
-    ensures { λ r. ⌜ r ≡ (border u && border v) ⌝ }
-{
-    if u < 4 { v < 4 } else { false }
-}
+ghost use Rattle.rings.specs.Tables.{startsOf, rows, table, held};
+ghost use Rattle.places.specs.Places.{placesOf};
 
 // Does the dart from u to v break the rules? 4 stands between border contexts, and only there; elsewhere a dart and its reverse differ by two quarters.
 fn bad_dart<'a>(
+    places: &'a [u8],
     starts: &'a [u16],
     sizes: &'a [u8],
     entries: &'a [u16],
@@ -28,20 +21,22 @@ fn bad_dart<'a>(
 ) -> bool
     requires { ⌜ now starts ≡ startsOf (now sizes) ⌝ }
     requires { ⌜ n ≤ 200 ⌝ }
+    requires { ⌜ now places ≡ placesOf (rows (now starts) (now sizes) (now entries) n) ⌝ }
     ensures { λ r. ⌜ r ≡ badDart (table (now (sizes .entry)) (now (entries .entry)) n) (now (labels .entry)) u v ⌝ }
 {
-    let l = crate::label_in(starts, sizes, entries, n, labels, u, v);
-    if both_border(u, v) {
+    let l = crate::label_by(places, starts, sizes, entries, n, labels, u, v);
+    if crate::both_border(u, v) {
         return l != 4;
     }
     if l >= 4 {
         return true;
     }
-    crate::label_in(starts, sizes, entries, n, labels, v, u) != (l + 2) % 4
+    crate::label_by(places, starts, sizes, entries, n, labels, v, u) != (l + 2) % 4
 }
 
 // Does a dart that leaves u break the rules?
 fn bad_darts<'a>(
+    places: &'a [u8],
     starts: &'a [u16],
     sizes: &'a [u8],
     entries: &'a [u16],
@@ -51,13 +46,14 @@ fn bad_darts<'a>(
 ) -> bool
     requires { ⌜ now starts ≡ startsOf (now sizes) ⌝ }
     requires { ⌜ n ≤ 200 ⌝ }
+    requires { ⌜ now places ≡ placesOf (rows (now starts) (now sizes) (now entries) n) ⌝ }
     ensures { λ r. ⌜ r ≡ any (badDart (table (now (sizes .entry)) (now (entries .entry)) n) (now (labels .entry)) u) (ring (table (now (sizes .entry)) (now (entries .entry)) n) u) ⌝ }
 {
     let mut i = lists::num(starts, u);
     let e = i + rings::size_of(sizes, n, u);
     while i < e {
         let v = rings::neighbour_of(lists::num(entries, i));
-        if bad_dart(starts, sizes, entries, n, labels, u, v) {
+        if bad_dart(places, starts, sizes, entries, n, labels, u, v) {
             return true;
         }
         i += 1;
@@ -67,6 +63,7 @@ fn bad_darts<'a>(
 
 // Is the dart from u to v, of a border context, an inner dart without the label due?
 fn not_due<'a>(
+    places: &'a [u8],
     starts: &'a [u16],
     sizes: &'a [u8],
     entries: &'a [u16],
@@ -77,16 +74,18 @@ fn not_due<'a>(
 ) -> bool
     requires { ⌜ now starts ≡ startsOf (now sizes) ⌝ }
     requires { ⌜ n ≤ 200 ⌝ }
+    requires { ⌜ now places ≡ placesOf (rows (now starts) (now sizes) (now entries) n) ⌝ }
     ensures { λ r. ⌜ r ≡ notDue (table (now (sizes .entry)) (now (entries .entry)) n) (now (labels .entry)) u v ⌝ }
 {
     if v < 4 {
         return false;
     }
-    crate::label_in(starts, sizes, entries, n, labels, u, v) != crate::due_label(u)
+    crate::label_by(places, starts, sizes, entries, n, labels, u, v) != crate::due_label(u)
 }
 
 // Has an inner dart of the border context u a label that is not due?
 fn not_dues<'a>(
+    places: &'a [u8],
     starts: &'a [u16],
     sizes: &'a [u8],
     entries: &'a [u16],
@@ -96,13 +95,14 @@ fn not_dues<'a>(
 ) -> bool
     requires { ⌜ now starts ≡ startsOf (now sizes) ⌝ }
     requires { ⌜ n ≤ 200 ⌝ }
+    requires { ⌜ now places ≡ placesOf (rows (now starts) (now sizes) (now entries) n) ⌝ }
     ensures { λ r. ⌜ r ≡ any (notDue (table (now (sizes .entry)) (now (entries .entry)) n) (now (labels .entry)) u) (ring (table (now (sizes .entry)) (now (entries .entry)) n) u) ⌝ }
 {
     let mut i = lists::num(starts, u);
     let e = i + rings::size_of(sizes, n, u);
     while i < e {
         let v = rings::neighbour_of(lists::num(entries, i));
-        if not_due(starts, sizes, entries, n, labels, u, v) {
+        if not_due(places, starts, sizes, entries, n, labels, u, v) {
             return true;
         }
         i += 1;
@@ -112,6 +112,7 @@ fn not_dues<'a>(
 
 // Does u's ring break the rules? A border context's inner darts have the label due, an inner context's labels are four runs.
 fn bad_ring<'a>(
+    places: &'a [u8],
     starts: &'a [u16],
     sizes: &'a [u8],
     entries: &'a [u16],
@@ -121,11 +122,12 @@ fn bad_ring<'a>(
 ) -> bool
     requires { ⌜ now starts ≡ startsOf (now sizes) ⌝ }
     requires { ⌜ n ≤ 200 ⌝ }
+    requires { ⌜ now places ≡ placesOf (rows (now starts) (now sizes) (now entries) n) ⌝ }
     requires { ⌜ u < n ⌝ }
     ensures { λ r. ⌜ r ≡ badRing (table (now (sizes .entry)) (now (entries .entry)) n) (now (labels .entry)) u ⌝ }
 {
     if u < 4 {
-        return not_dues(starts, sizes, entries, n, labels, u);
+        return not_dues(places, starts, sizes, entries, n, labels, u);
     }
     let a = lists::num(starts, u);
     !crate::runs::four_runs(labels, a, a + rings::size_of(sizes, n, u))
@@ -133,6 +135,7 @@ fn bad_ring<'a>(
 
 // Does u break the rules?
 fn breaks_at<'a>(
+    places: &'a [u8],
     starts: &'a [u16],
     sizes: &'a [u8],
     entries: &'a [u16],
@@ -142,17 +145,19 @@ fn breaks_at<'a>(
 ) -> bool
     requires { ⌜ now starts ≡ startsOf (now sizes) ⌝ }
     requires { ⌜ n ≤ 200 ⌝ }
+    requires { ⌜ now places ≡ placesOf (rows (now starts) (now sizes) (now entries) n) ⌝ }
     requires { ⌜ u < n ⌝ }
     ensures { λ r. ⌜ r ≡ breaks (table (now (sizes .entry)) (now (entries .entry)) n) (now (labels .entry)) u ⌝ }
 {
-    if bad_darts(starts, sizes, entries, n, labels, u) {
+    if bad_darts(places, starts, sizes, entries, n, labels, u) {
         return true;
     }
-    bad_ring(starts, sizes, entries, n, labels, u)
+    bad_ring(places, starts, sizes, entries, n, labels, u)
 }
 
 // The lowest of n contexts that breaks the rules, or n, where the rings begin at these starts.
 fn place_in<'a>(
+    places: &'a [u8],
     starts: &'a [u16],
     sizes: &'a [u8],
     entries: &'a [u16],
@@ -161,12 +166,13 @@ fn place_in<'a>(
 ) -> usize
     requires { ⌜ now starts ≡ startsOf (now sizes) ⌝ }
     requires { ⌜ n ≤ 200 ⌝ }
+    requires { ⌜ now places ≡ placesOf (rows (now starts) (now sizes) (now entries) n) ⌝ }
     ensures { λ r. ⌜ r ≡ lowest (breaks (table (now (sizes .entry)) (now (entries .entry)) n) (now (labels .entry))) n ⌝ }
     ensures { λ r. ⌜ r ≤ n ⌝ }
 {
     let mut u = 0;
     while u < n {
-        if breaks_at(starts, sizes, entries, n, labels, u) {
+        if breaks_at(places, starts, sizes, entries, n, labels, u) {
             return u;
         }
         u += 1;
@@ -180,5 +186,7 @@ pub fn rules_place<'a>(sizes: &'a [u8], entries: &'a [u16], n: usize, labels: &'
     ensures { λ r. ⌜ r ≤ min n 200 ⌝ }
 {
     let starts = rings::starts_of(sizes);
-    place_in(&starts, sizes, entries, lists::lesser(n, 200), labels)
+    let m = lists::lesser(n, 200);
+    let places = places::places_of(&starts, sizes, entries, m);
+    place_in(&places, &starts, sizes, entries, m, labels)
 }

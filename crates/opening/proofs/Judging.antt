@@ -88,10 +88,6 @@ module _ (sizes es : List ℕ) (n : ℕ) (ls : List ℕ) (few : n ≤ 200) where
   pub ten-passed : {u : ℕ} → u ≡ lowest (breaks (held sizes es n) ls) (min n 200) → n ≤ u → passed ≡ labelRules (table sizes es n) ls
   ten-passed e h = rule-past 10 n (breaks (table sizes es n) ls) (as-table e) h ∙ as-rule
 
--- of at most 200 rings all are counted
-pub all-counted : (sizes : List ℕ) {n k : ℕ} → n ≤ 200 → k ≡ startOf sizes (min n 200) → k ≡ startOf sizes n
-all-counted sizes {n} h e = e ∙ ap (startOf sizes) (omega arith)
-
 -- ---- one part of the rules before another
 pub first-refused : {A : Type 0} (a : Outcome (Unit {0})) (b : Outcome A) {k at : ℕ} → refused k at ≡ a → refused k at ≡ (a >> b)
 first-refused a b e = ap (λ (o : Outcome (Unit {0})). o >> b) e

@@ -1,32 +1,26 @@
--- The constraints of a labelled plan in flat arrays: what the loop over the darts keeps, and the label of a dart.
+-- The constraints of a labelled plan in flat arrays: what the loop over the darts keeps.
 use Prim.Native.Nat.{ℕ, zero, suc, _+_, _-_, _≤_, _<_}
-use mathlib.Core.Path.{_≡_, refl, sym, ap, _∙_, subst}
+use mathlib.Core.Path.{_≡_, refl, sym, ap, _∙_}
 use mathlib.Core.List.{List, [], _∷_, _++_, map, append-assoc, append-nil}
 use mathlib.Core.Bool.{Bool, true, false, cond}
 use native.Mathlib.Omega.{arith}
-use lib.ListN.{length, getD, set, take, drop, length-append, length-take, length-set, drop-of-length-le, List·getD-eq-default}
-use lib.Seq.{getD-take, getD-drop, take-suc, take-length, drop-cons}
+use lib.ListN.{length, getD, set, drop, length-set, drop-of-length-le}
+use lib.Seq.{drop-cons}
 use lib.Dec.{eqb, ltb}
 use borrow.Author.Tests.{ltb-true, ltb-false, lt-ltb, le-ltb, ne-eqb}
 use Rattle.lists.specs.Ranges.{from}
-use Rattle.lists.specs.Parts.{concat, indexOf}
-use Rattle.lists.proofs.Ranges.{getD-map-from}
+use Rattle.lists.specs.Parts.{concat}
 use Rattle.lists.specs.Spans.{zeros}
-use Rattle.lists.proofs.Spans.{length-stretch, length-zeros}
-use Rattle.model.specs.Plan.{Plan, Dart, count, neighbour, entries, ring, dartsFrom, darts, entryCount, dartCount}
-use Rattle.model.specs.Labels.{start, labelsAround, labelOf, unlabelled}
+use Rattle.lists.proofs.Spans.{length-zeros}
+use Rattle.model.specs.Plan.{Plan, Dart, count, neighbour, ring, dartsFrom, darts}
+use Rattle.model.specs.Labels.{start, labelOf}
 use Rattle.model.specs.Chart.{Constraint, constraint, xConstraint, yConstraint, xConstraints, yConstraints, tie, slope}
-use Rattle.rings.specs.Tables.{sumOf, startOf, startsOf, sizeOf, rows, table}
-use Rattle.rings.proofs.Rows.{start-more, size-inside, size-outside, entries-rows, count-rows, ring-size, ring-at}
-use Rattle.solver.specs.Constraints.{rise, constraintAt, listedFrom, listed, ties, compass, asked, tiedTo, endOf, gapOf, keptOf}
-use Rattle.solver.proofs.Arrays.{getD-zeros, two-first, listed-none, listed-more}
+use Rattle.rings.specs.Tables.{startOf, startsOf, sizeOf, rows, table}
+use Rattle.rings.proofs.Rows.{start-more, size-inside, size-outside, count-rows, ring-size, ring-at}
+use Rattle.solver.specs.Constraints.{rise, listed, ties, compass, asked, tiedTo, endOf, gapOf, keptOf}
+use Rattle.solver.proofs.Arrays.{two-first, listed-none, listed-more}
 
 -- ---- lists joined
-module _ {A : Type 0} where
-  concat-append : (l m : List (List A)) → concat (l ++ m) ≡ concat l ++ concat m
-  concat-append [] m = refl
-  concat-append (a ∷ l) m = ap (λ (r : List A). a ++ r) (concat-append l m) ∙ sym (append-assoc a (concat l) (concat m))
-
 module _ {A B : Type 0} where
   join-append : (f : A → List B) (l m : List A) → concat (map f (l ++ m)) ≡ concat (map f l) ++ concat (map f m)
   join-append f [] m = refl
@@ -49,79 +43,6 @@ module _ (sizes : List ℕ) where
       let r = start-mono (suc u) (n - suc u) in
       let q : startOf sizes (suc u + (n - suc u)) ≡ startOf sizes n = ap (startOf sizes) (omega arith) in
       omega arith
-
-  pub starts-at : (u : ℕ) → u < 200 → getD (startsOf sizes) u 0 ≡ startOf sizes u
-  unfolding startsOf
-  starts-at u h = getD-map-from (startOf sizes) 0 200 u 0 h ∙ ap (startOf sizes) (omega arith)
-
-module _ (starts sizes es : List ℕ) (n : ℕ) where
-  abbrev Rows : Plan
-  Rows = rows starts sizes es n
-
-  pub start-rows : (u : ℕ) → u ≤ n → start Rows u ≡ startOf sizes u
-  unfolding start startOf sumOf entries
-  start-rows zero h = refl
-  start-rows (suc u) h =
-      let r = start-rows u (omega arith) in
-      let c = count-rows starts sizes es n in
-      let t = take-suc (Rows .rings) u [] (omega arith) in
-      let e = entries-rows starts sizes es n u in
-      let size = size-inside sizes n u (omega arith) in
-      let long : length (entries Rows u) ≡ getD sizes u 0 = ap length e ∙ length-stretch es (getD starts u 0) (sizeOf sizes n u) ∙ size in
-      last u t ∙ (λ i. r i + long i) ∙ sym (start-more sizes u)
-    where
-      last : (u : ℕ) → take (suc u) (Rows .rings) ≡ take u (Rows .rings) ++ (getD (Rows .rings) u [] ∷ []) → length (concat (take (suc u) (Rows .rings))) ≡ length (concat (take u (Rows .rings))) + length (entries Rows u)
-      last u t = ap (λ (l : List (List ℕ)). length (concat l)) t ∙ ap length (concat-append (take u (Rows .rings)) (getD (Rows .rings) u [] ∷ [])) ∙ length-append (concat (take u (Rows .rings))) (getD (Rows .rings) u [] ++ []) ∙ ap (λ (l : List ℕ). length (concat (take u (Rows .rings))) + length l) (append-nil (getD (Rows .rings) u []))
-
--- all rings together have as many entries as their sizes say
-pub entries-total : (sizes es : List ℕ) (n : ℕ) → entryCount (table sizes es n) ≡ startOf sizes n
-unfolding entryCount table start
-entries-total sizes es n =
-    let c = count-rows (startsOf sizes) sizes es n in
-    ap (λ (l : List (List ℕ)). length (concat l)) (sym (ap (λ (k : ℕ). take k (rows (startsOf sizes) sizes es n .rings)) (sym c) ∙ take-length (rows (startsOf sizes) sizes es n .rings)))
-    ∙ start-rows (startsOf sizes) sizes es n n (omega arith)
-
--- ---- the label of a dart
-module _ (sizes es : List ℕ) (n : ℕ) (ls : List ℕ) (few : n ≤ 200) (u v : ℕ) where
-  abbrev At : ℕ
-  At = indexOf v (ring (table sizes es n) u)
-
-  around : length (entries (table sizes es n) u) ≡ sizeOf sizes n u
-  unfolding table
-  around = ap length (entries-rows (startsOf sizes) sizes es n u) ∙ length-stretch es (getD (startsOf sizes) u 0) (sizeOf sizes n u)
-
-  pub label-none : sizeOf sizes n u ≤ At → unlabelled ≡ labelOf (table sizes es n) ls u v
-  unfolding labelOf labelsAround
-  label-none h =
-      let a = around in
-      let t = length-take (length (entries (table sizes es n) u)) (drop (start (table sizes es n) u) ls) in
-      sym (List·getD-eq-default (labelsAround (table sizes es n) ls u) unlabelled {n = At} (omega arith))
-
-  pub label-there : u < n → At < sizeOf sizes n u → getD ls (getD (startsOf sizes) u 0 + At) unlabelled ≡ labelOf (table sizes es n) ls u v
-  unfolding labelOf labelsAround table
-  label-there i h =
-      let a = around in
-      let s = start-rows (startsOf sizes) sizes es n u (omega arith) ∙ sym (starts-at sizes u (omega arith)) in
-      sym (getD-take (length (entries (table sizes es n) u)) (drop (start (table sizes es n) u) ls) At unlabelled (omega arith)
-      ∙ getD-drop (start (table sizes es n) u) ls At unlabelled ∙ ap (λ (k : ℕ). getD ls (k + At) unlabelled) s)
-
-module _ (starts sizes es : List ℕ) (n : ℕ) (ls : List ℕ) (u v i k : ℕ) (few : n ≤ 200) (q : starts ≡ startsOf sizes) (ei : i ≡ indexOf v (ring (rows starts sizes es n) u)) (ek : k ≡ sizeOf sizes n u) where
-  found-at : i ≡ indexOf v (ring (table sizes es n) u)
-  unfolding table
-  found-at = ei ∙ ap (λ (l : List ℕ). indexOf v (ring (rows l sizes es n) u)) q
-
-  -- the label as code reads it
-  pub label-past : k ≤ i → unlabelled ≡ labelOf (table sizes es n) ls u v
-  label-past h = let f = found-at in label-none sizes es n ls few u v (omega arith)
-
-  pub label-read : (s j l : ℕ) → i < k → s ≡ getD starts u 0 → j ≡ s + i → l ≡ getD ls j unlabelled → l ≡ labelOf (table sizes es n) ls u v
-  label-read s j l h es₀ ej el =
-      let f = found-at in
-      el ∙ ap (λ (m : ℕ). getD ls m unlabelled) ej ∙ (λ t. getD ls ((es₀ ∙ ap (λ (r : List ℕ). getD r u 0) q) t + f t) unlabelled) ∙ label-there sizes es n ls few u v (inside (ltb u n) refl) (omega arith)
-    where
-      inside : (t : Bool) → ltb u n ≡ t → u < n
-      inside true e = ltb-true u n e
-      inside false e = let z = size-outside sizes n u (ltb-false u n e) in absurd (omega arith)
 
 -- the neighbour at i of u's ring, from its entry
 pub dart-at : (starts sizes es : List ℕ) (n u i s e v : ℕ) → starts ≡ startsOf sizes → i < sizeOf sizes n u → s ≡ getD starts u 0 → e ≡ getD es (s + i) 0 → v ≡ neighbour e → v ≡ getD (ring (table sizes es n) u) i 0

@@ -1,54 +1,27 @@
 -- The chart of a table: the numbers of both coordinates and the test that they are a placement give the answer of `leastPlacement`; and the comparison of charts.
-use Prim.Native.Nat.{ℕ, zero, suc, _+_, _-_, _≤_, _<_}
-use mathlib.Core.Path.{_≡_, refl, sym, ap, _∙_, subst}
-use mathlib.Core.List.{List, [], _∷_, _++_, map}
+use Prim.Native.Nat.{ℕ, suc, _+_, _-_, _≤_, _<_}
+use mathlib.Core.Path.{_≡_, refl, sym, ap, _∙_}
+use mathlib.Core.List.{List, [], _∷_, map}
 use mathlib.Core.Bool.{Bool, true, false, cond, _&&_, false≢true, true≢false}
 use native.Mathlib.Omega.{arith}
 use lib.ListN.{length, getD, drop}
 use lib.Dec.{eqb, leb}
-use borrow.Author.Tests.{eq-eqb, ne-eqb, le-leb, lt-leb, leb-true}
+use borrow.Author.Tests.{eq-eqb, ne-eqb, le-leb}
 use Rattle.lists.specs.Tests.{all, sameList}
 use Rattle.lists.specs.Ranges.{from}
-use Rattle.lists.specs.Spans.{stretch, zeros, padded}
-use Rattle.lists.proofs.Bools.{and-yes}
+use Rattle.lists.specs.Spans.{stretch, padded}
 use Rattle.model.specs.Outcome.{Outcome, accepted, refused, _>>=_, _>>_, require}
 use Rattle.model.specs.Plan.{Plan, count, entryCount, dartCount, north, east, south, west}
 use Rattle.model.specs.Chart.{Chart, Constraint, x, y, meets, isAt, isPlacement, leastNumbers, leastPlacement, slope, chart, sameChart, tie}
 use Rattle.model.proofs.Least.{least-length}
-use Rattle.model.proofs.Placements.{Placed, placed, chart-is, chart-11}
+use Rattle.model.proofs.Placements.{placed, chart-is, chart-11}
 use Rattle.rings.specs.Tables.{startOf, startsOf, rows, table, inBounds}
-use Rattle.rings.proofs.Rows.{start-first, start-more, count-rows}
-use Rattle.placement.specs.declared.Drawn.{Drawn}
+use Rattle.rings.proofs.Rows.{count-rows}
 use Rattle.solver.specs.declared.Numbers.{Numbers}
 use Rattle.solver.specs.Constraints.{listedFrom, listed, constraintAt, solved, numbersOf, ties, compass, asked}
 use Rattle.placement.specs.Drawing.{chartOn, chartFor, drawnAs, drawnOf, drawnIf, standsAt, squared}
 use Rattle.solver.proofs.Arrays.{getD-padded, stretch-padded}
-use Rattle.placement.proofs.Asking.{starts-at, entries-total}
-
--- ---- the bounds of a table
-pub bounds-large : (sizes : List ℕ) (n : ℕ) → 200 < n → false ≡ inBounds sizes n
-unfolding inBounds
-bounds-large sizes n h = sym (rw (lt-leb n 200 h))
-
-pub bounds-none : (sizes : List ℕ) (n : ℕ) → n ≡ 0 → true ≡ inBounds sizes n
-unfolding inBounds
-bounds-none sizes n e =
-    let s : startOf sizes n ≡ 0 = ap (startOf sizes) e ∙ sym (start-first sizes) in
-    sym (rw (le-leb n 200 (omega arith), le-leb (startOf sizes n) 1186 (omega arith)))
-
-pub bounds-last : (sizes : List ℕ) (n s k : ℕ) → n ≤ 200 → (n ≡ 0 → ⊥) → s ≡ getD (startsOf sizes) (n - 1) 0 → k ≡ getD sizes (n - 1) 0 → leb (s + k) 1186 ≡ inBounds sizes n
-unfolding inBounds
-bounds-last sizes n s k h z es ek =
-    let pos : 0 < n = go n z in
-    let m = start-more sizes (n - 1) in
-    let q : startOf sizes (suc (n - 1)) ≡ startOf sizes n = ap (startOf sizes) (omega arith) in
-    let a = starts-at sizes (n - 1) (omega arith) in
-    let e : s + k ≡ startOf sizes n = omega arith in
-    sym (rw (le-leb n 200 h, ← e))
-  where
-    go : (n : ℕ) → (n ≡ 0 → ⊥) → 0 < n
-    go zero z = absurd (z refl)
-    go (suc n) z = omega arith
+use Rattle.fit.proofs.Fits.{total-is}
 
 -- ---- border contexts at the corners
 module _ (xs ys : List ℕ) (u a b : ℕ) {p : ℕ} (e : p ≡ getD xs u 0) where
@@ -220,7 +193,7 @@ module _ (sizes es : List ℕ) (n : ℕ) (ls : List ℕ) where
 
   -- by rule 7 there are no more entries
   pub entries-fit : n ≤ 200 → entryCount P ≡ dartCount n → startOf sizes n ≤ 1186
-  entries-fit h e = let t = entries-total sizes es n in omega arith
+  entries-fit h e = let t = total-is sizes es n h in omega arith
 
 -- ---- constraints after the first two
 pub after-ties : (lows highs gaps : List ℕ) (k : ℕ) (upright : Bool) (p : Plan) (ls : List ℕ) → 2 ≤ k → listed lows highs gaps k ≡ asked upright p ls → listedFrom lows highs gaps 2 (k - 2) ≡ compass upright p ls
@@ -257,10 +230,6 @@ module _ {a b : List ℕ} {n i : ℕ} (inv : Matches a b n i) where
   matches-end h = let z : n - i ≡ 0 = omega arith in sym (inv .same ∙ rw z)
 
 -- ---- what the functions hand on
-pub bounds-say : (sizes : List ℕ) (n : ℕ) → inBounds sizes n ≡ true → (n ≤ 200) × (startOf sizes n ≤ 1186)
-unfolding inBounds
-bounds-say sizes n e = let (a, b) = and-yes (leb n 200) (leb (startOf sizes n) 1186) e in (leb-true n 200 a, leb-true (startOf sizes n) 1186 b)
-
 pub axis-numbers : (n : ℕ) (cs ds : List Constraint) (r : Numbers) → n ≤ 200 → r ≡ numbersOf (solved n cs) → cs ≡ ds → r ≡ numbersOf (leastNumbers n ds)
 unfolding solved
 axis-numbers n cs ds r h e q = e ∙ ap numbersOf (rw (le-leb n 200 h) (ap (leastNumbers n) q))

@@ -5,9 +5,9 @@ ghost use Prim.Native.Nat.{_+_, _-_, _<_, _≤_, _^_};
 ghost use Rattle.lists.specs.Tests.{all, sameList};
 ghost use Rattle.lists.specs.Spans.{stretch};
 ghost use Rattle.model.specs.Outcome.{refused};
-ghost use Rattle.model.specs.Labels.{labelOf};
 ghost use Rattle.model.specs.Chart.{meets, leastNumbers, sameChart};
-ghost use Rattle.rings.specs.Tables.{startOf, startsOf, table, inBounds};
+ghost use Rattle.rings.specs.Tables.{startOf, startsOf, rows, table};
+ghost use Rattle.places.specs.Places.{placesOf};
 ghost use Rattle.solver.specs.Constraints.{numbersOf, listed, compass, asked, tiedTo, endOf, gapOf, keptOf};
 ghost use Rattle.placement.specs.Drawing.{chartOn, chartFor, drawnAs, drawnOf, drawnIf, standsAt, squared};
 
@@ -36,30 +36,6 @@ pub struct Drawn {
     pub h: u16,
     pub xs: [u16; 200],
     pub ys: [u16; 200],
-}
-
-// The label of the dart from u to v.
-fn label_of<'a>(
-    starts: &'a [u16],
-    sizes: &'a [u8],
-    entries: &'a [u16],
-    n: usize,
-    labels: &'a [u8],
-    u: usize,
-    v: usize,
-) -> usize
-    requires { ⌜ n ≤ 200 ⌝ }
-    requires { ⌜ now starts ≡ startsOf (now sizes) ⌝ }
-    ensures { λ r. ⌜ r ≡ labelOf (table (now (sizes .entry)) (now (entries .entry)) n) (now (labels .entry)) u v ⌝ }
-{
-    let i = rings::index_of(starts, sizes, entries, n, u, v);
-    if i < rings::size_of(sizes, n, u) {
-        let k = lists::num(starts, u) + i;
-        if k < labels.len() {
-            return lists::wide_byte(labels[k]);
-        }
-    }
-    5
 }
 
 // The first context, or the second where a dart's ends are exchanged in its constraint.
@@ -102,6 +78,7 @@ fn tied_to(upright: bool) -> u16
 
 // The constraints of one coordinate: the border's tie, then those of the darts in the order of the rings.
 fn asks_of<'a>(
+    places: &'a [u8],
     starts: &'a [u16],
     sizes: &'a [u8],
     entries: &'a [u16],
@@ -112,6 +89,7 @@ fn asks_of<'a>(
     requires { ⌜ n ≤ 200 ⌝ }
     requires { ⌜ startOf (now sizes) n ≤ 1186 ⌝ }
     requires { ⌜ now starts ≡ startsOf (now sizes) ⌝ }
+    requires { ⌜ now places ≡ placesOf (rows (now starts) (now sizes) (now entries) n) ⌝ }
     ensures { λ r. ⌜ listed (r .lows) (r .highs) (r .gaps) (r .count) ≡ asked upright (table (now (sizes .entry)) (now (entries .entry)) n) (now (labels .entry)) ⌝ }
     ensures { λ r. ⌜ 2 ≤ r .count ⌝ }
 {
@@ -127,7 +105,7 @@ fn asks_of<'a>(
     while u < n {
         if i < rings::size_of(sizes, n, u) {
             let v = rings::neighbour_of(lists::num(entries, lists::num(starts, u) + i));
-            let label = label_of(starts, sizes, entries, n, labels, u, v);
+            let label = labels::label_by(places, starts, sizes, entries, n, labels, u, v);
             let a = u as u16;
             let b = v as u16;
             lows[count] = end_of(upright, label, a, b);
@@ -150,6 +128,7 @@ fn asks_of<'a>(
 
 // The least numbers of one coordinate.
 fn axis_of<'a>(
+    places: &'a [u8],
     starts: &'a [u16],
     sizes: &'a [u8],
     entries: &'a [u16],
@@ -160,11 +139,12 @@ fn axis_of<'a>(
     requires { ⌜ n ≤ 200 ⌝ }
     requires { ⌜ startOf (now sizes) n ≤ 1186 ⌝ }
     requires { ⌜ now starts ≡ startsOf (now sizes) ⌝ }
+    requires { ⌜ now places ≡ placesOf (rows (now starts) (now sizes) (now entries) n) ⌝ }
     ensures { λ r. ⌜ r .found ≡ numbersOf (leastNumbers n (asked upright (table (now (sizes .entry)) (now (entries .entry)) n) (now (labels .entry)))) .found ⌝ }
     ensures { λ r. ⌜ r .at ≡ numbersOf (leastNumbers n (asked upright (table (now (sizes .entry)) (now (entries .entry)) n) (now (labels .entry)))) .at ⌝ }
     ensures { λ r. ⌜ r .kept ≡ all (meets (r .at)) (compass upright (table (now (sizes .entry)) (now (entries .entry)) n) (now (labels .entry))) ⌝ }
 {
-    let asks = asks_of(starts, sizes, entries, n, labels, upright);
+    let asks = asks_of(places, starts, sizes, entries, n, labels, upright);
     let lows = asks.lows;
     let highs = asks.highs;
     let gaps = asks.gaps;
@@ -226,22 +206,9 @@ fn squared_off(xs: [u16; 200], ys: [u16; 200]) -> Drawn
     }
 }
 
-// Has the table at most 200 contexts and 1186 entries?
-fn is_in_bounds<'a>(starts: &'a [u16], sizes: &'a [u8], n: usize) -> bool
-    requires { ⌜ now starts ≡ startsOf (now sizes) ⌝ }
-    ensures { λ r. ⌜ r ≡ inBounds (now (sizes .entry)) n ⌝ }
-{
-    if 200 < n {
-        return false;
-    }
-    if n == 0 {
-        return true;
-    }
-    lists::num(starts, n - 1) + lists::byte(sizes, n - 1) <= 1186
-}
-
 // The chart of the plan that sizes and entries hold, where the rings begin at these starts.
 fn chart_from<'a>(
+    places: &'a [u8],
     starts: &'a [u16],
     sizes: &'a [u8],
     entries: &'a [u16],
@@ -249,16 +216,17 @@ fn chart_from<'a>(
     labels: &'a [u8],
 ) -> Drawn
     requires { ⌜ now starts ≡ startsOf (now sizes) ⌝ }
+    requires { ⌜ now places ≡ placesOf (rows (now starts) (now sizes) (now entries) n) ⌝ }
     ensures { λ r. ⌜ r ≡ drawnOf (chartFor (now (sizes .entry)) (now (entries .entry)) n (now (labels .entry))) ⌝ }
 {
-    if !is_in_bounds(starts, sizes, n) {
+    if !fit::is_in_bounds(sizes, n) {
         return undrawn();
     }
-    let x = axis_of(starts, sizes, entries, n, labels, false);
+    let x = axis_of(places, starts, sizes, entries, n, labels, false);
     if !x.found {
         return undrawn();
     }
-    let y = axis_of(starts, sizes, entries, n, labels, true);
+    let y = axis_of(places, starts, sizes, entries, n, labels, true);
     if !y.found {
         return undrawn();
     }
@@ -279,7 +247,8 @@ pub fn chart_of<'a>(sizes: &'a [u8], entries: &'a [u16], n: usize, labels: &'a [
     ensures { λ r. ⌜ r ≡ drawnOf (chartFor (now (sizes .entry)) (now (entries .entry)) n (now (labels .entry))) ⌝ }
 {
     let starts = rings::starts_of(sizes);
-    chart_from(&starts, sizes, entries, n, labels)
+    let places = places::places_of(&starts, sizes, entries, n);
+    chart_from(&places, &starts, sizes, entries, n, labels)
 }
 
 // Are the first n numbers of two arrays equal?

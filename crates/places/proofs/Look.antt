@@ -117,6 +117,10 @@ next-places p a u = ap (nextAt a (ring p u)) (index-places p u a) ∙ next-at a 
 
 -- ---- what a look-up says, where the table is the plan's own
 module _ (p : Plan) {t : List ℕ} (own : t ≡ placesOf p) where
+  -- where v stands in u's ring
+  pub index-told : (u v : ℕ) {r : ℕ} → r ≡ indexBy t p u v → r ≡ indexOf v (ring p u)
+  index-told u v e = e ∙ ap (λ (s : List ℕ). indexBy s p u v) own ∙ index-places p u v
+
   -- whether u lists v
   pub adjacent-told : (u v : ℕ) {r : Bool} → r ≡ adjacentBy t p u v → r ≡ adjacent p u v
   adjacent-told u v e = e ∙ ap (λ (s : List ℕ). adjacentBy s p u v) own ∙ adjacent-places p u v

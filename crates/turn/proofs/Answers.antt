@@ -121,21 +121,11 @@ module _ (sizes es : List ℕ) (n : ℕ) (labels items : List ℕ) (direction : 
   refusal a k at e q is = subst Answers (sym is) (q ∙ sym e, ap (arrayAfter labels) (sym e))
 
   -- rings that do not fit
-  unfit : {r : Turned} → inBounds sizes n ≡ false → r ≡ kept Unfit labels → Answers r
+  pub answer-unfit : {r : Turned} → inBounds sizes n ≡ false → r ≡ kept Unfit labels → Answers r
   unfolding turnOf outcomeOf
-  unfit e = refusal Unfit 13 0 (ap (λ (t : Bool). cond t (turn (table sizes es n) (labelsIn sizes n labels) items direction) (refused 13 0)) e) refl
+  answer-unfit e = refusal Unfit 13 0 (ap (λ (t : Bool). cond t (turn (table sizes es n) (labelsIn sizes n labels) items direction) (refused 13 0)) e) refl
 
-  -- more than 200 rings
-  pub answer-many : {r : Turned} → 200 < n → r ≡ kept Unfit labels → Answers r
-  unfolding inBounds
-  answer-many h = unfit (rw (lt-leb n 200 h))
-
-  -- more than 1186 entries
-  pub answer-long : {k : ℕ} {r : Turned} → n ≤ 200 → k ≡ startOf sizes n → 1186 < k → r ≡ kept Unfit labels → Answers r
-  unfolding inBounds
-  answer-long small e h = unfit (rw (le-leb n 200 small, lt-leb (startOf sizes n) 1186 (omega arith)))
-
-  module _ (small : n ≤ 200) {k : ℕ} (total : k ≡ startOf sizes n) (few : k ≤ 1186) (full : length labels ≡ 1186) where
+  module _ (small : n ≤ 200) (few : startOf sizes n ≤ 1186) (full : length labels ≡ 1186) where
     -- the plan
     abbrev P : Plan
     P = table sizes es n

@@ -12,14 +12,13 @@ use Rattle.lists.specs.Tests.{any}
 use Rattle.lists.specs.Ranges.{lowest}
 use Rattle.lists.specs.Parts.{indexOf, pairs}
 use Rattle.lists.proofs.Bools.{or-no}
-use Rattle.lists.proofs.Ranges.{getD-map-from}
 use Rattle.lists.proofs.Parts.{length-pairs}
 use Rattle.lists.proofs.Loops.{Looks, looks-start, looks-hit, looks-on, looks-end}
 use Rattle.model.specs.Plan.{Plan, Dart, ring, adjacent, border, innerEdge, entryCount}
 use Rattle.model.specs.Labels.{unlabelled, start, labelOf, turned, put}
 use Rattle.model.specs.Turn.{sameEdge, badPair, turnDart, turnEdges}
 use Rattle.rings.specs.Tables.{startOf, startsOf, sizeOf, rows, table}
-use Rattle.rings.proofs.Rows.{start-first, start-next, count-rows}
+use Rattle.rings.proofs.Rows.{count-rows}
 use Rattle.labels.proofs.Places.{getD-inside, start-table, dart-test, place-there}
 use Rattle.labels.proofs.Darts.{Place, start-last, place-inside, label-at-place, put-at-place, put-nowhere}
 use Rattle.turn.specs.Run.{placeOf, turnAt, badAt}
@@ -59,19 +58,6 @@ module _ (starts sizes es : List ℕ) (n : ℕ) (same : starts ≡ startsOf size
     pub place-missing : k ≤ i → 1186 ≡ placeOf (table sizes es n) u v
     unfolding placeOf
     place-missing h = sym (rw (dart-test starts sizes es n same small u v from-s at size ∙ le-ltb i k h))
-
--- ---- how many entries n rings have
--- no rings have none
-pub total-none : (sizes : List ℕ) {n : ℕ} → n ≡ 0 → 0 ≡ startOf sizes n
-total-none sizes e = start-first sizes ∙ ap (startOf sizes) (sym e)
-
--- the entries of n rings end where the last of them ends
-pub total-last : (starts sizes : List ℕ) (n : ℕ) {a k : ℕ} → starts ≡ startsOf sizes → n ≤ 200 → 0 < n → a ≡ getD starts (n - 1) 0 → k ≡ getD sizes (n - 1) 0 → a + k ≡ startOf sizes n
-unfolding startsOf
-total-last starts sizes n same small more from-a size =
-    start-next sizes (n - 1) n _ _ (omega arith)
-    (from-a ∙ ap (λ (l : List ℕ). getD l (n - 1) 0) same ∙ getD-map-from (startOf sizes) 0 200 (n - 1) 0 (omega arith) ∙ ap (startOf sizes) (omega arith))
-    size
 
 -- ---- the tests of one pair, in each case that the code tells apart
 module _ (old new : List ℕ) (i u v : ℕ) where

@@ -1,14 +1,13 @@
 // The turn: both darts of each named edge by a quarter, equal to the model's on every plan that fits the arrays.
 // One pass tests and turns the named edges. An edge named before is known by its label, which is not the old one any more.
 ghost use mathlib.Core.Path.{_≡_};
-ghost use mathlib.Core.Bool.{_&&_};
 ghost use Prim.Native.Nat.{_≤_, _<_, _%_};
 ghost use lib.ListN.{length, take};
 ghost use Rattle.lists.specs.Ranges.{lowest};
 ghost use Rattle.lists.specs.Parts.{pairs};
-ghost use Rattle.model.specs.Plan.{border};
 ghost use Rattle.model.specs.Turn.{quarters, badPair, turnEdges};
-ghost use Rattle.rings.specs.Tables.{startOf, startsOf, table};
+ghost use Rattle.rings.specs.Tables.{startOf, startsOf, rows, table};
+ghost use Rattle.places.specs.Places.{placesOf};
 ghost use Rattle.turn.specs.Turned.{labelsIn, turnOf, outcomeOf, arrayAfter};
 ghost use Rattle.turn.specs.Run.{placeOf, turnAt, badAt};
 ghost use Rattle.turn.specs.Run as run;
@@ -33,18 +32,6 @@ pub struct Passed {
     pub labels: [u8; 1186],
 }
 
-// How many entries the first n rings have.
-fn total_of<'a>(starts: &'a [u16], sizes: &'a [u8], n: usize) -> usize
-    requires { ⌜ now starts ≡ startsOf (now sizes) ⌝ }
-    requires { ⌜ n ≤ 200 ⌝ }
-    ensures { λ r. ⌜ r ≡ startOf (now (sizes .entry)) n ⌝ }
-{
-    if n == 0 {
-        return 0;
-    }
-    lists::num(starts, n - 1) + lists::byte(sizes, n - 1)
-}
-
 // The quarters of a direction: one clockwise, three counterclockwise.
 fn quarters_of(direction: u8) -> u8
     ensures { λ r. ⌜ r ≡ quarters direction ⌝ }
@@ -53,15 +40,9 @@ fn quarters_of(direction: u8) -> u8
     if direction == 0 { 1 } else { 3 }
 }
 
-// Are both border contexts?
-fn both_border(u: usize, v: usize) -> bool
-    ensures { λ r. ⌜ r ≡ (border u && border v) ⌝ }
-{
-    if u < 4 { v < 4 } else { false }
-}
-
 // Where the label of the dart from u to v stands; 1186 where there is no dart.
 fn place_of<'a>(
+    places: &'a [u8],
     starts: &'a [u16],
     sizes: &'a [u8],
     entries: &'a [u16],
@@ -71,9 +52,10 @@ fn place_of<'a>(
 ) -> usize
     requires { ⌜ now starts ≡ startsOf (now sizes) ⌝ }
     requires { ⌜ n ≤ 200 ⌝ }
+    requires { ⌜ now places ≡ placesOf (rows (now starts) (now sizes) (now entries) n) ⌝ }
     ensures { λ r. ⌜ r ≡ placeOf (table (now (sizes .entry)) (now (entries .entry)) n) u v ⌝ }
 {
-    let i = rings::index_of(starts, sizes, entries, n, u, v);
+    let i = places::index_by(places, starts, sizes, entries, n, u, v);
     if i < rings::size_of(sizes, n, u) {
         return lists::num(starts, u) + i;
     }
@@ -87,26 +69,25 @@ fn is_bad<'a>(old: &'a [u8], new: &'a [u8], i: usize, u: usize, v: usize) -> boo
     if 1186 <= i {
         return true;
     }
-    if both_border(u, v) {
+    if labels::both_border(u, v) {
         return true;
     }
     labels::label_at(new, i) != labels::label_at(old, i)
 }
 
-// The labels with the one at i turned clockwise by q quarters; as they are where i is past the last.
-fn turn_at(mut labels: [u8; 1186], i: usize, q: u8) -> [u8; 1186]
+// The label at i turned clockwise by q quarters; nothing where i is past the last.
+fn turn_at(labels: &mut [u8], i: usize, q: u8)
     requires { ⌜ q < 4 ⌝ }
-    ensures { λ r. ⌜ r ≡ turnAt q i labels ⌝ }
+    ensures { λ r. ⌜ now (labels .exit) ≡ turnAt q i (now (labels .entry)) ⌝ }
 {
-    if 1186 <= i {
-        return labels;
+    if i < labels.len() {
+        labels[i] = (labels[i] % 4 + q) % 4;
     }
-    labels[i] = (labels[i] % 4 + q) % 4;
-    labels
 }
 
 // The first bad pair, or the number of pairs; and the labels with the edges before it turned by q quarters.
 fn turn_pairs<'a>(
+    places: &'a [u8],
     starts: &'a [u16],
     sizes: &'a [u8],
     entries: &'a [u16],
@@ -117,6 +98,7 @@ fn turn_pairs<'a>(
 ) -> Passed
     requires { ⌜ now starts ≡ startsOf (now sizes) ⌝ }
     requires { ⌜ n ≤ 200 ⌝ }
+    requires { ⌜ now places ≡ placesOf (rows (now starts) (now sizes) (now entries) n) ⌝ }
     requires { ⌜ startOf (now sizes) n ≤ 1186 ⌝ }
     requires { ⌜ (q < 4) × (q % 2 ≡ 1) ⌝ }
     ensures at { λ r. ⌜ r .at ≡ lowest (badPair (table (now (sizes .entry)) (now (entries .entry)) n) (pairs (now (items .entry)))) (length (pairs (now (items .entry)))) ⌝ }
@@ -128,16 +110,16 @@ fn turn_pairs<'a>(
     while k < m {
         let u = lists::num(items, 2 * k);
         let v = lists::num(items, 2 * k + 1);
-        let i = place_of(starts, sizes, entries, n, u, v);
+        let i = place_of(places, starts, sizes, entries, n, u, v);
         if is_bad(&labels, &turned, i, u, v) {
             return Passed {
                 at: k,
                 labels: turned,
             };
         }
-        let back = turn_at(turned, place_of(starts, sizes, entries, n, v, u), q);
-        let both = turn_at(back, i, q);
-        turned = both;
+        let back = place_of(places, starts, sizes, entries, n, v, u);
+        turn_at(&mut turned, back, q);
+        turn_at(&mut turned, i, q);
         k += 1;
     }
     Passed {
@@ -165,16 +147,14 @@ pub fn turn_labels<'a>(
     ensures answer { λ r. ⌜ outcomeOf (r .answer) (labelsIn (now (sizes .entry)) n (r .labels)) ≡ turnOf (now (sizes .entry)) (now (entries .entry)) n labels (now (items .entry)) direction ⌝ }
     ensures labels { λ r. ⌜ r .labels ≡ arrayAfter labels (turnOf (now (sizes .entry)) (now (entries .entry)) n labels (now (items .entry)) direction) ⌝ }
 {
-    if 200 < n {
+    if !fit::is_in_bounds(sizes, n) {
         return kept(TurnAnswer::Unfit, labels);
     }
     let starts = rings::starts_of(sizes);
-    if 1186 < total_of(&starts, sizes, n) {
-        return kept(TurnAnswer::Unfit, labels);
-    }
+    let places = places::places_of(&starts, sizes, entries, n);
     let pairs = items.len() / 2;
     let quarters = quarters_of(direction);
-    let passed = turn_pairs(&starts, sizes, entries, n, labels, items, quarters);
+    let passed = turn_pairs(&places, &starts, sizes, entries, n, labels, items, quarters);
     if passed.at < pairs {
         return kept(TurnAnswer::BadList(passed.at), labels);
     }

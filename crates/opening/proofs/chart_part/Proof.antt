@@ -1,5 +1,6 @@
 -- chart_part meets its contract.
-use Rattle.opening.proofs.Judging.{front-labels, all-counted}
+use Rattle.opening.proofs.Judging.{front-labels}
+use Rattle.fit.proofs.Fits.{all-counted}
 use Prim.Native.Nat.{ℕ}
 use Rattle.placement.specs.Drawing.{chartOn}
 use Rattle.opening.specs.Opening.{chartRules}

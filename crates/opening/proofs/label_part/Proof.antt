@@ -1,5 +1,6 @@
 -- label_part meets its contract.
-use Rattle.opening.proofs.Judging.{front-labels, all-counted}
+use Rattle.opening.proofs.Judging.{front-labels}
+use Rattle.fit.proofs.Fits.{all-counted}
 use Rattle.model.specs.Labels.{labelRules}
 use mathlib.Core.Path.{_≡_, refl, sym, ap, _∙_}
 use mathlib.Core.List.{List}

@@ -9,7 +9,8 @@ use Rattle.rings.specs.Lent.{lent}
 use Rattle.lent.proofs.Copied.{entry-count-lent}
 use Rattle.framing.specs.Layouts.{planIn}
 use Rattle.opening.specs.Opening.{judgedAs}
-use Rattle.opening.proofs.Judging.{four-refused, five-refused, six-refused, seven-refused, lent-passed, all-counted}
+use Rattle.opening.proofs.Judging.{four-refused, five-refused, six-refused, seven-refused, lent-passed}
+use Rattle.fit.proofs.Fits.{all-counted}
 use native.Mathlib.Omega.{arith}
 use borrow.Author.Needs.{needs}
 use Rattle.opening.proofs.lent_rules.Statement.{statement}

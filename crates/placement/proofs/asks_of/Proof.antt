@@ -1,5 +1,6 @@
 -- asks_of meets its contract.
 use Rattle.placement.proofs.Asking.{Asking, asking-start, asking-room, asking-dart, asking-next, asking-end, dart-at, neighbour-le}
+use Rattle.labels.proofs.Places.{label-told}
 use Rattle.rings.specs.Tables.{sizeOf}
 use Rattle.lists.specs.Spans.{zeros}
 use Prim.Native.Nat.{ℕ, _<_, _-_, _+_, _*_}
@@ -14,137 +15,108 @@ use Rattle.lists.proofs.num.Reads as num-reads
 use Rattle.placement.proofs.end_of.Reads as end-of-reads
 use Rattle.placement.proofs.gap_of.Reads as gap-of-reads
 use Rattle.placement.proofs.kept_of.Reads as kept-of-reads
-use Rattle.placement.proofs.label_of.Reads as label-of-reads
+use Rattle.labels.proofs.label_by.Reads as label-by-reads
 use Rattle.placement.proofs.tied_to.Reads as tied-to-reads
 use Rattle.rings.proofs.neighbour_of.Reads as neighbour-of-reads
 use Rattle.rings.proofs.size_of.Reads as size-of-reads
 
 abbrev Inv-loop : tie.InvT-loop
-Inv-loop starts sizes entries n labels upright lows₀ highs₀ gaps₀ end count₀ u₀ i₀ lows highs gaps count u i = Asking sizes entries n labels upright lows highs gaps count u i
+Inv-loop places starts sizes entries n labels upright lows₀ highs₀ gaps₀ end count₀ u₀ i₀ lows highs gaps count u i = Asking sizes entries n labels upright lows highs gaps count u i
 
 abbrev μ-loop : tie.MeasureT-loop
-μ-loop starts sizes entries n labels upright lows₀ highs₀ gaps₀ end count₀ u₀ i₀ lows highs gaps count u i = (n - u) * 256 - i
+μ-loop places starts sizes entries n labels upright lows₀ highs₀ gaps₀ end count₀ u₀ i₀ lows highs gaps count u i = (n - u) * 256 - i
 
--- src/lib.rt:122:9
 tied-to-requires : tie.Need-tied-to-requires Inv-loop μ-loop
 tied-to-requires c κs = search needs
 
--- src/lib.rt:123:5
 array-write-highs : tie.Need-array-write-highs Inv-loop μ-loop
 array-write-highs c = search needs
 
--- src/lib.rt:124:5
 array-write-lows : tie.Need-array-write-lows Inv-loop μ-loop
 array-write-lows c = search needs
 
--- src/lib.rt:128:5
 loop-holds : tie.Need-loop-holds Inv-loop μ-loop
 unfolding zeros
-loop-holds c = asking-start (c .before .before .before .before .before .args .sizes .now) (c .before .before .before .before .before .args .entries .now) (c .before .before .before .before .before .args .n) (c .before .before .before .before .before .args .labels .now) (c .before .before .before .before .before .args .upright) _ (c .tied-to .ensures) (zeros 1188) (zeros 1188) (zeros 1188) refl refl refl
+loop-holds c = asking-start (c .before .before .before .before .before .before .args .sizes .now) (c .before .before .before .before .before .before .args .entries .now) (c .before .before .before .before .before .before .args .n) (c .before .before .before .before .before .before .args .labels .now) (c .before .before .before .before .before .before .args .upright) _ (c .tied-to .ensures) (zeros 1188) (zeros 1188) (zeros 1188) refl refl refl
 
--- src/lib.rt:129:16
 size-of-requires : tie.Need-size-of-requires Inv-loop μ-loop
 size-of-requires c κs = search needs
 
--- src/lib.rt:130:61
 num-requires : tie.Need-num-requires Inv-loop μ-loop
 num-requires c κs = search needs
 
--- src/lib.rt:130:61
 add-num : tie.Need-add-num Inv-loop μ-loop
 add-num c = search needs
 
--- src/lib.rt:130:41
 num-requires-2 : tie.Need-num-requires-2 Inv-loop μ-loop
 num-requires-2 c κs = search needs
 
--- src/lib.rt:130:17
 neighbour-of-requires : tie.Need-neighbour-of-requires Inv-loop μ-loop
 neighbour-of-requires c κs = search needs
 
--- src/lib.rt:131:17
-label-of-requires : tie.Need-label-of-requires Inv-loop μ-loop
-label-of-requires c κs = (c .before .before .before .before .before .before .before .before .before .before .before .before .pre .0, c .before .before .before .before .before .before .before .before .before .before .before .before .pre .1 .1)
+label-by-requires : tie.Need-label-by-requires Inv-loop μ-loop
+label-by-requires c κs = search needs
 
--- src/lib.rt:132:21
 cast-a : tie.Need-cast-a Inv-loop μ-loop
 cast-a c = search needs
 
--- src/lib.rt:133:21
 cast-b : tie.Need-cast-b Inv-loop μ-loop
 cast-b c = let e = c .before .neighbour-of .ensures in let l = neighbour-le (c .before .before .num2 .result) in let b = c .before .before .num2 .ensures .1 in record { fits = omega arith }
 
--- src/lib.rt:134:27
 end-of-requires : tie.Need-end-of-requires Inv-loop μ-loop
 end-of-requires c κs = search needs
 
--- src/lib.rt:134:13
 mul-lows : tie.Need-mul-lows Inv-loop μ-loop
-mul-lows c = let r = (asking-room (c .before .before .before .before .before .before .before .before .before .before .before .before .before .before .args .sizes .now) (c .before .before .before .before .before .before .before .before .before .before .before .before .before .before .args .entries .now) (c .before .before .before .before .before .before .before .before .before .before .before .before .before .before .args .n) (c .before .before .before .before .before .before .before .before .before .before .before .before .before .before .args .labels .now) (c .before .before .before .before .before .before .before .before .before .before .before .before .before .before .args .upright) (c .before .before .before .before .before .before .before .before .loop .inv) (c .before .before .before .before .before .before .before .before .before .before .before .before .before .before .pre .1 .0) (c .before .before .before .before .before .before .before .loop-test .taken) (let s = c .before .before .before .before .before .before .size-of .ensures .0 in let t = c .before .before .before .before .before .if1 .taken in omega arith)) in omega arith
+mul-lows c = let r = (asking-room (c .before .before .before .before .before .before .before .before .before .before .before .before .before .before .before .args .sizes .now) (c .before .before .before .before .before .before .before .before .before .before .before .before .before .before .before .args .entries .now) (c .before .before .before .before .before .before .before .before .before .before .before .before .before .before .before .args .n) (c .before .before .before .before .before .before .before .before .before .before .before .before .before .before .before .args .labels .now) (c .before .before .before .before .before .before .before .before .before .before .before .before .before .before .before .args .upright) (c .before .before .before .before .before .before .before .before .loop .inv) (c .before .before .before .before .before .before .before .before .before .before .before .before .before .before .before .pre .1 .0) (c .before .before .before .before .before .before .before .loop-test .taken) (let s = c .before .before .before .before .before .before .size-of .ensures .0 in let t = c .before .before .before .before .before .if1 .taken in omega arith)) in omega arith
 
--- src/lib.rt:134:13
 array-write-lows-2 : tie.Need-array-write-lows-2 Inv-loop μ-loop
-array-write-lows-2 c = asking-room (c .before .before .before .before .before .before .before .before .before .before .before .before .before .before .args .sizes .now) (c .before .before .before .before .before .before .before .before .before .before .before .before .before .before .args .entries .now) (c .before .before .before .before .before .before .before .before .before .before .before .before .before .before .args .n) (c .before .before .before .before .before .before .before .before .before .before .before .before .before .before .args .labels .now) (c .before .before .before .before .before .before .before .before .before .before .before .before .before .before .args .upright) (c .before .before .before .before .before .before .before .before .loop .inv) (c .before .before .before .before .before .before .before .before .before .before .before .before .before .before .pre .1 .0) (c .before .before .before .before .before .before .before .loop-test .taken) (let s = c .before .before .before .before .before .before .size-of .ensures .0 in let t = c .before .before .before .before .before .if1 .taken in omega arith)
+array-write-lows-2 c = asking-room (c .before .before .before .before .before .before .before .before .before .before .before .before .before .before .before .args .sizes .now) (c .before .before .before .before .before .before .before .before .before .before .before .before .before .before .before .args .entries .now) (c .before .before .before .before .before .before .before .before .before .before .before .before .before .before .before .args .n) (c .before .before .before .before .before .before .before .before .before .before .before .before .before .before .before .args .labels .now) (c .before .before .before .before .before .before .before .before .before .before .before .before .before .before .before .args .upright) (c .before .before .before .before .before .before .before .before .loop .inv) (c .before .before .before .before .before .before .before .before .before .before .before .before .before .before .before .pre .1 .0) (c .before .before .before .before .before .before .before .loop-test .taken) (let s = c .before .before .before .before .before .before .size-of .ensures .0 in let t = c .before .before .before .before .before .if1 .taken in omega arith)
 
--- src/lib.rt:135:28
 end-of-requires-2 : tie.Need-end-of-requires-2 Inv-loop μ-loop
 end-of-requires-2 c κs = search needs
 
--- src/lib.rt:135:13
 mul-highs : tie.Need-mul-highs Inv-loop μ-loop
-mul-highs c = let r = (asking-room (c .before .before .before .before .before .before .before .before .before .before .before .before .before .before .before .args .sizes .now) (c .before .before .before .before .before .before .before .before .before .before .before .before .before .before .before .args .entries .now) (c .before .before .before .before .before .before .before .before .before .before .before .before .before .before .before .args .n) (c .before .before .before .before .before .before .before .before .before .before .before .before .before .before .before .args .labels .now) (c .before .before .before .before .before .before .before .before .before .before .before .before .before .before .before .args .upright) (c .before .before .before .before .before .before .before .before .before .loop .inv) (c .before .before .before .before .before .before .before .before .before .before .before .before .before .before .before .pre .1 .0) (c .before .before .before .before .before .before .before .before .loop-test .taken) (let s = c .before .before .before .before .before .before .before .size-of .ensures .0 in let t = c .before .before .before .before .before .before .if1 .taken in omega arith)) in omega arith
+mul-highs c = let r = (asking-room (c .before .before .before .before .before .before .before .before .before .before .before .before .before .before .before .before .args .sizes .now) (c .before .before .before .before .before .before .before .before .before .before .before .before .before .before .before .before .args .entries .now) (c .before .before .before .before .before .before .before .before .before .before .before .before .before .before .before .before .args .n) (c .before .before .before .before .before .before .before .before .before .before .before .before .before .before .before .before .args .labels .now) (c .before .before .before .before .before .before .before .before .before .before .before .before .before .before .before .before .args .upright) (c .before .before .before .before .before .before .before .before .before .loop .inv) (c .before .before .before .before .before .before .before .before .before .before .before .before .before .before .before .before .pre .1 .0) (c .before .before .before .before .before .before .before .before .loop-test .taken) (let s = c .before .before .before .before .before .before .before .size-of .ensures .0 in let t = c .before .before .before .before .before .before .if1 .taken in omega arith)) in omega arith
 
--- src/lib.rt:135:13
 array-write-highs-2 : tie.Need-array-write-highs-2 Inv-loop μ-loop
-array-write-highs-2 c = asking-room (c .before .before .before .before .before .before .before .before .before .before .before .before .before .before .before .args .sizes .now) (c .before .before .before .before .before .before .before .before .before .before .before .before .before .before .before .args .entries .now) (c .before .before .before .before .before .before .before .before .before .before .before .before .before .before .before .args .n) (c .before .before .before .before .before .before .before .before .before .before .before .before .before .before .before .args .labels .now) (c .before .before .before .before .before .before .before .before .before .before .before .before .before .before .before .args .upright) (c .before .before .before .before .before .before .before .before .before .loop .inv) (c .before .before .before .before .before .before .before .before .before .before .before .before .before .before .before .pre .1 .0) (c .before .before .before .before .before .before .before .before .loop-test .taken) (let s = c .before .before .before .before .before .before .before .size-of .ensures .0 in let t = c .before .before .before .before .before .before .if1 .taken in omega arith)
+array-write-highs-2 c = asking-room (c .before .before .before .before .before .before .before .before .before .before .before .before .before .before .before .before .args .sizes .now) (c .before .before .before .before .before .before .before .before .before .before .before .before .before .before .before .before .args .entries .now) (c .before .before .before .before .before .before .before .before .before .before .before .before .before .before .before .before .args .n) (c .before .before .before .before .before .before .before .before .before .before .before .before .before .before .before .before .args .labels .now) (c .before .before .before .before .before .before .before .before .before .before .before .before .before .before .before .before .args .upright) (c .before .before .before .before .before .before .before .before .before .loop .inv) (c .before .before .before .before .before .before .before .before .before .before .before .before .before .before .before .before .pre .1 .0) (c .before .before .before .before .before .before .before .before .loop-test .taken) (let s = c .before .before .before .before .before .before .before .size-of .ensures .0 in let t = c .before .before .before .before .before .before .if1 .taken in omega arith)
 
--- src/lib.rt:136:27
 gap-of-requires : tie.Need-gap-of-requires Inv-loop μ-loop
 gap-of-requires c κs = search needs
 
--- src/lib.rt:136:13
 array-write-gaps : tie.Need-array-write-gaps Inv-loop μ-loop
-array-write-gaps c = asking-room (c .before .before .before .before .before .before .before .before .before .before .before .before .before .before .before .before .args .sizes .now) (c .before .before .before .before .before .before .before .before .before .before .before .before .before .before .before .before .args .entries .now) (c .before .before .before .before .before .before .before .before .before .before .before .before .before .before .before .before .args .n) (c .before .before .before .before .before .before .before .before .before .before .before .before .before .before .before .before .args .labels .now) (c .before .before .before .before .before .before .before .before .before .before .before .before .before .before .before .before .args .upright) (c .before .before .before .before .before .before .before .before .before .before .loop .inv) (c .before .before .before .before .before .before .before .before .before .before .before .before .before .before .before .before .pre .1 .0) (c .before .before .before .before .before .before .before .before .before .loop-test .taken) (let s = c .before .before .before .before .before .before .before .before .size-of .ensures .0 in let t = c .before .before .before .before .before .before .before .if1 .taken in omega arith)
+array-write-gaps c = asking-room (c .before .before .before .before .before .before .before .before .before .before .before .before .before .before .before .before .before .args .sizes .now) (c .before .before .before .before .before .before .before .before .before .before .before .before .before .before .before .before .before .args .entries .now) (c .before .before .before .before .before .before .before .before .before .before .before .before .before .before .before .before .before .args .n) (c .before .before .before .before .before .before .before .before .before .before .before .before .before .before .before .before .before .args .labels .now) (c .before .before .before .before .before .before .before .before .before .before .before .before .before .before .before .before .before .args .upright) (c .before .before .before .before .before .before .before .before .before .before .loop .inv) (c .before .before .before .before .before .before .before .before .before .before .before .before .before .before .before .before .before .pre .1 .0) (c .before .before .before .before .before .before .before .before .before .loop-test .taken) (let s = c .before .before .before .before .before .before .before .before .size-of .ensures .0 in let t = c .before .before .before .before .before .before .before .if1 .taken in omega arith)
 
--- src/lib.rt:137:22
 kept-of-requires : tie.Need-kept-of-requires Inv-loop μ-loop
 kept-of-requires c κs = search needs
 
--- src/lib.rt:137:13
 add-count : tie.Need-add-count Inv-loop μ-loop
-add-count c = let r = (asking-room (c .before .before .before .before .before .before .before .before .before .before .before .before .before .before .before .before .before .args .sizes .now) (c .before .before .before .before .before .before .before .before .before .before .before .before .before .before .before .before .before .args .entries .now) (c .before .before .before .before .before .before .before .before .before .before .before .before .before .before .before .before .before .args .n) (c .before .before .before .before .before .before .before .before .before .before .before .before .before .before .before .before .before .args .labels .now) (c .before .before .before .before .before .before .before .before .before .before .before .before .before .before .before .before .before .args .upright) (c .before .before .before .before .before .before .before .before .before .before .before .loop .inv) (c .before .before .before .before .before .before .before .before .before .before .before .before .before .before .before .before .before .pre .1 .0) (c .before .before .before .before .before .before .before .before .before .before .loop-test .taken) (let s = c .before .before .before .before .before .before .before .before .before .size-of .ensures .0 in let t = c .before .before .before .before .before .before .before .before .if1 .taken in omega arith)) in let k = c .kept-of .ensures .1 in record { fits = omega arith }
+add-count c = let r = (asking-room (c .before .before .before .before .before .before .before .before .before .before .before .before .before .before .before .before .before .before .args .sizes .now) (c .before .before .before .before .before .before .before .before .before .before .before .before .before .before .before .before .before .before .args .entries .now) (c .before .before .before .before .before .before .before .before .before .before .before .before .before .before .before .before .before .before .args .n) (c .before .before .before .before .before .before .before .before .before .before .before .before .before .before .before .before .before .before .args .labels .now) (c .before .before .before .before .before .before .before .before .before .before .before .before .before .before .before .before .before .before .args .upright) (c .before .before .before .before .before .before .before .before .before .before .before .loop .inv) (c .before .before .before .before .before .before .before .before .before .before .before .before .before .before .before .before .before .before .pre .1 .0) (c .before .before .before .before .before .before .before .before .before .before .loop-test .taken) (let s = c .before .before .before .before .before .before .before .before .before .size-of .ensures .0 in let t = c .before .before .before .before .before .before .before .before .if1 .taken in omega arith)) in let k = c .kept-of .ensures .1 in record { fits = omega arith }
 
--- src/lib.rt:138:13
 add-i : tie.Need-add-i Inv-loop μ-loop
 add-i c = let s = c .before .before .before .before .before .before .before .before .before .size-of .ensures .1 in let t = c .before .before .before .before .before .before .before .before .if1 .taken in record { fits = omega arith }
 
--- src/lib.rt:128:5
 loop-less : tie.Need-loop-less Inv-loop μ-loop
 loop-less c = let s = c .before .before .before .before .before .before .before .before .before .size-of .ensures .1 in let t = c .before .before .before .before .before .before .before .before .if1 .taken in let u = c .before .before .before .before .before .before .before .before .before .before .loop-test .taken in omega arith
 
--- src/lib.rt:128:5
 loop-again : tie.Need-loop-again Inv-loop μ-loop
-loop-again c = let room = asking-room (c .before .before .before .before .before .before .before .before .before .before .before .before .before .before .before .before .before .args .sizes .now) (c .before .before .before .before .before .before .before .before .before .before .before .before .before .before .before .before .before .args .entries .now) (c .before .before .before .before .before .before .before .before .before .before .before .before .before .before .before .before .before .args .n) (c .before .before .before .before .before .before .before .before .before .before .before .before .before .before .before .before .before .args .labels .now) (c .before .before .before .before .before .before .before .before .before .before .before .before .before .before .before .before .before .args .upright) (c .before .before .before .before .before .before .before .before .before .before .before .loop .inv) (c .before .before .before .before .before .before .before .before .before .before .before .before .before .before .before .before .before .pre .1 .0) (c .before .before .before .before .before .before .before .before .before .before .loop-test .taken) (let s = c .before .before .before .before .before .before .before .before .before .size-of .ensures .0 in let t = c .before .before .before .before .before .before .before .before .if1 .taken in omega arith) in
-    let h : c .before .before .before .before .before .before .before .before .before .before .before .loop .i < sizeOf (c .before .before .before .before .before .before .before .before .before .before .before .before .before .before .before .before .before .args .sizes .now) (c .before .before .before .before .before .before .before .before .before .before .before .before .before .before .before .before .before .args .n) (c .before .before .before .before .before .before .before .before .before .before .before .loop .u) = let s = c .before .before .before .before .before .before .before .before .before .size-of .ensures .0 in let t = c .before .before .before .before .before .before .before .before .if1 .taken in omega arith in
-    let at = dart-at (c .before .before .before .before .before .before .before .before .before .before .before .before .before .before .before .before .before .args .starts .now) (c .before .before .before .before .before .before .before .before .before .before .before .before .before .before .before .before .before .args .sizes .now) (c .before .before .before .before .before .before .before .before .before .before .before .before .before .before .before .before .before .args .entries .now) _ _ _ _ _ _ (c .before .before .before .before .before .before .before .before .before .before .before .before .before .before .before .before .before .pre .1 .1) h (c .before .before .before .before .before .before .before .num .ensures .0) (c .before .before .before .before .before .before .num2 .ensures .0) (c .before .before .before .before .before .neighbour-of .ensures) in
-    asking-dart (c .before .before .before .before .before .before .before .before .before .before .before .before .before .before .before .before .before .args .sizes .now) (c .before .before .before .before .before .before .before .before .before .before .before .before .before .before .before .before .before .args .entries .now) (c .before .before .before .before .before .before .before .before .before .before .before .before .before .before .before .before .before .args .n) (c .before .before .before .before .before .before .before .before .before .before .before .before .before .before .before .before .before .args .labels .now) (c .before .before .before .before .before .before .before .before .before .before .before .before .before .before .before .before .before .args .upright) (c .before .before .before .before .before .before .before .before .before .before .before .loop .inv) (c .before .before .before .before .before .neighbour-of .result) (c .before .before .before .before .label-of .result) _ _ _ (omega arith) room h at (c .before .before .before .before .label-of .ensures)
+loop-again c = let room = asking-room (c .before .before .before .before .before .before .before .before .before .before .before .before .before .before .before .before .before .before .args .sizes .now) (c .before .before .before .before .before .before .before .before .before .before .before .before .before .before .before .before .before .before .args .entries .now) (c .before .before .before .before .before .before .before .before .before .before .before .before .before .before .before .before .before .before .args .n) (c .before .before .before .before .before .before .before .before .before .before .before .before .before .before .before .before .before .before .args .labels .now) (c .before .before .before .before .before .before .before .before .before .before .before .before .before .before .before .before .before .before .args .upright) (c .before .before .before .before .before .before .before .before .before .before .before .loop .inv) (c .before .before .before .before .before .before .before .before .before .before .before .before .before .before .before .before .before .before .pre .1 .0) (c .before .before .before .before .before .before .before .before .before .before .loop-test .taken) (let s = c .before .before .before .before .before .before .before .before .before .size-of .ensures .0 in let t = c .before .before .before .before .before .before .before .before .if1 .taken in omega arith) in
+    let h : c .before .before .before .before .before .before .before .before .before .before .before .loop .i < sizeOf (c .before .before .before .before .before .before .before .before .before .before .before .before .before .before .before .before .before .before .args .sizes .now) (c .before .before .before .before .before .before .before .before .before .before .before .before .before .before .before .before .before .before .args .n) (c .before .before .before .before .before .before .before .before .before .before .before .loop .u) = let s = c .before .before .before .before .before .before .before .before .before .size-of .ensures .0 in let t = c .before .before .before .before .before .before .before .before .if1 .taken in omega arith in
+    let at = dart-at (c .before .before .before .before .before .before .before .before .before .before .before .before .before .before .before .before .before .before .args .starts .now) (c .before .before .before .before .before .before .before .before .before .before .before .before .before .before .before .before .before .before .args .sizes .now) (c .before .before .before .before .before .before .before .before .before .before .before .before .before .before .before .before .before .before .args .entries .now) _ _ _ _ _ _ (c .before .before .before .before .before .before .before .before .before .before .before .before .before .before .before .before .before .before .pre .1 .1 .0) h (c .before .before .before .before .before .before .before .num .ensures .0) (c .before .before .before .before .before .before .num2 .ensures .0) (c .before .before .before .before .before .neighbour-of .ensures) in
+    asking-dart (c .before .before .before .before .before .before .before .before .before .before .before .before .before .before .before .before .before .before .args .sizes .now) (c .before .before .before .before .before .before .before .before .before .before .before .before .before .before .before .before .before .before .args .entries .now) (c .before .before .before .before .before .before .before .before .before .before .before .before .before .before .before .before .before .before .args .n) (c .before .before .before .before .before .before .before .before .before .before .before .before .before .before .before .before .before .before .args .labels .now) (c .before .before .before .before .before .before .before .before .before .before .before .before .before .before .before .before .before .before .args .upright) (c .before .before .before .before .before .before .before .before .before .before .before .loop .inv) (c .before .before .before .before .before .neighbour-of .result) (c .before .before .before .before .label-by .result) _ _ _ (omega arith) room h at (label-told (c .before .before .before .before .before .before .before .before .before .before .before .before .before .before .before .before .before .before .args .starts .now) (c .before .before .before .before .before .before .before .before .before .before .before .before .before .before .before .before .before .before .args .sizes .now) (c .before .before .before .before .before .before .before .before .before .before .before .before .before .before .before .before .before .before .args .entries .now) (c .before .before .before .before .before .before .before .before .before .before .before .before .before .before .before .before .before .before .args .n) (c .before .before .before .before .before .before .before .before .before .before .before .before .before .before .before .before .before .before .pre .1 .1 .0) (c .before .before .before .before .before .before .before .before .before .before .before .before .before .before .before .before .before .before .pre .0) (c .before .before .before .before .before .before .before .before .before .before .before .before .before .before .before .before .before .before .pre .1 .1 .1) (c .before .before .before .before .before .before .before .before .before .before .before .before .before .before .before .before .before .before .args .labels .now) _ _ (c .before .before .before .before .label-by .ensures .0))
     (c .before .before .before .end-of .ensures) (c .before .before .end-of2 .ensures) (c .before .gap-of .ensures) (ap (λ (k : ℕ). c .before .before .before .before .before .before .before .before .before .before .before .loop .count + k) (c .kept-of .ensures .0))
 
--- src/lib.rt:140:13
 add-u : tie.Need-add-u Inv-loop μ-loop
 add-u c = search needs
 
--- src/lib.rt:128:5
 loop-less-2 : tie.Need-loop-less-2 Inv-loop μ-loop
 loop-less-2 c = let u = c .before .before .loop-test .taken in let w = c .before .before .before .loop .inv .within in let s = c .before .size-of .ensures in let t = c .if1 .left in omega arith
 
--- src/lib.rt:128:5
 loop-again-2 : tie.Need-loop-again-2 Inv-loop μ-loop
-loop-again-2 c = asking-next (c .before .before .before .before .before .before .before .before .before .args .sizes .now) (c .before .before .before .before .before .before .before .before .before .args .entries .now) (c .before .before .before .before .before .before .before .before .before .args .n) (c .before .before .before .before .before .before .before .before .before .args .labels .now) (c .before .before .before .before .before .before .before .before .before .args .upright) (c .before .before .before .loop .inv) (omega arith) (c .before .before .loop-test .taken) (let s = c .before .size-of .ensures .0 in let t = c .if1 .left in omega arith)
+loop-again-2 c = asking-next (c .before .before .before .before .before .before .before .before .before .before .args .sizes .now) (c .before .before .before .before .before .before .before .before .before .before .args .entries .now) (c .before .before .before .before .before .before .before .before .before .before .args .n) (c .before .before .before .before .before .before .before .before .before .before .args .labels .now) (c .before .before .before .before .before .before .before .before .before .before .args .upright) (c .before .before .before .loop .inv) (omega arith) (c .before .before .loop-test .taken) (let s = c .before .size-of .ensures .0 in let t = c .if1 .left in omega arith)
 
--- src/lib.rt:105:1
 returns : tie.Need-returns Inv-loop μ-loop
-returns c = (asking-end (c .before .before .before .before .before .before .before .args .sizes .now) (c .before .before .before .before .before .before .before .args .entries .now) (c .before .before .before .before .before .before .before .args .n) (c .before .before .before .before .before .before .before .args .labels .now) (c .before .before .before .before .before .before .before .args .upright) (c .before .loop .inv) (c .loop-test .left), c .before .loop .inv .least)
+returns c = (asking-end (c .before .before .before .before .before .before .before .before .args .sizes .now) (c .before .before .before .before .before .before .before .before .args .entries .now) (c .before .before .before .before .before .before .before .before .args .n) (c .before .before .before .before .before .before .before .before .args .labels .now) (c .before .before .before .before .before .before .before .before .args .upright) (c .before .loop .inv) (c .loop-test .left), c .before .loop .inv .least)
 
 pub asks-of-spec : {M : Type 1} → statement M
 asks-of-spec =
@@ -161,7 +133,7 @@ asks-of-spec =
     add-num
     num-requires-2
     neighbour-of-requires
-    label-of-requires
+    label-by-requires
     cast-a
     cast-b
     end-of-requires

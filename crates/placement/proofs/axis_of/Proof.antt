@@ -16,7 +16,7 @@ use Rattle.solver.proofs.solve.Reads as solve-reads
 
 -- src/lib.rt:181:9
 asks-of-requires : tie.Need-asks-of-requires
-asks-of-requires c κs = c .before .before .before .before .pre
+asks-of-requires c κs = c .before .before .before .before .before .pre
 
 -- src/lib.rt:185:48
 slice-aggregate-solve : tie.Need-slice-aggregate-solve
@@ -56,7 +56,7 @@ all-met-requires c κs = search needs
 
 -- src/lib.rt:166:1
 returns : tie.Need-returns
-returns c = let eq = axis-numbers (c .before .before .before .before .before .before .before .before .before .before .before .before .before .before .before .before .before .before .args .n) _ _ (c .before .before .before .before .before .before .solve .result) (c .before .before .before .before .before .before .before .before .before .before .before .before .before .before .before .before .before .before .pre .0) (c .before .before .before .before .before .before .solve .ensures) (c .before .before .before .before .before .before .before .before .before .before .before .before .before .asks-of .ensures .0) in
+returns c = let eq = axis-numbers (c .before .before .before .before .before .before .before .before .before .before .before .before .before .before .before .before .before .before .before .args .n) _ _ (c .before .before .before .before .before .before .solve .result) (c .before .before .before .before .before .before .before .before .before .before .before .before .before .before .before .before .before .before .before .pre .0) (c .before .before .before .before .before .before .solve .ensures) (c .before .before .before .before .before .before .before .before .before .before .before .before .before .asks-of .ensures .0) in
     (ap (λ (r : Numbers). r .found) eq, (ap (λ (r : Numbers). r .at) eq, c .all-met .ensures ∙ ap (all (meets (c .before .before .before .before .before .before .solve .result .at))) (after-ties (c .before .before .before .before .before .before .before .before .before .before .before .before .before .asks-of .result .lows) (c .before .before .before .before .before .before .before .before .before .before .before .before .before .asks-of .result .highs) (c .before .before .before .before .before .before .before .before .before .before .before .before .before .asks-of .result .gaps) _ _ _ _ (c .before .before .before .before .before .before .before .before .before .before .before .before .before .asks-of .ensures .1) (c .before .before .before .before .before .before .before .before .before .before .before .before .before .asks-of .ensures .0))))
 
 pub axis-of-spec : {M : Type 1} → statement M

@@ -12,10 +12,10 @@ use Rattle.labels.proofs.rules.bad_darts.Statement.{statement}
 use Rattle.labels.proofs.rules.bad_darts.Tie as tie
 
 abbrev Inv-loop : tie.InvT-loop
-Inv-loop starts sizes entries n labels u i₀ e i = Sees (λ (x : ℕ). badDart (table sizes entries n) labels u (neighbour x)) entries i₀ e i
+Inv-loop places starts sizes entries n labels u i₀ e i = Sees (λ (x : ℕ). badDart (table sizes entries n) labels u (neighbour x)) entries i₀ e i
 
 abbrev μ-loop : tie.MeasureT-loop
-μ-loop starts sizes entries n labels u i₀ e i = e - i
+μ-loop places starts sizes entries n labels u i₀ e i = e - i
 
 num-requires : tie.Need-num-requires Inv-loop μ-loop
 num-requires c κs = search needs
@@ -40,11 +40,11 @@ bad-dart-requires c κs = search needs
 
 returns : tie.Need-returns Inv-loop μ-loop
 returns c =
-    let entry = c .before .before .before .before .before .before .before .before .before .before .before .before in
-    let a = entry .args in
+    let pre = c .before .before .before .before .before .before .before .before .before .before .before .before .before .pre in
+    let a = c .before .before .before .before .before .before .before .before .before .before .before .before .before .args in
     let p = table (a .sizes .now) (a .entries .now) (a .n) in
     sees-hit (c .before .before .before .before .before .loop .inv) (omega arith) (ap (badDart p (a .labels .now) (a .u)) (sym (c .before .before .neighbour-of .ensures ∙ ap neighbour (c .before .before .before .num2 .ensures .0))) ∙ sym (c .before .bad-dart .ensures) ∙ c .if1 .taken)
-    ∙ ring-any (a .starts .now) (a .sizes .now) (a .entries .now) (a .n) (entry .pre .0) (entry .pre .1) (a .u) (c .before .before .before .before .before .before .before .num .ensures .0) (c .before .before .before .before .before .before .size-of .ensures .0) (badDart p (a .labels .now) (a .u))
+    ∙ ring-any (a .starts .now) (a .sizes .now) (a .entries .now) (a .n) (pre .0) (pre .1 .0) (a .u) (c .before .before .before .before .before .before .before .num .ensures .0) (c .before .before .before .before .before .before .size-of .ensures .0) (badDart p (a .labels .now) (a .u))
 
 add-i : tie.Need-add-i Inv-loop μ-loop
 add-i c = search needs
@@ -54,17 +54,17 @@ loop-less c = search needs
 
 loop-again : tie.Need-loop-again Inv-loop μ-loop
 loop-again c =
-    let a = c .before .before .before .before .before .before .before .before .before .before .before .before .args in
+    let a = c .before .before .before .before .before .before .before .before .before .before .before .before .before .args in
     let p = table (a .sizes .now) (a .entries .now) (a .n) in
     sees-on (c .before .before .before .before .before .loop .inv) refl (omega arith) (ap (badDart p (a .labels .now) (a .u)) (sym (c .before .before .neighbour-of .ensures ∙ ap neighbour (c .before .before .before .num2 .ensures .0))) ∙ sym (c .before .bad-dart .ensures) ∙ c .if1 .left)
 
 returns-2 : tie.Need-returns-2 Inv-loop μ-loop
 returns-2 c =
-    let entry = c .before .before .before .before .before .before .before .before in
-    let a = entry .args in
+    let pre = c .before .before .before .before .before .before .before .before .before .pre in
+    let a = c .before .before .before .before .before .before .before .before .before .args in
     let p = table (a .sizes .now) (a .entries .now) (a .n) in
     sees-end (c .before .loop .inv) (omega arith)
-    ∙ ring-any (a .starts .now) (a .sizes .now) (a .entries .now) (a .n) (entry .pre .0) (entry .pre .1) (a .u) (c .before .before .before .num .ensures .0) (c .before .before .size-of .ensures .0) (badDart p (a .labels .now) (a .u))
+    ∙ ring-any (a .starts .now) (a .sizes .now) (a .entries .now) (a .n) (pre .0) (pre .1 .0) (a .u) (c .before .before .before .num .ensures .0) (c .before .before .size-of .ensures .0) (badDart p (a .labels .now) (a .u))
 
 pub bad-darts-spec : {M : Type 1} → statement M
 bad-darts-spec =

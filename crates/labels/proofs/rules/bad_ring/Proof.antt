@@ -14,7 +14,7 @@ not-dues-requires c κs = search needs
 
 returns : tie.Need-returns
 returns c =
-    let a = c .before .before .before .before .before .before .args in
+    let a = c .before .before .before .before .before .before .before .args in
     let p = table (a .sizes .now) (a .entries .now) (a .n) in
     c .not-dues .ensures
     ∙ ring-border p (a .labels .now) (a .u) (omega arith)
@@ -33,10 +33,10 @@ four-runs-requires c κs = search needs
 
 returns-2 : tie.Need-returns-2
 returns-2 c =
-    let entry = c .before .before .before .before .before .before .before .before in
-    let a = entry .args in
+    let pre = c .before .before .before .before .before .before .before .before .before .pre in
+    let a = c .before .before .before .before .before .before .before .before .before .args in
     let p = table (a .sizes .now) (a .entries .now) (a .n) in
-    ring-inner p (a .labels .now) (a .u) (c .four-runs .ensures ∙ ap fourRuns (around-held (a .starts .now) (a .sizes .now) (a .entries .now) (a .n) (entry .pre .0) (omega arith) (a .u) (c .before .before .num .ensures .0) (c .before .size-of .ensures .0) (a .labels .now) (omega arith))) (omega arith)
+    ring-inner p (a .labels .now) (a .u) (c .four-runs .ensures ∙ ap fourRuns (around-held (a .starts .now) (a .sizes .now) (a .entries .now) (a .n) (pre .0) (omega arith) (a .u) (c .before .before .num .ensures .0) (c .before .size-of .ensures .0) (a .labels .now) (omega arith))) (omega arith)
 
 pub bad-ring-spec : {M : Type 1} → statement M
 bad-ring-spec =

@@ -11,7 +11,7 @@ bad-darts-requires c κs = search needs
 
 returns : tie.Need-returns
 returns c =
-    let a = c .before .before .before .before .before .before .args in
+    let a = c .before .before .before .before .before .before .before .args in
     let p = table (a .sizes .now) (a .entries .now) (a .n) in
     breaks-dart p (a .labels .now) (a .u) (c .before .bad-darts .ensures) (c .if1 .taken)
 
@@ -20,7 +20,7 @@ bad-ring-requires c κs = search needs
 
 returns-2 : tie.Need-returns-2
 returns-2 c =
-    let a = c .before .before .before .before .before .before .before .args in
+    let a = c .before .before .before .before .before .before .before .before .args in
     let p = table (a .sizes .now) (a .entries .now) (a .n) in
     c .bad-ring .ensures
     ∙ breaks-ring p (a .labels .now) (a .u) (c .before .before .bad-darts .ensures) (c .before .if1 .left)

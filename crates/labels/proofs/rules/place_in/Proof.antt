@@ -10,10 +10,10 @@ use Rattle.labels.proofs.rules.place_in.Statement.{statement}
 use Rattle.labels.proofs.rules.place_in.Tie as tie
 
 abbrev Inv-loop : tie.InvT-loop
-Inv-loop starts sizes entries n labels u₀ u = Looks (breaks (table sizes entries n) labels) n u
+Inv-loop places starts sizes entries n labels u₀ u = Looks (breaks (table sizes entries n) labels) n u
 
 abbrev μ-loop : tie.MeasureT-loop
-μ-loop starts sizes entries n labels u₀ u = n - u
+μ-loop places starts sizes entries n labels u₀ u = n - u
 
 loop-holds : tie.Need-loop-holds Inv-loop μ-loop
 loop-holds c = looks-start

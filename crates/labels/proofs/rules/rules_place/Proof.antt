@@ -2,8 +2,7 @@
 use mathlib.Core.Path.{_∙_}
 use Rattle.lists.specs.Ranges.{lowest}
 use Rattle.model.specs.Labels.{breaks}
-use Rattle.rings.specs.Tables.{table}
-use Rattle.rings.specs.Tables.{held}
+use Rattle.rings.specs.Tables.{table, held}
 use native.Mathlib.Omega.{arith}
 use borrow.Author.Needs.{needs}
 use Rattle.labels.proofs.rules.rules_place.Statement.{statement}
@@ -12,20 +11,29 @@ use Rattle.labels.proofs.rules.rules_place.Tie as tie
 starts-of-requires : tie.Need-starts-of-requires
 starts-of-requires c κs = search needs
 
-slice-aggregate-place-in : tie.Need-slice-aggregate-place-in
-slice-aggregate-place-in c = search needs
-
 lesser-requires : tie.Need-lesser-requires
 lesser-requires c κs = search needs
 
+slice-aggregate-places-of : tie.Need-slice-aggregate-places-of
+slice-aggregate-places-of c = search needs
+
+places-of-requires : tie.Need-places-of-requires
+places-of-requires c κs = search needs
+
+slice-aggregate-place-in : tie.Need-slice-aggregate-place-in
+slice-aggregate-place-in c = search needs
+
+slice-aggregate-place-in-2 : tie.Need-slice-aggregate-place-in-2
+slice-aggregate-place-in-2 c = search needs
+
 place-in-requires : tie.Need-place-in-requires
-place-in-requires c κs = search needs
+place-in-requires c κs = (c .before .before .before .before .before .starts-of .ensures, ((let m = c .before .before .before .before .lesser .ensures in omega arith), c .before .before .places-of .ensures))
 
 returns : tie.Need-returns
 unfolding held
 returns c =
-    let a = c .before .before .before .before .before .before .before .args in
-    let m = c .before .lesser .ensures in
+    let a = c .before .before .before .before .before .before .before .before .before .before .args in
+    let m = c .before .before .before .before .before .lesser .ensures in
     (c .place-in .ensures .0 ∙ (λ i. lowest (breaks (table (a .sizes .now) (a .entries .now) (m i)) (a .labels .now)) (m i)), omega arith)
 
 pub rules-place-spec : {M : Type 1} → statement M
@@ -33,7 +41,10 @@ rules-place-spec =
     tie.close
     (tie.spec
     starts-of-requires
-    slice-aggregate-place-in
     lesser-requires
+    slice-aggregate-places-of
+    places-of-requires
+    slice-aggregate-place-in
+    slice-aggregate-place-in-2
     place-in-requires
     returns)
