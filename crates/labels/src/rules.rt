@@ -187,6 +187,7 @@ pub fn rules_place<'a>(sizes: &'a [u8], entries: &'a [u16], n: usize, labels: &'
 {
     let starts = rings::starts_of(sizes);
     let m = lists::lesser(n, 200);
-    let places = places::places_of(&starts, sizes, entries, m);
+    let mut places = [0u8; 40000];
+    places::fill(&mut places, &starts, sizes, entries, m);
     place_in(&places, &starts, sizes, entries, m, labels)
 }

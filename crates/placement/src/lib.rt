@@ -247,7 +247,8 @@ pub fn chart_of<'a>(sizes: &'a [u8], entries: &'a [u16], n: usize, labels: &'a [
     ensures { λ r. ⌜ r ≡ drawnOf (chartFor (now (sizes .entry)) (now (entries .entry)) n (now (labels .entry))) ⌝ }
 {
     let starts = rings::starts_of(sizes);
-    let places = places::places_of(&starts, sizes, entries, n);
+    let mut places = [0u8; 40000];
+    places::fill(&mut places, &starts, sizes, entries, n);
     chart_from(&places, &starts, sizes, entries, n, labels)
 }
 

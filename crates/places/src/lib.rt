@@ -42,20 +42,6 @@ pub fn fill<'a>(table: &mut [u8], starts: &'a [u16], sizes: &'a [u8], entries: &
     }
 }
 
-// The table of positions of the plan of n contexts that the arrays hold.
-pub fn places_of<'a>(
-    starts: &'a [u16],
-    sizes: &'a [u8],
-    entries: &'a [u16],
-    n: usize,
-) -> [u8; 40000]
-    ensures { λ r. ⌜ r ≡ placesOf (rows (now (starts .entry)) (now (sizes .entry)) (now (entries .entry)) n) ⌝ }
-{
-    let mut table = [0u8; 40000];
-    fill(&mut table, starts, sizes, entries, n);
-    table
-}
-
 // Where v stands in u's ring by a table of positions; the ring's size if it does not.
 pub fn index_by<'a>(
     places: &'a [u8],

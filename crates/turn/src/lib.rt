@@ -151,7 +151,8 @@ pub fn turn_labels<'a>(
         return kept(TurnAnswer::Unfit, labels);
     }
     let starts = rings::starts_of(sizes);
-    let places = places::places_of(&starts, sizes, entries, n);
+    let mut places = [0u8; 40000];
+    places::fill(&mut places, &starts, sizes, entries, n);
     let pairs = items.len() / 2;
     let quarters = quarters_of(direction);
     let passed = turn_pairs(&places, &starts, sizes, entries, n, labels, items, quarters);

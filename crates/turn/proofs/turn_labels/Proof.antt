@@ -1,4 +1,5 @@
 -- turn_labels meets its contract.
+use Rattle.places.proofs.Notes.{filled-zeros}
 use mathlib.Core.Path.{refl, sym, _∙_}
 use borrow.Author.Tests.{not-true, not-false}
 use Rattle.fit.proofs.Fits.{bounds-say}
@@ -23,11 +24,14 @@ returns c =
 starts-of-requires : tie.Need-starts-of-requires
 starts-of-requires c κs = search needs
 
-slice-aggregate-places-of : tie.Need-slice-aggregate-places-of
-slice-aggregate-places-of c = search needs
+slice-aggregate-fill : tie.Need-slice-aggregate-fill
+slice-aggregate-fill c = search needs
 
-places-of-requires : tie.Need-places-of-requires
-places-of-requires c κs = search needs
+slice-aggregate-fill-2 : tie.Need-slice-aggregate-fill-2
+slice-aggregate-fill-2 c = search needs
+
+fill-requires : tie.Need-fill-requires
+fill-requires c κs = search needs
 
 quarters-of-requires : tie.Need-quarters-of-requires
 quarters-of-requires c κs = search needs
@@ -40,18 +44,18 @@ slice-aggregate-turn-pairs-2 c = search needs
 
 turn-pairs-requires : tie.Need-turn-pairs-requires
 turn-pairs-requires c κs =
-    let a = c .before .before .before .before .before .before .before .before .before .before .before .args in
-    let b = bounds-say (a .sizes .now) (a .n) (sym (c .before .before .before .before .before .before .before .is-in-bounds .ensures) ∙ not-false _ (c .before .before .before .before .before .before .if1 .left)) in
-    (c .before .before .before .before .before .starts-of .ensures, (b .0, (c .before .before .before .places-of .ensures, (b .1, c .before .before .quarters-of .ensures .1))))
+    let a = c .before .before .before .before .before .before .before .before .before .before .before .before .before .args in
+    let b = bounds-say (a .sizes .now) (a .n) (sym (c .before .before .before .before .before .before .before .before .before .is-in-bounds .ensures) ∙ not-false _ (c .before .before .before .before .before .before .before .before .if1 .left)) in
+    (c .before .before .before .before .before .before .before .starts-of .ensures, (b .0, (c .before .before .before .before .fill .ensures ∙ filled-zeros _ refl, (b .1, c .before .before .quarters-of .ensures .1))))
 
 kept-requires-2 : tie.Need-kept-requires-2
 kept-requires-2 c κs = search needs
 
 returns-2 : tie.Need-returns-2
 returns-2 c =
-    let a = c .before .before .before .before .before .before .before .before .before .before .before .before .before .before .before .args in
-    let long = c .before .before .before .before .before .before .before .before .before .before .before .before .before .before .before .good in
-    let b = bounds-say (a .sizes .now) (a .n) (sym (c .before .before .before .before .before .before .before .before .before .before .before .is-in-bounds .ensures) ∙ not-false _ (c .before .before .before .before .before .before .before .before .before .before .if1 .left)) in
+    let a = c .before .before .before .before .before .before .before .before .before .before .before .before .before .before .before .before .before .args in
+    let long = c .before .before .before .before .before .before .before .before .before .before .before .before .before .before .before .before .before .good in
+    let b = bounds-say (a .sizes .now) (a .n) (sym (c .before .before .before .before .before .before .before .before .before .before .before .before .before .is-in-bounds .ensures) ∙ not-false _ (c .before .before .before .before .before .before .before .before .before .before .before .before .if1 .left)) in
     answer-pair (a .sizes .now) (a .entries .now) (a .n) (a .labels) (a .items .now) (a .direction) (b .0) (b .1) (omega arith) (c .before .before .before .turn-pairs .ensures .0) refl (omega arith) (c .kept2 .ensures)
 
 kept-requires-3 : tie.Need-kept-requires-3
@@ -59,9 +63,9 @@ kept-requires-3 c κs = search needs
 
 returns-3 : tie.Need-returns-3
 returns-3 c =
-    let a = c .before .before .before .before .before .before .before .before .before .before .before .before .before .before .before .before .args in
-    let long = c .before .before .before .before .before .before .before .before .before .before .before .before .before .before .before .before .good in
-    let b = bounds-say (a .sizes .now) (a .n) (sym (c .before .before .before .before .before .before .before .before .before .before .before .before .is-in-bounds .ensures) ∙ not-false _ (c .before .before .before .before .before .before .before .before .before .before .before .if1 .left)) in
+    let a = c .before .before .before .before .before .before .before .before .before .before .before .before .before .before .before .before .before .before .args in
+    let long = c .before .before .before .before .before .before .before .before .before .before .before .before .before .before .before .before .before .before .good in
+    let b = bounds-say (a .sizes .now) (a .n) (sym (c .before .before .before .before .before .before .before .before .before .before .before .before .before .before .is-in-bounds .ensures) ∙ not-false _ (c .before .before .before .before .before .before .before .before .before .before .before .before .before .if1 .left)) in
     answer-odd (a .sizes .now) (a .entries .now) (a .n) (a .labels) (a .items .now) (a .direction) (b .0) (b .1) (omega arith) (c .before .before .before .before .turn-pairs .ensures .0) refl (omega arith) (c .before .if3 .taken) (c .kept3 .ensures)
 
 kept-requires-4 : tie.Need-kept-requires-4
@@ -69,9 +73,9 @@ kept-requires-4 c κs = search needs
 
 returns-4 : tie.Need-returns-4
 returns-4 c =
-    let a = c .before .before .before .before .before .before .before .before .before .before .before .before .before .before .before .before .before .args in
-    let long = c .before .before .before .before .before .before .before .before .before .before .before .before .before .before .before .before .before .good in
-    let b = bounds-say (a .sizes .now) (a .n) (sym (c .before .before .before .before .before .before .before .before .before .before .before .before .before .is-in-bounds .ensures) ∙ not-false _ (c .before .before .before .before .before .before .before .before .before .before .before .before .if1 .left)) in
+    let a = c .before .before .before .before .before .before .before .before .before .before .before .before .before .before .before .before .before .before .before .args in
+    let long = c .before .before .before .before .before .before .before .before .before .before .before .before .before .before .before .before .before .before .before .good in
+    let b = bounds-say (a .sizes .now) (a .n) (sym (c .before .before .before .before .before .before .before .before .before .before .before .before .before .before .before .is-in-bounds .ensures) ∙ not-false _ (c .before .before .before .before .before .before .before .before .before .before .before .before .before .before .if1 .left)) in
     answer-direction (a .sizes .now) (a .entries .now) (a .n) (a .labels) (a .items .now) (a .direction) (b .0) (b .1) (omega arith) (c .before .before .before .before .before .turn-pairs .ensures .0) refl (omega arith) (omega arith) (omega arith) (c .kept4 .ensures)
 
 slice-aggregate-rules-place : tie.Need-slice-aggregate-rules-place
@@ -85,17 +89,17 @@ kept-requires-5 c κs = search needs
 
 returns-5 : tie.Need-returns-5
 returns-5 c =
-    let a = c .before .before .before .before .before .before .before .before .before .before .before .before .before .before .before .before .before .before .before .before .before .args in
-    let long = c .before .before .before .before .before .before .before .before .before .before .before .before .before .before .before .before .before .before .before .before .before .good in
-    let b = bounds-say (a .sizes .now) (a .n) (sym (c .before .before .before .before .before .before .before .before .before .before .before .before .before .before .before .before .before .is-in-bounds .ensures) ∙ not-false _ (c .before .before .before .before .before .before .before .before .before .before .before .before .before .before .before .before .if1 .left)) in
+    let a = c .before .before .before .before .before .before .before .before .before .before .before .before .before .before .before .before .before .before .before .before .before .before .before .args in
+    let long = c .before .before .before .before .before .before .before .before .before .before .before .before .before .before .before .before .before .before .before .before .before .before .before .good in
+    let b = bounds-say (a .sizes .now) (a .n) (sym (c .before .before .before .before .before .before .before .before .before .before .before .before .before .before .before .before .before .before .before .is-in-bounds .ensures) ∙ not-false _ (c .before .before .before .before .before .before .before .before .before .before .before .before .before .before .before .before .before .before .if1 .left)) in
     answer-broken (a .sizes .now) (a .entries .now) (a .n) (a .labels) (a .items .now) (a .direction) (b .0) (b .1) (omega arith) (c .before .before .before .before .before .before .before .before .before .turn-pairs .ensures .0) refl (omega arith) (omega arith) (omega arith) (c .before .before .before .before .before .before .before .before .before .before .before .before .quarters-of .ensures .0) (c .before .before .before .before .before .before .before .before .before .turn-pairs .ensures .1) (c .before .before .rules-place .ensures .0) (omega arith) (c .kept5 .ensures)
 
 returns-6 : tie.Need-returns-6
 unfolding kept
 returns-6 c =
-    let a = c .before .before .before .before .before .before .before .before .before .before .before .before .before .before .before .before .before .before .before .before .args in
-    let long = c .before .before .before .before .before .before .before .before .before .before .before .before .before .before .before .before .before .before .before .before .good in
-    let b = bounds-say (a .sizes .now) (a .n) (sym (c .before .before .before .before .before .before .before .before .before .before .before .before .before .before .before .before .is-in-bounds .ensures) ∙ not-false _ (c .before .before .before .before .before .before .before .before .before .before .before .before .before .before .before .if1 .left)) in
+    let a = c .before .before .before .before .before .before .before .before .before .before .before .before .before .before .before .before .before .before .before .before .before .before .args in
+    let long = c .before .before .before .before .before .before .before .before .before .before .before .before .before .before .before .before .before .before .before .before .before .before .good in
+    let b = bounds-say (a .sizes .now) (a .n) (sym (c .before .before .before .before .before .before .before .before .before .before .before .before .before .before .before .before .before .before .is-in-bounds .ensures) ∙ not-false _ (c .before .before .before .before .before .before .before .before .before .before .before .before .before .before .before .before .before .if1 .left)) in
     answer-labelled (a .sizes .now) (a .entries .now) (a .n) (a .labels) (a .items .now) (a .direction) (b .0) (b .1) (omega arith) (c .before .before .before .before .before .before .before .before .turn-pairs .ensures .0) refl (omega arith) (omega arith) (omega arith) (c .before .before .before .before .before .before .before .before .before .before .before .quarters-of .ensures .0) (c .before .before .before .before .before .before .before .before .turn-pairs .ensures .1) (c .before .rules-place .ensures .0) (omega arith)
 
 pub turn-labels-spec : {M : Type 1} → statement M
@@ -106,8 +110,9 @@ turn-labels-spec =
     kept-requires
     returns
     starts-of-requires
-    slice-aggregate-places-of
-    places-of-requires
+    slice-aggregate-fill
+    slice-aggregate-fill-2
+    fill-requires
     quarters-of-requires
     slice-aggregate-turn-pairs
     slice-aggregate-turn-pairs-2

@@ -1,5 +1,6 @@
 -- rules::rules_place meets its contract.
-use mathlib.Core.Path.{_∙_}
+use Rattle.places.proofs.Notes.{filled-zeros}
+use mathlib.Core.Path.{_∙_, refl}
 use Rattle.lists.specs.Ranges.{lowest}
 use Rattle.model.specs.Labels.{breaks}
 use Rattle.rings.specs.Tables.{table, held}
@@ -14,11 +15,14 @@ starts-of-requires c κs = search needs
 lesser-requires : tie.Need-lesser-requires
 lesser-requires c κs = search needs
 
-slice-aggregate-places-of : tie.Need-slice-aggregate-places-of
-slice-aggregate-places-of c = search needs
+slice-aggregate-fill : tie.Need-slice-aggregate-fill
+slice-aggregate-fill c = search needs
 
-places-of-requires : tie.Need-places-of-requires
-places-of-requires c κs = search needs
+slice-aggregate-fill-2 : tie.Need-slice-aggregate-fill-2
+slice-aggregate-fill-2 c = search needs
+
+fill-requires : tie.Need-fill-requires
+fill-requires c κs = search needs
 
 slice-aggregate-place-in : tie.Need-slice-aggregate-place-in
 slice-aggregate-place-in c = search needs
@@ -27,13 +31,13 @@ slice-aggregate-place-in-2 : tie.Need-slice-aggregate-place-in-2
 slice-aggregate-place-in-2 c = search needs
 
 place-in-requires : tie.Need-place-in-requires
-place-in-requires c κs = (c .before .before .before .before .before .starts-of .ensures, ((let m = c .before .before .before .before .lesser .ensures in omega arith), c .before .before .places-of .ensures))
+place-in-requires c κs = (c .before .before .before .before .before .before .before .starts-of .ensures, ((let m = c .before .before .before .before .before .before .lesser .ensures in omega arith), c .before .before .before .fill .ensures ∙ filled-zeros _ refl))
 
 returns : tie.Need-returns
 unfolding held
 returns c =
-    let a = c .before .before .before .before .before .before .before .before .before .before .args in
-    let m = c .before .before .before .before .before .lesser .ensures in
+    let a = c .before .before .before .before .before .before .before .before .before .before .before .before .args in
+    let m = c .before .before .before .before .before .before .before .lesser .ensures in
     (c .place-in .ensures .0 ∙ (λ i. lowest (breaks (table (a .sizes .now) (a .entries .now) (m i)) (a .labels .now)) (m i)), omega arith)
 
 pub rules-place-spec : {M : Type 1} → statement M
@@ -42,8 +46,9 @@ rules-place-spec =
     (tie.spec
     starts-of-requires
     lesser-requires
-    slice-aggregate-places-of
-    places-of-requires
+    slice-aggregate-fill
+    slice-aggregate-fill-2
+    fill-requires
     slice-aggregate-place-in
     slice-aggregate-place-in-2
     place-in-requires

@@ -14,10 +14,10 @@ use Rattle.sweep.proofs.mark.along.Tie as tie
 use Rattle.sweep.specs.Run as run
 
 abbrev Inv-loop : tie.InvT-loop
-Inv-loop labels₀ starts sizes entries n f i e last k₀ labels k = Draws (rows starts sizes entries n) right (steps (span f i e)) labels₀ (steps (span f k e)) labels
+Inv-loop labels₀ places starts sizes entries n f i e last k₀ labels k = Draws (rows starts sizes entries n) right (steps (span f i e)) labels₀ (steps (span f k e)) labels
 
 abbrev μ-loop : tie.MeasureT-loop
-μ-loop labels₀ starts sizes entries n f i e last k₀ labels k = last - k
+μ-loop labels₀ places starts sizes entries n f i e last k₀ labels k = last - k
 
 minus-requires : tie.Need-minus-requires Inv-loop μ-loop
 minus-requires c κs = search needs
@@ -35,7 +35,7 @@ num-requires-2 : tie.Need-num-requires-2 Inv-loop μ-loop
 num-requires-2 c κs = search needs
 
 edge-requires : tie.Need-edge-requires Inv-loop μ-loop
-edge-requires c κs = (c .before .before .before .before .before .before .before .before .before .before .before .pre .0, (c .before .before .before .before .before .before .before .before .before .before .before .pre .1, omega arith))
+edge-requires c κs = (c .before .before .before .before .before .before .before .before .before .before .before .before .pre .0, (c .before .before .before .before .before .before .before .before .before .before .before .before .pre .1 .0, (c .before .before .before .before .before .before .before .before .before .before .before .before .pre .1 .1, omega arith)))
 
 add-k : tie.Need-add-k Inv-loop μ-loop
 add-k c = search needs
@@ -45,7 +45,7 @@ loop-less c = search needs
 
 loop-again : tie.Need-loop-again Inv-loop μ-loop
 loop-again c =
-    let a = c .before .before .before .before .before .before .before .before .before .before .before .before .before .before .args in
+    let a = c .before .before .before .before .before .before .before .before .before .before .before .before .before .before .before .args in
     let l = c .before .before .before .before .before .before .before .before .minus .ensures in
     draws-on (c .before .before .before .before .before .before .before .loop .inv) (getD (a .f .now) (c .before .before .before .before .before .before .before .loop .k) 0) (getD (a .f .now) (c .before .before .before .before .before .before .before .loop .k + 1) 0) (steps-more (a .f .now) (c .before .before .before .before .before .before .before .loop .k) (a .e) (omega arith)) (c .before .before .edge .ensures ∙ (λ d. run.edge (rows (a .starts .now) (a .sizes .now) (a .entries .now) (a .n)) 1 (c .before .before .before .before .num .ensures .0 d) (c .before .before .before .num2 .ensures .0 d) (c .before .before .before .before .before .before .before .loop .labels)))
 
@@ -53,7 +53,7 @@ same-length : tie.Need-same-length Inv-loop μ-loop
 same-length c = draws-size (c .before .loop .inv)
 
 returns : tie.Need-returns Inv-loop μ-loop
-returns c = let a = c .before .before .before .before .before .before .before .before .args in let l = c .before .before .minus .ensures in draws-end (c .before .loop .inv) (steps-end (a .f .now) (c .before .loop .k) (a .e) (omega arith))
+returns c = let a = c .before .before .before .before .before .before .before .before .before .args in let l = c .before .before .minus .ensures in draws-end (c .before .loop .inv) (steps-end (a .f .now) (c .before .loop .k) (a .e) (omega arith))
 
 pub along-spec : {M : Type 1} → statement M
 along-spec = tie.close (tie.spec Inv-loop μ-loop minus-requires loop-holds num-requires add-num num-requires-2 edge-requires add-k loop-less loop-again same-length returns)

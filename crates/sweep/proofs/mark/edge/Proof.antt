@@ -11,10 +11,10 @@ add-put-on : tie.Need-add-put-on
 add-put-on c = search needs
 
 put-on-requires : tie.Need-put-on-requires
-put-on-requires c κs = (c .before .before .before .before .before .pre .0, c .before .before .before .before .before .pre .1 .0)
+put-on-requires c κs = (c .before .before .before .before .before .before .pre .0, (c .before .before .before .before .before .before .pre .1 .0, c .before .before .before .before .before .before .pre .1 .1 .0))
 
 put-on-requires-2 : tie.Need-put-on-requires-2
-put-on-requires-2 c κs = (c .before .before .before .before .before .before .before .before .before .pre .0, c .before .before .before .before .before .before .before .before .before .pre .1 .0)
+put-on-requires-2 c κs = (c .before .before .before .before .before .before .before .before .before .before .pre .0, (c .before .before .before .before .before .before .before .before .before .before .pre .1 .0, c .before .before .before .before .before .before .before .before .before .before .pre .1 .1 .0))
 
 same-length : tie.Need-same-length
 same-length c = search needs
@@ -22,7 +22,7 @@ same-length c = search needs
 returns : tie.Need-returns
 unfolding run.edge
 returns c =
-    let a = c .before .before .before .before .before .before .before .before .before .before .before .before .args in
+    let a = c .before .before .before .before .before .before .before .before .before .before .before .before .before .args in
     c .before .before .put-on2 .ensures ∙ ap (put (rows (a .starts .now) (a .sizes .now) (a .entries .now) (a .n)) (a .u) (a .v) (a .l)) (c .before .before .before .before .before .before .put-on .ensures)
 
 pub edge-spec : {M : Type 1} → statement M

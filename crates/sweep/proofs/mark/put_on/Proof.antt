@@ -28,13 +28,13 @@ same-length c = search needs
 
 returns : tie.Need-returns
 returns c =
-    let a = c .before .before .before .before .before .before .before .before .before .before .before .before .args in
-    c .before .before .set-byte .ensures ∙ put-in (a .starts .now) (a .sizes .now) (a .entries .now) (a .n) (c .before .before .before .before .before .before .before .before .before .before .before .before .pre .0) (c .pre .1 .0) (a .u) (a .v) (c .before .before .before .num .ensures .0) (index-told (rows (a .starts .now) (a .sizes .now) (a .entries .now) (a .n)) (c .pre .1 .1) (a .u) (a .v) (c .index-by .ensures .0)) (c .before .before .before .before .before .before .size-of .ensures .0) (a .labels .now) (a .l) (omega arith)
+    let a = c .before .before .before .before .before .before .before .before .before .before .before .before .before .args in
+    c .before .before .set-byte .ensures ∙ put-in (a .starts .now) (a .sizes .now) (a .entries .now) (a .n) (c .before .before .before .before .before .before .before .before .before .before .before .before .before .pre .0) (c .before .before .before .before .before .before .before .before .before .before .before .before .before .pre .1 .0) (a .u) (a .v) (c .before .before .before .num .ensures .0) (index-told (rows (a .starts .now) (a .sizes .now) (a .entries .now) (a .n)) (c .before .before .before .before .before .before .before .before .before .before .before .before .before .pre .1 .1) (a .u) (a .v) (c .before .before .before .before .before .before .before .index-by .ensures .0)) (c .before .before .before .before .before .before .size-of .ensures .0) (a .labels .now) (a .l) (omega arith)
 
 returns-2 : tie.Need-returns-2
 returns-2 c =
-    let a = c .before .before .before .before .before .before .before .args in
-    put-out (a .starts .now) (a .sizes .now) (a .entries .now) (a .n) (c .before .before .before .before .before .before .before .pre .0) (c .pre .1 .0) (a .u) (a .v) refl (index-told (rows (a .starts .now) (a .sizes .now) (a .entries .now) (a .n)) (c .pre .1 .1) (a .u) (a .v) (c .index-by .ensures .0)) (c .before .size-of .ensures .0) (a .labels .now) (a .l) (omega arith)
+    let a = c .before .before .before .before .before .before .before .before .args in
+    put-out (a .starts .now) (a .sizes .now) (a .entries .now) (a .n) (c .before .before .before .before .before .before .before .before .pre .0) (c .before .before .before .before .before .before .before .before .pre .1 .0) (a .u) (a .v) refl (index-told (rows (a .starts .now) (a .sizes .now) (a .entries .now) (a .n)) (c .before .before .before .before .before .before .before .before .pre .1 .1) (a .u) (a .v) (c .before .before .index-by .ensures .0)) (c .before .size-of .ensures .0) (a .labels .now) (a .l) (omega arith)
 
 pub put-on-spec : {M : Type 1} → statement M
 put-on-spec = tie.close (tie.spec index-by-requires size-of-requires num-requires add-set-byte set-byte-requires same-length returns returns-2)

@@ -15,18 +15,18 @@ minus-requires : tie.Need-minus-requires
 minus-requires c κs = search needs
 
 from-one-requires : tie.Need-from-one-requires
-from-one-requires c κs = c .before .before .before .before .before .before .before .pre
+from-one-requires c κs = c .before .before .before .before .before .before .before .before .pre
 
 same-length : tie.Need-same-length
 same-length c = search needs
 
 along-requires : tie.Need-along-requires
-along-requires c κs = c .before .before .before .before .before .before .before .before .before .before .before .pre
+along-requires c κs = c .before .before .before .before .before .before .before .before .before .before .before .before .pre
 
 returns : tie.Need-returns
 unfolding run.finishLabels
 returns c =
-    let a = c .before .before .before .before .before .before .before .before .before .before .before .before .before .before .args in
+    let a = c .before .before .before .before .before .before .before .before .before .before .before .before .before .before .before .args in
     let p = rows (a .starts .now) (a .sizes .now) (a .entries .now) (a .n) in
     c .before .before .along .ensures ∙ ap (labelEdges p right (steps (span (a .f .now) 0 (a .m)))) (c .before .before .before .before .before .before .from-one .ensures ∙ ap (λ (e : ℕ). labelEdges p up (run.fan 2 (span (a .f .now) 1 e)) (a .labels .now)) (c .before .before .before .before .before .before .before .before .minus .ensures))
 

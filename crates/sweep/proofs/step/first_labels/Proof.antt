@@ -14,7 +14,7 @@ use Rattle.sweep.proofs.step.first_labels.Tie as tie
 use Rattle.sweep.specs.Run as run
 
 bare-labels-requires : tie.Need-bare-labels-requires
-bare-labels-requires c κs = fit-says _ (c .before .before .before .before .pre .1) .room
+bare-labels-requires c κs = fit-says _ (c .before .before .before .before .before .pre .1 .0) .room
 
 minus-requires : tie.Need-minus-requires
 minus-requires c κs = search needs
@@ -24,15 +24,15 @@ slice-aggregate-to-north c = search needs
 
 to-north-requires : tie.Need-to-north-requires
 to-north-requires c κs =
-    let a = c .before .before .before .before .before .before .before .args in
+    let a = c .before .before .before .before .before .before .before .before .args in
     let n = count-rows (a .starts .now) (a .sizes .now) (a .entries .now) (a .n) in
-    let h = fit-says (rows (a .starts .now) (a .sizes .now) (a .entries .now) (a .n)) (c .before .before .before .before .before .before .before .pre .1) .few in
-    (c .before .before .before .before .before .before .before .pre .0, omega arith)
+    let h = fit-says (rows (a .starts .now) (a .sizes .now) (a .entries .now) (a .n)) (c .before .before .before .before .before .before .before .before .pre .1 .0) .few in
+    (c .before .before .before .before .before .before .before .before .pre .0, (omega arith, c .before .before .before .before .before .before .before .before .pre .1 .1))
 
 returns : tie.Need-returns
 unfolding run.firstLabels
 returns c =
-    let a = c .before .before .before .before .before .before .before .before .before .args in
+    let a = c .before .before .before .before .before .before .before .before .before .before .args in
     let p = rows (a .starts .now) (a .sizes .now) (a .entries .now) (a .n) in
     c .before .to-north .ensures ∙ (λ i. labelEdges p up (product (span (a .f .now) 1 (c .before .before .before .minus .ensures i)) (0 ∷ [])) (c .before .before .before .before .bare-labels .ensures i))
 

@@ -16,10 +16,10 @@ use Rattle.sweep.proofs.step.run.Statement.{statement}
 use Rattle.sweep.proofs.step.run.Tie as tie
 
 abbrev Inv-loop : tie.InvT-loop
-Inv-loop starts sizes entries n v₀ labels₀ k₀ v labels k = Running (rows starts sizes entries n) k v labels × ((length labels ≡ 1186) × (length (v .at) ≡ 512))
+Inv-loop places starts sizes entries n v₀ labels₀ k₀ v labels k = Running (rows starts sizes entries n) k v labels × ((length labels ≡ 1186) × (length (v .at) ≡ 512))
 
 abbrev μ-loop : tie.MeasureT-loop
-μ-loop starts sizes entries n v₀ labels₀ k₀ v labels k = k
+μ-loop places starts sizes entries n v₀ labels₀ k₀ v labels k = k
 
 first-line-requires : tie.Need-first-line-requires Inv-loop μ-loop
 first-line-requires c κs = search needs
@@ -28,16 +28,16 @@ slice-aggregate-first-labels : tie.Need-slice-aggregate-first-labels Inv-loop μ
 slice-aggregate-first-labels c = search needs
 
 first-labels-requires : tie.Need-first-labels-requires Inv-loop μ-loop
-first-labels-requires c κs = c .before .before .before .before .before .before .pre
+first-labels-requires c κs = c .before .before .before .before .before .before .before .pre
 
 loop-holds : tie.Need-loop-holds Inv-loop μ-loop
 loop-holds c =
-    let a = c .before .before .before .before .before .before .before .args in
+    let a = c .before .before .before .before .before .before .before .before .args in
     let p = rows (a .starts .now) (a .sizes .now) (a .entries .now) (a .n) in
-    let h = fit-sane p (c .before .before .before .before .before .before .before .pre .1) in
+    let h = fit-sane p (c .before .before .before .before .before .before .before .before .pre .1 .0) in
     let size = ring-size (a .starts .now) (a .sizes .now) (a .entries .now) (a .n) 0 in
     let most = size-le (a .sizes .now) (a .n) 0 in
-    let byte = c .before .before .before .before .before .shared-slice-known2 .given 0 in
+    let byte = c .before .before .before .before .before .shared-slice-known3 .given 0 in
     (running-start h (omega arith) (sym (count-rows (a .starts .now) (a .sizes .now) (a .entries .now) (a .n))) (c .before .before .before .first-line .ensures) (c .first-labels .ensures), (search needs, search needs))
 
 slice-aggregate-is-unfinished : tie.Need-slice-aggregate-is-unfinished Inv-loop μ-loop
@@ -54,15 +54,15 @@ slice-aggregate-finish-labels-2 c = search needs
 
 finish-labels-requires : tie.Need-finish-labels-requires Inv-loop μ-loop
 finish-labels-requires c κs =
-    let a = c .before .before .before .before .before .before .before .before .before .before .before .before .before .before .before .args in
+    let a = c .before .before .before .before .before .before .before .before .before .before .before .before .before .before .before .before .args in
     let n = count-rows (a .starts .now) (a .sizes .now) (a .entries .now) (a .n) in
-    let h = fit-says (rows (a .starts .now) (a .sizes .now) (a .entries .now) (a .n)) (c .before .before .before .before .before .before .before .before .before .before .before .before .before .before .before .pre .1) .few in
-    (c .before .before .before .before .before .before .before .before .before .before .before .before .before .before .before .pre .0, omega arith)
+    let h = fit-says (rows (a .starts .now) (a .sizes .now) (a .entries .now) (a .n)) (c .before .before .before .before .before .before .before .before .before .before .before .before .before .before .before .before .pre .1 .0) .few in
+    (c .before .before .before .before .before .before .before .before .before .before .before .before .before .before .before .before .pre .0, (omega arith, c .before .before .before .before .before .before .before .before .before .before .before .before .before .before .before .before .pre .1 .1))
 
 returns : tie.Need-returns Inv-loop μ-loop
 returns c =
-    let a = c .before .before .before .before .before .before .before .before .before .before .before .before .before .before .before .before .before .args in
-    let h = fit-sane (rows (a .starts .now) (a .sizes .now) (a .entries .now) (a .n)) (c .before .before .before .before .before .before .before .before .before .before .before .before .before .before .before .before .before .pre .1) in
+    let a = c .before .before .before .before .before .before .before .before .before .before .before .before .before .before .before .before .before .before .args in
+    let h = fit-sane (rows (a .starts .now) (a .sizes .now) (a .entries .now) (a .n)) (c .before .before .before .before .before .before .before .before .before .before .before .before .before .before .before .before .before .before .pre .1 .0) in
     running-done (c .before .before .before .before .before .before .before .before .before .loop .inv .0) h (omega arith) (sym (c .before .before .before .before .before .is-unfinished .ensures) ∙ not-true (c .before .before .before .before .before .is-unfinished .result) (c .before .before .before .before .if1 .taken)) (c .before .finish-labels .ensures)
 
 choose-requires : tie.Need-choose-requires Inv-loop μ-loop
@@ -79,8 +79,8 @@ stuck-requires c κs = search needs
 
 returns-2 : tie.Need-returns-2 Inv-loop μ-loop
 returns-2 c =
-    let a = c .before .before .before .before .before .before .before .before .before .before .before .before .before .before .before .before .before .args in
-    let h = fit-sane (rows (a .starts .now) (a .sizes .now) (a .entries .now) (a .n)) (c .before .before .before .before .before .before .before .before .before .before .before .before .before .before .before .before .before .pre .1) in
+    let a = c .before .before .before .before .before .before .before .before .before .before .before .before .before .before .before .before .before .before .args in
+    let h = fit-sane (rows (a .starts .now) (a .sizes .now) (a .entries .now) (a .n)) (c .before .before .before .before .before .before .before .before .before .before .before .before .before .before .before .before .before .before .pre .1 .0) in
     c .stuck .ensures ∙ running-stuck (c .before .before .before .before .before .before .before .before .before .loop .inv .0) h (omega arith) (sym (c .before .before .before .before .before .is-unfinished .ensures) ∙ not-false (c .before .before .before .before .before .is-unfinished .result) (c .before .before .before .before .if1 .left)) (c .before .before .before .choose .ensures h (c .before .before .before .before .before .before .before .before .before .loop .inv .0 .state) (c .before .before .before .before .before .before .before .before .before .loop .inv .0 .front)) (c .before .enum-told .given .1)
 
 slice-aggregate-listed : tie.Need-slice-aggregate-listed Inv-loop μ-loop
@@ -88,8 +88,8 @@ slice-aggregate-listed c = search needs
 
 add-listed : tie.Need-add-listed Inv-loop μ-loop
 add-listed c =
-    let a = c .before .before .before .before .before .before .before .before .before .before .before .before .before .before .before .before .before .before .before .args in
-    let h = fit-sane (rows (a .starts .now) (a .sizes .now) (a .entries .now) (a .n)) (c .before .before .before .before .before .before .before .before .before .before .before .before .before .before .before .before .before .before .before .pre .1) in
+    let a = c .before .before .before .before .before .before .before .before .before .before .before .before .before .before .before .before .before .before .before .before .args in
+    let h = fit-sane (rows (a .starts .now) (a .sizes .now) (a .entries .now) (a .n)) (c .before .before .before .before .before .before .before .before .before .before .before .before .before .before .before .before .before .before .before .before .pre .1 .0) in
     let inside = found-inside (c .before .before .before .before .before .before .before .before .before .before .before .loop .inv .0) h (c .before .before .before .found .given .0 .0) (c .before .before .before .found .given .0 .1 .0) (ap foundAs (sym (c .before .before .before .found .given .1)) ∙ c .before .before .before .before .before .choose .ensures h (c .before .before .before .before .before .before .before .before .before .before .before .loop .inv .0 .state) (c .before .before .before .before .before .before .before .before .before .before .before .loop .inv .0 .front)) in
     omega arith
 
@@ -104,20 +104,20 @@ slice-aggregate-step-labels-2 c = search needs
 
 step-labels-requires : tie.Need-step-labels-requires Inv-loop μ-loop
 step-labels-requires c κs =
-    let a = c .before .before .before .before .before .before .before .before .before .before .before .before .before .before .before .before .before .before .before .before .before .before .args in
-    let h = fit-sane (rows (a .starts .now) (a .sizes .now) (a .entries .now) (a .n)) (c .before .before .before .before .before .before .before .before .before .before .before .before .before .before .before .before .before .before .before .before .before .before .pre .1) in
+    let a = c .before .before .before .before .before .before .before .before .before .before .before .before .before .before .before .before .before .before .before .before .before .before .before .args in
+    let h = fit-sane (rows (a .starts .now) (a .sizes .now) (a .entries .now) (a .n)) (c .before .before .before .before .before .before .before .before .before .before .before .before .before .before .before .before .before .before .before .before .before .before .before .pre .1 .0) in
     let n = count-rows (a .starts .now) (a .sizes .now) (a .entries .now) (a .n) in
-    let small = fit-says (rows (a .starts .now) (a .sizes .now) (a .entries .now) (a .n)) (c .before .before .before .before .before .before .before .before .before .before .before .before .before .before .before .before .before .before .before .before .before .before .pre .1) .few in
+    let small = fit-says (rows (a .starts .now) (a .sizes .now) (a .entries .now) (a .n)) (c .before .before .before .before .before .before .before .before .before .before .before .before .before .before .before .before .before .before .before .before .before .before .before .pre .1 .0) .few in
     let inside = found-inside (c .before .before .before .before .before .before .before .before .before .before .before .before .before .before .loop .inv .0) h (c .before .before .before .before .before .before .found .given .0 .0) (c .before .before .before .before .before .before .found .given .0 .1 .0) (ap foundAs (sym (c .before .before .before .before .before .before .found .given .1)) ∙ c .before .before .before .before .before .before .before .before .choose .ensures h (c .before .before .before .before .before .before .before .before .before .before .before .before .before .before .loop .inv .0 .state) (c .before .before .before .before .before .before .before .before .before .before .before .before .before .before .loop .inv .0 .front)) in
-    (c .before .before .before .before .before .before .before .before .before .before .before .before .before .before .before .before .before .before .before .before .before .before .pre .0, (omega arith, inside))
+    (c .before .before .before .before .before .before .before .before .before .before .before .before .before .before .before .before .before .before .before .before .before .before .before .pre .0, (omega arith, (c .before .before .before .before .before .before .before .before .before .before .before .before .before .before .before .before .before .before .before .before .before .before .before .pre .1 .1, inside)))
 
 slice-aggregate-replaced : tie.Need-slice-aggregate-replaced Inv-loop μ-loop
 slice-aggregate-replaced c = sym (c .before .before .before .before .before .before .before .before .before .before .before .before .before .before .before .before .before .loop .inv .1 .1)
 
 add-replaced : tie.Need-add-replaced Inv-loop μ-loop
 add-replaced c =
-    let a = c .before .before .before .before .before .before .before .before .before .before .before .before .before .before .before .before .before .before .before .before .before .before .before .before .before .args in
-    let h = fit-sane (rows (a .starts .now) (a .sizes .now) (a .entries .now) (a .n)) (c .before .before .before .before .before .before .before .before .before .before .before .before .before .before .before .before .before .before .before .before .before .before .before .before .before .pre .1) in
+    let a = c .before .before .before .before .before .before .before .before .before .before .before .before .before .before .before .before .before .before .before .before .before .before .before .before .before .before .args in
+    let h = fit-sane (rows (a .starts .now) (a .sizes .now) (a .entries .now) (a .n)) (c .before .before .before .before .before .before .before .before .before .before .before .before .before .before .before .before .before .before .before .before .before .before .before .before .before .before .pre .1 .0) in
     let inside = found-inside (c .before .before .before .before .before .before .before .before .before .before .before .before .before .before .before .before .before .loop .inv .0) h (c .before .before .before .before .before .before .before .before .before .found .given .0 .0) (c .before .before .before .before .before .before .before .before .before .found .given .0 .1 .0) (ap foundAs (sym (c .before .before .before .before .before .before .before .before .before .found .given .1)) ∙ c .before .before .before .before .before .before .before .before .before .before .before .choose .ensures h (c .before .before .before .before .before .before .before .before .before .before .before .before .before .before .before .before .before .loop .inv .0 .state) (c .before .before .before .before .before .before .before .before .before .before .before .before .before .before .before .before .before .loop .inv .0 .front)) in
     omega arith
 
@@ -132,9 +132,9 @@ loop-less c = let more = c .before .before .before .before .before .before .befo
 
 loop-again : tie.Need-loop-again Inv-loop μ-loop
 loop-again c =
-    let a = c .before .before .before .before .before .before .before .before .before .before .before .before .before .before .before .before .before .before .before .before .before .before .before .before .before .before .args in
+    let a = c .before .before .before .before .before .before .before .before .before .before .before .before .before .before .before .before .before .before .before .before .before .before .before .before .before .before .before .args in
     let p = rows (a .starts .now) (a .sizes .now) (a .entries .now) (a .n) in
-    let h = fit-sane p (c .before .before .before .before .before .before .before .before .before .before .before .before .before .before .before .before .before .before .before .before .before .before .before .before .before .before .pre .1) in
+    let h = fit-sane p (c .before .before .before .before .before .before .before .before .before .before .before .before .before .before .before .before .before .before .before .before .before .before .before .before .before .before .before .pre .1 .0) in
     let v = c .before .before .before .before .before .before .before .before .before .before .before .before .before .before .before .before .before .before .loop .v in
     let running = c .before .before .before .before .before .before .before .before .before .before .before .before .before .before .before .before .before .before .loop .inv .0 in
     let found = c .before .before .before .before .before .before .before .before .before .before .found .given in
@@ -153,8 +153,8 @@ stuck-requires-2 c κs = search needs
 
 returns-3 : tie.Need-returns-3 Inv-loop μ-loop
 returns-3 c =
-    let a = c .before .before .before .before .before .before .before .before .before .before .args in
-    let h = fit-sane (rows (a .starts .now) (a .sizes .now) (a .entries .now) (a .n)) (c .before .before .before .before .before .before .before .before .before .before .pre .1) in
+    let a = c .before .before .before .before .before .before .before .before .before .before .before .args in
+    let h = fit-sane (rows (a .starts .now) (a .sizes .now) (a .entries .now) (a .n)) (c .before .before .before .before .before .before .before .before .before .before .before .pre .1 .0) in
     c .stuck2 .ensures ∙ running-out (c .before .before .loop .inv .0) h (omega arith)
 
 pub run-spec : {M : Type 1} → statement M

@@ -18,7 +18,7 @@ add-from-all : tie.Need-add-from-all
 add-from-all c = search needs
 
 from-all-requires : tie.Need-from-all-requires
-from-all-requires c κs = (c .before .before .before .before .before .before .before .before .pre .0, c .before .before .before .before .before .before .before .before .pre .1 .0)
+from-all-requires c κs = (c .before .before .before .before .before .before .before .before .before .pre .0, (c .before .before .before .before .before .before .before .before .before .pre .1 .0, c .before .before .before .before .before .before .before .before .before .pre .1 .1 .0))
 
 same-length : tie.Need-same-length
 same-length c = search needs
@@ -27,12 +27,12 @@ add-along : tie.Need-add-along
 add-along c = search needs
 
 along-requires : tie.Need-along-requires
-along-requires c κs = (c .before .before .before .before .before .before .before .before .before .before .before .before .pre .0, c .before .before .before .before .before .before .before .before .before .before .before .before .pre .1 .0)
+along-requires c κs = (c .before .before .before .before .before .before .before .before .before .before .before .before .before .pre .0, (c .before .before .before .before .before .before .before .before .before .before .before .before .before .pre .1 .0, c .before .before .before .before .before .before .before .before .before .before .before .before .before .pre .1 .1 .0))
 
 returns : tie.Need-returns
 unfolding run.stepLabels
 returns c =
-    let a = c .before .before .before .before .before .before .before .before .before .before .before .before .before .before .before .args in
+    let a = c .before .before .before .before .before .before .before .before .before .before .before .before .before .before .before .before .args in
     c .before .before .along .ensures ∙ ap (labelEdges (rows (a .starts .now) (a .sizes .now) (a .entries .now) (a .n)) right (steps (span (a .f .now) (a .i) (a .j + 1)))) (c .before .before .before .before .before .before .from-all .ensures)
 
 pub step-labels-spec : {M : Type 1} → statement M
