@@ -7,7 +7,7 @@
 //! Both sides do the same work: they open the sheet that is handed over as bytes, make the call, and write the new sheet into a
 //! buffer that is not cleared in between. A figure is the least of many rounds, in µs, the engine's before the stroke.
 
-use generate::edit::disguise;
+use generate::edit::{disguise, flip, random_dart};
 use generate::families::{column, fan_behind_column, irreducible, irreducible_with_hubs, wheel};
 use generate::file::file;
 use generate::{Random, Rings};
@@ -115,28 +115,69 @@ fn plain_open(file: &[u8], out: &mut [u8]) -> u64 {
     plain(file, out, |_| ())
 }
 
+/// The time of the engine's sweep of a plan, in µs.
+fn sweep_time(rings: &Rings, out: &mut [u8]) -> f64 {
+    let plan = file(rings, None, None);
+    let round = || {
+        let start = Instant::now();
+        black_box(engine::raw::sweep_into(&plan, out));
+        start.elapsed().as_secs_f64() * 1e6
+    };
+    std::iter::repeat_with(round)
+        .take(5)
+        .fold(f64::MAX, f64::min)
+}
+
+/// A plan that is hard for the sweep: flips of a column's edges that keep it irreducible, those kept that make the sweep slower.
+fn hard_for_the_sweep(n: usize, random: &mut Random) -> Rings {
+    let mut out = vec![0; 8192];
+    let mut hardest = column(n);
+    let mut longest = sweep_time(&hardest, &mut out);
+    for _ in 0..1500 {
+        let mut tried = hardest.clone();
+        let flipped =
+            random_dart(&tried, random).is_some_and(|(u, v)| flip(&mut tried, u, v, true));
+        if flipped {
+            let time = sweep_time(&tried, &mut out);
+            if time > longest {
+                (hardest, longest) = (tried, time);
+            }
+        }
+    }
+    hardest
+}
+
 fn main() {
     let mut random = Random::new(7);
     println!("| family | n | open | with labels | with chart | sweep | offer | turn of all edges | chart | scan | ring |");
     println!("|{}", "---|".repeat(11));
-    for n in [10, 25, 50, 100, 200] {
+    let sizes = [10, 25, 50, 100, 200];
+    for n in sizes {
         row("irreducible", &irreducible(n, &mut random));
     }
-    for n in [50, 200] {
+    for n in sizes {
         row(
             "irreducible with hubs",
             &irreducible_with_hubs(n, &mut random),
         );
+    }
+    for n in sizes {
         row("column", &column(n));
+    }
+    for n in sizes {
         row("column, renumbered", &disguise(&column(n), &mut random));
+    }
+    for n in sizes {
         row("wheel", &wheel(n, &mut random));
     }
-    row(
-        "fan of 146 behind a column of 49",
-        &fan_behind_column(49, 146),
-    );
-    row(
-        "the same, renumbered",
-        &disguise(&fan_behind_column(49, 146), &mut random),
-    );
+    for n in sizes {
+        let fan = fan_behind_column(n / 4 - 1, n - n / 4 - 4);
+        row(
+            "fan behind a column, renumbered",
+            &disguise(&fan, &mut random),
+        );
+    }
+    for n in sizes {
+        row("hard for the sweep", &hard_for_the_sweep(n, &mut random));
+    }
 }
