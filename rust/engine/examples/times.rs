@@ -128,20 +128,19 @@ fn sweep_time(rings: &Rings, out: &mut [u8]) -> f64 {
         .fold(f64::MAX, f64::min)
 }
 
-/// A plan that is hard for the sweep: flips of a column's edges that keep it irreducible, those kept that make the sweep slower.
+/// A plan that is hard for the sweep: flips of edges that keep it irreducible, those kept that make the sweep slower.
 fn hard_for_the_sweep(n: usize, random: &mut Random) -> Rings {
     let mut out = vec![0; 8192];
-    let mut hardest = column(n);
-    let mut longest = sweep_time(&hardest, &mut out);
-    for _ in 0..1500 {
+    let mut hardest = irreducible(n, random);
+    for _ in 0..4000 {
         let mut tried = hardest.clone();
-        let flipped =
-            random_dart(&tried, random).is_some_and(|(u, v)| flip(&mut tried, u, v, true));
-        if flipped {
-            let time = sweep_time(&tried, &mut out);
-            if time > longest {
-                (hardest, longest) = (tried, time);
+        for _ in 0..random.between(1, 4) {
+            if let Some((u, v)) = random_dart(&tried, random) {
+                flip(&mut tried, u, v, true);
             }
+        }
+        if sweep_time(&tried, &mut out) > sweep_time(&hardest, &mut out) {
+            hardest = tried;
         }
     }
     hardest
