@@ -1,12 +1,9 @@
 // Runs scripts: lists of calls as the crate script has them, each from a fresh sheet on. Standard input holds scripts, one after
 // another, each behind its length in two bytes, little-endian. Each gives a line: its length and where it ends, and the sheet
-// that it leaves: its stage, n, and the checksum of a buffer of 65,536 zeros after a write into it. The run ends where the input
-// does, at a script that is cut, or after 100,000 scripts; the last line says how many were run.
+// that it leaves: the number of its stage, n, and the checksum (of console) of a buffer of 65,536 zeros after a write into it. The
+// run ends where the input does, at a script that is cut, or after 100,000 scripts; the last line says how many were run.
 //
 // stdin and stdout beside this crate are made by the reference in rust/, by its examples calls_items and run_calls.
-ghost use mathlib.Core.Path.{_≡_};
-ghost use lib.ListN.{length};
-
 // Reads this many bytes to the start of the space; whether they were there.
 fn read_bytes(space: &mut [u8], size: usize) -> bool {
     if space.len() < size {
