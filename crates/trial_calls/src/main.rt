@@ -10,8 +10,8 @@
 //
 // Each item gives a line: the call and its answer, then a semicolon and the sheet afterwards: its stage, n, width x height, the
 // length of its file, and the checksum (of console) of a buffer of 8,192 bytes, filled with 170, after a write into it. So a
-// refused call that changes anything is seen. The run ends where the input does, at an item that is cut, longer than 131,072 bytes or of another
-// kind, or after 100,000 items; the last line says how many were run.
+// refused call that changes anything is seen. The run ends where the input does, at an item that is cut, of another kind or with
+// an argument over 131,072 bytes, or after 100,000 items; the last line says how many were run.
 //
 // stdin and stdout beside this crate are made by the reference in rust/, by its examples calls_items and run_calls.
 use sheet::Answer;

@@ -10,8 +10,8 @@
 //
 // Write, scan and same are asked of the sheet that a fresh one becomes when the file is opened; it stays fresh where the file is
 // refused. Each item gives a line: the call and its answer, and where bytes were written or handed back, a semicolon, their
-// number and their checksum (of console). The run ends where the input does, at an item that is cut, longer than 131,072 bytes or of another
-// kind, or after 100,000 items; the last line says how many were run.
+// number and their checksum (of console). The run ends where the input does, at an item that is cut, of another kind or with an
+// argument over 131,072 bytes, or after 100,000 items; the last line says how many were run.
 //
 // stdin and stdout beside this crate are made by the reference in rust/, by its examples calls_items and run_calls.
 use sheet::Compared;

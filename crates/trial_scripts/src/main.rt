@@ -4,6 +4,7 @@
 // run ends where the input does, at a script that is cut, or after 100,000 scripts; the last line says how many were run.
 //
 // stdin and stdout beside this crate are made by the reference in rust/, by its examples calls_items and run_calls.
+
 // Reads this many bytes to the start of the space; whether they were there.
 fn read_bytes(space: &mut [u8], size: usize) -> bool {
     if space.len() < size {
