@@ -1,7 +1,7 @@
 //! The stored vectors of the program `trial_print`, the stored run of `sheetprint` and the plan files of the folder examples:
 //! they are those that the example `print_vectors` makes.
 
-#[path = "../examples/calls_script/case.rs"]
+#[path = "../examples/calls_items/case.rs"]
 #[allow(dead_code)]
 mod case;
 #[path = "../examples/print_vectors/inputs.rs"]

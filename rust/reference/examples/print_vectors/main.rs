@@ -8,7 +8,7 @@
 //!
 //! All seeds are fixed: the same bytes come out each time.
 
-#[path = "../calls_script/case.rs"]
+#[path = "../calls_items/case.rs"]
 #[allow(dead_code)]
 mod case;
 mod inputs;

@@ -1,7 +1,7 @@
 //! Lists of calls with refusals in between, on the four trenches and on larger plans.
 
 use crate::case::Case;
-use crate::script::Script;
+use crate::items::Items;
 use crate::vectors::{around, refused_files, trenches};
 use generate::damage::{damaged_chart, damaged_file, damaged_labels, damaged_turn_list, turn_list};
 use generate::edit::disguise;
@@ -12,10 +12,10 @@ use generate::Random;
 use reference::{open, turn};
 
 /// Random lists of calls on the four trenches and twelve larger plans, each on a fresh sheet.
-pub fn call_lists(script: &mut Script) {
+pub fn call_lists(items: &mut Items) {
     let mut random = Random::new(202);
     for case in trenches() {
-        call_list(script, &case, 60, &mut random);
+        call_list(items, &case, 60, &mut random);
     }
     for index in 0..12 {
         let n = random.between(24, 60);
@@ -24,39 +24,35 @@ pub fn call_lists(script: &mut Script) {
             _ => irreducible(n, &mut random),
         };
         let case = Case::swept(disguise(&rings, &mut random));
-        call_list(script, &case, 40, &mut random);
+        call_list(items, &case, 40, &mut random);
     }
 }
 
 /// A random list of calls on a fresh sheet; then those that change a sheet once more, as one script, whole and damaged.
-fn call_list(script: &mut Script, case: &Case, count: usize, random: &mut Random) {
-    script.fresh();
-    let mut calls = Vec::new();
+fn call_list(items: &mut Items, case: &Case, count: usize, random: &mut Random) {
+    items.fresh();
+    let start = items.calls.len();
     for _ in 0..count {
-        let mut one = Script::default();
         match random.below(13) {
-            0 | 1 => open_call(&mut one, case, random),
-            2 | 3 => offer_call(&mut one, case, random),
-            4 | 5 => one.chart(),
-            6 => one.scan(),
-            7 => write_call(&mut one, case, random),
-            8 => one.keep(),
-            9 => one.same(),
-            10 => one.sweep(),
-            _ => turn_call(&mut one, case, random),
-        }
-        script.bytes.extend(&one.bytes);
-        if (1..=5).contains(&one.bytes[0]) {
-            calls.extend(one.bytes);
+            0 | 1 => open_call(items, case, random),
+            2 | 3 => offer_call(items, case, random),
+            4 | 5 => items.chart(),
+            6 => items.scan(),
+            7 => write_call(items, case, random),
+            8 => items.keep(),
+            9 => items.same(),
+            10 => items.sweep(),
+            _ => turn_call(items, case, random),
         }
     }
-    scripts(script, &calls, random);
+    let calls = items.calls[start..].to_vec();
+    scripts(items, &calls, random);
 }
 
 /// A script whole and cut; a short one also with an item behind it that is none of its calls.
-fn scripts(script: &mut Script, calls: &[u8], random: &mut Random) {
-    script.script(calls);
-    script.script(&calls[..random.below(calls.len())]);
+fn scripts(items: &mut Items, calls: &[u8], random: &mut Random) {
+    items.script(calls);
+    items.script(&calls[..random.below(calls.len())]);
     if calls.len() < 2_000 {
         let long_turn = [&[4, 99, 9, 0], [0; 2403].as_slice()].concat();
         let ends: [&[u8]; 7] = [
@@ -69,36 +65,36 @@ fn scripts(script: &mut Script, calls: &[u8], random: &mut Random) {
             &long_turn,
         ];
         for end in ends {
-            script.script(&[calls, end, calls].concat());
+            items.script(&[calls, end, calls].concat());
         }
     }
 }
 
 /// Opens one of the plan's files, a damaged one, one with a damaged chart, or one that is refused.
-fn open_call(script: &mut Script, case: &Case, random: &mut Random) {
+fn open_call(items: &mut Items, case: &Case, random: &mut Random) {
     let files = case.files();
     let bytes = random.pick(&files).clone();
     match random.below(6) {
-        0 => script.open(&damaged_file(&bytes, random)),
-        1 => script.open(random.pick::<Vec<u8>>(&refused_files())),
+        0 => items.open(&damaged_file(&bytes, random)),
+        1 => items.open(random.pick::<Vec<u8>>(&refused_files())),
         2 => match &case.numbers {
             Some(chart) => {
                 let damaged = damaged_chart(chart, random);
-                script.open(&file(&case.rings, case.labels.as_deref(), Some(&damaged)));
+                items.open(&file(&case.rings, case.labels.as_deref(), Some(&damaged)));
             }
-            None => script.open(&bytes),
+            None => items.open(&bytes),
         },
-        _ => script.open(&bytes),
+        _ => items.open(&bytes),
     }
 }
 
 /// Offers the plan's labels, damaged ones, or those after a turn.
-fn offer_call(script: &mut Script, case: &Case, random: &mut Random) {
+fn offer_call(items: &mut Items, case: &Case, random: &mut Random) {
     let labels = case.some_labels(random);
     match random.below(3) {
-        0 => script.offer(&damaged_labels(&labels, random)),
-        1 => script.offer(&turned_labels(case, random).unwrap_or(labels)),
-        _ => script.offer(&labels),
+        0 => items.offer(&damaged_labels(&labels, random)),
+        1 => items.offer(&turned_labels(case, random).unwrap_or(labels)),
+        _ => items.offer(&labels),
     }
 }
 
@@ -116,19 +112,19 @@ fn turned_labels(case: &Case, random: &mut Random) -> Option<Vec<u8>> {
 }
 
 /// Writes into a buffer around what one of the plan's files needs.
-fn write_call(script: &mut Script, case: &Case, random: &mut Random) {
+fn write_call(items: &mut Items, case: &Case, random: &mut Random) {
     let mut lengths = Vec::new();
     for file in case.files() {
         around(file.len(), |length| lengths.push(length));
     }
-    script.write(*random.pick(&lengths));
+    items.write(*random.pick(&lengths));
 }
 
 /// Turns a good list or a damaged one, seldom in no direction.
-fn turn_call(script: &mut Script, case: &Case, random: &mut Random) {
+fn turn_call(items: &mut Items, case: &Case, random: &mut Random) {
     let mut list = turn_list(&case.rings, 2, random);
     if random.once_in(3) {
         list = damaged_turn_list(&list, case.n(), random);
     }
-    script.turn(*random.pick(&[0, 1, 0, 1, 2]), &list);
+    items.turn(*random.pick(&[0, 1, 0, 1, 2]), &list);
 }
