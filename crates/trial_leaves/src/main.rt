@@ -75,18 +75,6 @@ fn print_scan<'a>(starts: &'a [u16], sizes: &'a [u8], entries: &'a [u16], n: usi
     }
 }
 
-// How many of the first k bytes are the same in both, up to the first that differs.
-fn same_bytes<'a>(a: &'a [u8], b: &'a [u8], k: usize) -> usize {
-    let mut i = 0;
-    while i < k {
-        if lists::byte(a, i) != lists::byte(b, i) {
-            return i;
-        }
-        i += 1;
-    }
-    i
-}
-
 // How many bytes are written; 0 where the buffer is short.
 fn length_in(answer: writing::Written) -> usize {
     match answer {
@@ -138,7 +126,7 @@ fn print_written<'a>(
     n: usize,
 ) {
     let size = length_in(write_part(space, 4096, sizes, entries, n));
-    let same = same_bytes(file, space, size);
+    let same = console::agreeing(file, space, size);
     let just = length_in(write_part(space, size, sizes, entries, n));
     let short = short_in(write_part(space, lists::minus(size, 1), sizes, entries, n));
     console::show(
