@@ -157,17 +157,14 @@ fn encloses(sheet: Sheet, a: usize, b: usize, c: usize) -> bool {
     after != 256
 }
 
-// The check of three contexts that scan names.
-fn check_triple(tally: Tally, sheet: Sheet, a: usize, b: usize, c: usize) -> Tally {
-    console::show(b"  scan: #,#,#", a, b, c, 0, 0);
-    judge(tally, encloses(sheet, a, b, c))
-}
-
 // The check of scan.
 fn check_scan(tally: Tally, sheet: Sheet) -> Tally {
     let scanned = reports::scan(sheet);
     match scanned {
-        Scanned::Triple(a, b, c) => check_triple(tally, sheet, a, b, c),
+        Scanned::Triple(a, b, c) => {
+            console::show(b"  scan: #,#,#", a, b, c, 0, 0);
+            judge(tally, encloses(sheet, a, b, c))
+        }
         Scanned::Nothing => {
             io::write_all(1, b"  scan: none");
             judge(tally, true)
@@ -318,10 +315,12 @@ fn write_into(sheet: Sheet, out: &mut [u8]) -> usize {
 }
 
 // The check that two sheets are written as the same file.
-fn check_bytes(tally: Tally, a: Sheet, b: Sheet, one: &mut [u8], other: &mut [u8]) -> Tally {
-    let size = write_into(a, one);
-    let size_other = write_into(b, other);
-    let equal = console::agreeing(one, other, size);
+fn check_written(tally: Tally, a: Sheet, b: Sheet) -> Tally {
+    let mut one = io::large_buffer();
+    let size = write_into(a, &mut one);
+    let mut other = io::large_buffer();
+    let size_other = write_into(b, &mut other);
+    let equal = console::agreeing(&one, &other, size);
     console::show(
         b"  written: bytes # and #, equal #",
         size,
@@ -334,13 +333,6 @@ fn check_bytes(tally: Tally, a: Sheet, b: Sheet, one: &mut [u8], other: &mut [u8
         return judge(tally, false);
     }
     judge(tally, equal == size)
-}
-
-// The same check, with buffers for the files.
-fn check_written(tally: Tally, a: Sheet, b: Sheet) -> Tally {
-    let mut one = io::large_buffer();
-    let mut other = io::large_buffer();
-    check_bytes(tally, a, b, &mut one, &mut other)
 }
 
 // What open answers for a file, and the sheet that it leaves.
@@ -360,7 +352,7 @@ fn drawn_anew(opened: Sheet, sheet: Sheet) -> Sheet {
 // The check that the chart drawn after a turn is the one that is drawn anew.
 fn check_same(tally: Tally, new: Sheet, anew: Sheet) -> Tally {
     let same = same_of(new, anew);
-    show_answer(b"same # at #", 0, same);
+    show_answer(b", same # at #", 0, same);
     check_written(judge(tally, same == 0), new, anew)
 }
 
@@ -368,8 +360,8 @@ fn check_same(tally: Tally, new: Sheet, anew: Sheet) -> Tally {
 fn check_afresh<'a>(tally: Tally, file: &'a [u8], old: Sheet, turned: Sheet) -> Tally {
     let charted = calls::chart(turned);
     let opened = open_anew(file);
-    show_size(b"  afresh: #x# before, ", 0, old);
-    show_size(b"#x# after, ", 0, charted.sheet);
+    show_size(b"  afresh: before #x#", 0, old);
+    show_size(b", after #x#", 0, charted.sheet);
     check_same(tally, charted.sheet, drawn_anew(opened.sheet, turned))
 }
 
@@ -424,8 +416,14 @@ fn check_file<'a>(tally: Tally, number: usize, file: &'a [u8]) -> Tally {
     let outcome = open_anew(file);
     let answer = answer_of(outcome);
     let sheet = outcome.sheet;
-    console::show(b"plan #: n #", number, lists::wide_word(sheet.n), 0, 0, 0);
-    show_answer(b", open # at #\n", 0, answer);
+    console::show(
+        b"plan #: n #, open # at #\n",
+        number,
+        lists::wide_word(sheet.n),
+        answer % 256,
+        answer / 256,
+        0,
+    );
     if answer != 0 {
         return tally;
     }
