@@ -47,7 +47,7 @@ def due(data, at, kind, lengths):
 
 
 def decode(data):
-    """The rings, the label bytes or None, the chart's numbers or None."""
+    """The rings, then for the labels and for the chart where the body begins and what stands in it; 0 and None where there is none."""
     n = number(due(data, 0, 1, [2]), 0)
     if not 5 <= n <= 200:
         raise Refused(3, 0)
@@ -59,12 +59,13 @@ def decode(data):
     for kind, length in ((3, 6 * n - 14), (4, 4 + 4 * n)):
         if at == len(data):
             break
-        parts.append(due(data, at, kind, [length]))
+        parts.append((at + 4, due(data, at, kind, [length])))
         at += 4 + length
     if at < len(data):
         framed(data, at)
         raise Refused(2, at)
-    return rings, (list(parts[0]) if parts else None), (numbers(parts[1]) if len(parts) == 2 else None)
+    labels, record = parts + [(0, None)] * (2 - len(parts))
+    return rings, labels, record
 
 
 def lowest(n, bad):
@@ -177,7 +178,7 @@ def label_line(rings, labels, record):
     if drawn is None:
         return f" 10:{ten} chart none"
     points = "".join(f" {drawn[2 + 2 * u]},{drawn[3 + 2 * u]}" for u in range(n))
-    compared = "" if record is None else " record same" if record == drawn else " record other"
+    compared = "" if record is None else " record 0" if numbers(record) == drawn else " record 12"
     return f" 10:{ten} chart {drawn[0]}x{drawn[1]}{points}{compared}"
 
 
@@ -187,9 +188,7 @@ def plan_line(data, rings, labels, record):
     four = lowest(n, lambda u: any(v >= n or v == u for v in rings[u]))
     five = lowest(n, lambda u: len(set(rings[u])) < len(rings[u]))
     six = lowest(n, lambda u: any(not lists(rings, v, u) for v in rings[u]))
-    line = f" n {n} 4:{four} 5:{five} 6:{six}"
-    if n < 200:
-        line += f" entries {len(darts(rings))}"
+    line = f" 4:{four} 5:{five} 6:{six} entries {len(darts(rings))}"
     if min(four, five, six) < n:
         return line
     eight = lowest(4, lambda b: bad_border(rings, b))
@@ -208,11 +207,10 @@ def plan_line(data, rings, labels, record):
 def file_line(data):
     """The line of a file."""
     try:
-        rings, labels, record = decode(data)
+        rings, (labels_at, labels), (record_at, record) = decode(data)
     except Refused as refusal:
         return "refused %d at %d" % refusal.args
-    name = "plan" if labels is None else "labels" if record is None else "chart"
-    return name + plan_line(data, rings, labels, record)
+    return f"n {len(rings)} labels {labels_at} chart {record_at}" + plan_line(data, rings, labels, record)
 
 
 def main():

@@ -4,10 +4,11 @@
 //
 //    opened   a file without a chart is not drawn yet: its width and height are 0, and same is refused 13 at 0
 //    scan     the three contexts that enclose others, if there are any, are neighbours of each other and no face
-//    drawn    sweep, then chart: CHARTED where chart is accepted; LABELLED where it cannot be drawn, 11; OPEN where there are no labels, 13
+//    drawn    sweep, then chart: CHARTED where it is drawn; LABELLED where it cannot be drawn, 11; OPEN where there are no labels, 13
 //    areas    every inner face of the chart has a positive doubled area, and they sum to 2wh
-//    turned   the first edge that turns alone, 0 clockwise or 1 counterclockwise: nothing of the chart stands
-//    afresh   drawn again it is the chart of the new labels: as when they are offered to the sheet as it was opened, byte for byte
+//    turned   the first edge that turns alone, 0 clockwise or 1 counterclockwise: it is not drawn yet, nothing of the chart stands
+//    afresh   drawn again it is the chart of the new labels: the same as when they are offered to the file opened anew
+//    written  and the two are written as the same file, byte for byte
 //
 // An answer is the number of a refusal and its place: 0 at 0 is accepted, or yes, and 1 at 0 is no. stdin beside this crate is
 // made by tools/checklist_plans.py.
@@ -76,31 +77,40 @@ fn stage_of(sheet: Sheet) -> usize {
     sheet::rank_of(sheet::stage_of(sheet))
 }
 
-// Writes a sheet's stage, width and height; the number of the stage.
-fn show_sheet(sheet: Sheet) -> usize {
-    let stage = stage_of(sheet);
-    let names = b"EMPTY    OPEN     LABELLED CHARTED  ";
-    io::write_all(1, framing::ring_part(names, stage % 4 * 9, 9));
-    console::show(
-        b"#x#",
-        lists::wide_word(sheet.w),
-        lists::wide_word(sheet.h),
-        0,
-        0,
-        0,
-    );
-    stage
+// Writes a text from an index on, with an answer's number and place for its next two `#`.
+fn show_answer(text: &[u8], from: usize, answer: usize) {
+    let behind = console::show_part(text, from, answer % 256);
+    console::show_part(text, behind, answer / 256);
+}
+
+// Writes a text from an index on, with a sheet's width and height for its next two `#`.
+fn show_size(text: &[u8], from: usize, sheet: Sheet) {
+    let behind = console::show_part(text, from, lists::wide_word(sheet.w));
+    console::show_part(text, behind, lists::wide_word(sheet.h));
+}
+
+// Where the name of a stage stands in the text of show_sheet.
+fn name_of(stage: usize) -> usize {
+    match stage {
+        0 => 0,
+        1 => 9,
+        2 => 17,
+        _ => 29,
+    }
+}
+
+// Writes a sheet's stage, width and height.
+fn show_sheet(sheet: Sheet) {
+    let from = name_of(stage_of(sheet));
+    show_size(b"EMPTY #x#OPEN #x#LABELLED #x#CHARTED #x#", from, sheet);
 }
 
 // The check that a sheet has no chart.
 fn check_undrawn(tally: Tally, sheet: Sheet) -> Tally {
     show_sheet(sheet);
     let same = same_of(sheet, sheet);
-    console::show(b", same # at #", same % 256, same / 256, 0, 0, 0);
-    if sheet.w != 0 {
-        return judge(tally, false);
-    }
-    if sheet.h != 0 {
+    show_answer(b", not drawn yet, same # at #", 0, same);
+    if lists::wide_word(sheet.w) + lists::wide_word(sheet.h) != 0 {
         return judge(tally, false);
     }
     judge(tally, same == 13)
@@ -172,18 +182,26 @@ fn chart_due(stage: usize) -> usize {
     }
 }
 
+// Where what is said of a stage after sweep and chart stands in the text of check_drawn.
+fn said_of(stage: usize) -> usize {
+    match stage {
+        3 => 56,
+        2 => 25,
+        _ => 0,
+    }
+}
+
 // The check of sweep and chart.
 fn check_drawn(tally: Tally, swept: usize, charted: usize, sheet: Sheet) -> Tally {
+    let stage = stage_of(sheet);
     io::write_all(1, b"  drawn: ");
-    let stage = show_sheet(sheet);
-    console::show(
-        b", sweep # at #, chart # at #",
-        swept % 256,
-        swept / 256,
-        charted % 256,
-        charted / 256,
-        0,
+    show_sheet(sheet);
+    show_answer(
+        b", no labels, sweep # at #, cannot be drawn, sweep # at #, drawn, sweep # at #",
+        said_of(stage),
+        swept,
     );
+    show_answer(b", chart # at #", 0, charted);
     judge(tally, charted == chart_due(stage))
 }
 
@@ -275,20 +293,11 @@ fn turn_by(sheet: Sheet, number: usize) -> Outcome {
     calls::turn(sheet, &edge, (number % 2) as u8)
 }
 
-// Does the turn with this number turn an edge from its lower context?
-fn turns(sheet: Sheet, number: usize) -> bool {
-    if number / 2 % 256 <= number / 512 {
-        return false;
-    }
-    let outcome = turn_by(sheet, number);
-    answer_of(outcome) == 0
-}
-
 // The number of the first turn of one edge that is accepted; 102400 if there is none.
 fn first_turn(sheet: Sheet) -> usize {
     let mut number = 0;
     while number < 102400 {
-        if turns(sheet, number) {
+        if answer_of(turn_by(sheet, number)) == 0 {
             return number;
         }
         number += 1;
@@ -305,41 +314,30 @@ fn write_into(sheet: Sheet, out: &mut [u8]) -> usize {
     }
 }
 
-// How many of the first k bytes are the same in both, up to the first that differs.
-fn same_bytes<'a>(a: &'a [u8], b: &'a [u8], k: usize) -> usize {
-    let mut i = 0;
-    while i < k {
-        if lists::byte(a, i) != lists::byte(b, i) {
-            return i;
-        }
-        i += 1;
-    }
-    i
-}
-
-// The check that two sheets have the same chart and the same file.
-fn check_same(tally: Tally, a: Sheet, b: Sheet) -> Tally {
+// The check that two sheets are written as the same file.
+fn check_written(tally: Tally, a: Sheet, b: Sheet) -> Tally {
     let mut one = io::large_buffer();
     let size = write_into(a, &mut one);
     let mut other = io::large_buffer();
     let size_other = write_into(b, &mut other);
-    let equal = same_bytes(&one, &other, size);
-    let same = same_of(a, b);
+    let equal = console::agreeing(&one, &other, size);
     console::show(
-        b"same # at #, bytes # and #, equal #",
-        same % 256,
-        same / 256,
+        b"  written: bytes # and #, equal #",
         size,
         size_other,
         equal,
+        0,
+        0,
     );
     if size != size_other {
         return judge(tally, false);
     }
-    if equal != size {
-        return judge(tally, false);
-    }
-    judge(tally, same == 0)
+    judge(tally, equal == size)
+}
+
+// What open answers for a file, and the sheet that it leaves.
+fn open_anew(file: &[u8]) -> Outcome {
+    opening::open_file(sheet::fresh_sheet(), file)
 }
 
 // The labels of a sheet offered to another one, and charted.
@@ -351,28 +349,24 @@ fn drawn_anew(opened: Sheet, sheet: Sheet) -> Sheet {
     charted.sheet
 }
 
-// The check of the chart that is drawn after a turn, behind the one before it.
-fn check_afresh(tally: Tally, opened: Sheet, old: Sheet, turned: Sheet) -> Tally {
-    let charted = calls::chart(turned);
-    let new = charted.sheet;
-    console::show(
-        b"  afresh: #x# before, #x# after, ",
-        lists::wide_word(old.w),
-        lists::wide_word(old.h),
-        lists::wide_word(new.w),
-        lists::wide_word(new.h),
-        0,
-    );
-    check_same(tally, new, drawn_anew(opened, turned))
+// The check that the chart drawn after a turn is the one that is drawn anew.
+fn check_same(tally: Tally, new: Sheet, anew: Sheet) -> Tally {
+    let same = same_of(new, anew);
+    show_answer(b", same # at #", 0, same);
+    check_written(judge(tally, same == 0), new, anew)
 }
 
-// The checks of a turn of a part of a chart.
-fn check_turn(tally: Tally, opened: Sheet, sheet: Sheet) -> Tally {
-    let number = first_turn(sheet);
-    if number == 102400 {
-        io::write_all(1, b"  turned: no edge turns alone");
-        return judge(tally, true);
-    }
+// The checks of the chart that is drawn after a turn, behind the one before it.
+fn check_afresh<'a>(tally: Tally, file: &'a [u8], old: Sheet, turned: Sheet) -> Tally {
+    let charted = calls::chart(turned);
+    let opened = open_anew(file);
+    show_size(b"  afresh: before #x#", 0, old);
+    show_size(b", after #x#", 0, charted.sheet);
+    check_same(tally, charted.sheet, drawn_anew(opened.sheet, turned))
+}
+
+// The checks of the turn with this number.
+fn check_turned<'a>(tally: Tally, file: &'a [u8], sheet: Sheet, number: usize) -> Tally {
     let outcome = turn_by(sheet, number);
     let turned = outcome.sheet;
     console::show(
@@ -383,7 +377,17 @@ fn check_turn(tally: Tally, opened: Sheet, sheet: Sheet) -> Tally {
         0,
         0,
     );
-    check_afresh(check_undrawn(tally, turned), opened, sheet, turned)
+    check_afresh(check_undrawn(tally, turned), file, sheet, turned)
+}
+
+// The checks of a turn of a part of a chart.
+fn check_turn<'a>(tally: Tally, file: &'a [u8], sheet: Sheet) -> Tally {
+    let number = first_turn(sheet);
+    if number < 102400 {
+        return check_turned(tally, file, sheet, number);
+    }
+    io::write_all(1, b"  turned: no edge turns alone");
+    judge(tally, true)
 }
 
 // The check of a sheet as a file opens it, where that has no chart.
@@ -395,22 +399,21 @@ fn check_opened(tally: Tally, sheet: Sheet) -> Tally {
     check_undrawn(tally, sheet)
 }
 
-// The checks of a plan.
-fn check_plan(tally: Tally, sheet: Sheet) -> Tally {
-    let before = check_scan(check_opened(tally, sheet), sheet);
+// The checks of sweep and chart, and of the chart where there is one.
+fn check_chart<'a>(tally: Tally, file: &'a [u8], sheet: Sheet) -> Tally {
     let swept = calls::sweep(sheet);
     let charted = calls::chart(swept.sheet);
     let drawn = charted.sheet;
-    let after = check_drawn(before, answer_of(swept), answer_of(charted), drawn);
+    let after = check_drawn(tally, answer_of(swept), answer_of(charted), drawn);
     if stage_of(drawn) != 3 {
         return after;
     }
-    check_turn(check_areas(after, drawn), sheet, drawn)
+    check_turn(check_areas(after, drawn), file, drawn)
 }
 
 // A file: its number, its n, what open answers, and the checks where it is accepted.
-fn check_file(tally: Tally, number: usize, file: &[u8]) -> Tally {
-    let outcome = opening::open_file(sheet::fresh_sheet(), file);
+fn check_file<'a>(tally: Tally, number: usize, file: &'a [u8]) -> Tally {
+    let outcome = open_anew(file);
     let answer = answer_of(outcome);
     let sheet = outcome.sheet;
     console::show(
@@ -424,25 +427,31 @@ fn check_file(tally: Tally, number: usize, file: &[u8]) -> Tally {
     if answer != 0 {
         return tally;
     }
-    check_plan(tally, sheet)
+    check_chart(check_scan(check_opened(tally, sheet), sheet), file, sheet)
 }
 
-// Runs the files of standard input, one after another.
-fn main() {
-    let mut space = io::large_buffer();
-    let got = io::read_full(0, &mut space);
+// The files of an input, one after another.
+fn check_files(input: &[u8]) -> Tally {
     let mut tally = Tally {
         checks: 0,
         wrong: 0,
     };
     let mut number = 0;
     let mut at = 0;
-    while at < got {
-        let size = lists::word_at(&space, at);
+    while at < input.len() {
+        let size = lists::word_at(input, at);
         number = std::num::wrapping_add_usize(number, 1);
-        let more = check_file(tally, number, framing::ring_part(&space, at + 2, size));
+        let more = check_file(tally, number, framing::ring_part(input, at + 2, size));
         tally = more;
         at += 2 + size;
     }
+    tally
+}
+
+// Runs the files of standard input, and says how many checks there were.
+fn main() {
+    let mut space = io::large_buffer();
+    let got = io::read_full(0, &mut space);
+    let tally = check_files(framing::ring_part(&space, 0, got));
     console::show(b"# checks, # wrong\n", tally.checks, tally.wrong, 0, 0, 0);
 }

@@ -1,7 +1,7 @@
-// Lines of the programs on standard output: texts with numbers in them, and a checksum that stands for bytes. A contract says what a function gives; what is written is outside the logic, as in the kit's io.
+// Lines of the programs on standard output: texts with numbers in them, a checksum that stands for bytes, and how far bytes agree. A contract says what a function gives; what is written is outside the logic, as in the kit's io.
 ghost use mathlib.Core.Path.{_≡_};
 ghost use Prim.Native.Nat.{_<_, _^_};
-ghost use Rattle.console.specs.Lines.{behind, shown, stir, checksum};
+ghost use Rattle.console.specs.Lines.{behind, shown, stir, checksum, agreeing};
 
 // Writes a text from an index on, up to its next `#`, and a number in place of that; the index behind it.
 pub fn show_part(text: &[u8], from: usize, x: usize) -> usize
@@ -53,4 +53,18 @@ pub fn checksum(bytes: &[u8]) -> usize
         i += 1;
     }
     sum
+}
+
+// How many of the first k bytes are the same in both, up to the first that differs.
+pub fn agreeing<'a>(a: &'a [u8], b: &'a [u8], k: usize) -> usize
+    ensures { λ r. ⌜ r ≡ agreeing (now (a .entry)) (now (b .entry)) k ⌝ }
+{
+    let mut i = 0;
+    while i < k {
+        if lists::byte(a, i) != lists::byte(b, i) {
+            return i;
+        }
+        i += 1;
+    }
+    i
 }

@@ -1,21 +1,9 @@
 // Runs vectors over the leaves. Standard input holds plan files, each behind its length in two bytes, little-endian; the
-// program prints a line for each: what framing finds, the place that each plan rule gives (n where it is kept), the scan,
-// how many bytes of the plan that is written are the file's, what a buffer that is a byte short gives (16), the place of the
-// label rules, the chart, and whether a chart record is that chart (12). A leaf that the ones before it rule out is not asked.
+// program prints a line for each: the refusal of framing, or n and the offsets of labels and chart, 0 where there are none; the
+// place that each plan rule gives (n where it is kept), how many entries there are, the scan, how many bytes of the plan that is
+// written are the file's, what a buffer that just fits and one that is a byte short give (16), the place of the label rules, the
+// chart, and for a chart record 0 if it is that chart, else 12. A leaf that the ones before it rule out is not asked.
 ghost use Prim.Native.Nat.{_≤_};
-
-// A word, then a number.
-fn print(word: &[u8], x: usize) {
-    io::write_all(1, word);
-    io::print_decimal(1, x as u64);
-}
-
-// The number put at an index, if the index is there.
-fn store(entries: &mut [u16], at: usize, v: usize) {
-    if at < entries.len() {
-        entries[at] = (v % 65536) as u16;
-    }
-}
 
 // The entries of u's ring, copied behind those of the rings before it.
 fn copy_ring<'a>(
@@ -30,13 +18,21 @@ fn copy_ring<'a>(
     let k = rings::size_of(sizes, n, u);
     let mut i = 0;
     while i < k {
-        store(
-            entries,
-            from + i,
-            lent::neighbour_in(file, starts, sizes, n, u, i),
-        );
+        let v = lent::neighbour_in(file, starts, sizes, n, u, i);
+        lists::set_word(entries, from + i, (v % 65536) as u16);
         i += 1;
     }
+}
+
+// The entries of all rings.
+fn entries_of<'a>(file: &'a [u8], starts: &'a [u16], sizes: &'a [u8], n: usize) -> [u16; 1186] {
+    let mut entries = [0u16; 1186];
+    let mut u = 0;
+    while u < n {
+        copy_ring(&mut entries, file, starts, sizes, n, u);
+        u += 1;
+    }
+    entries
 }
 
 // The places that rules 4, 5 and 6 give; whether all are kept.
@@ -44,27 +40,22 @@ fn print_lent_rules<'a>(file: &'a [u8], starts: &'a [u16], sizes: &'a [u8], n: u
     let four = lent::rule4_place(file, starts, sizes, n);
     let five = lent::rule5_place(file, starts, sizes, n);
     let six = lent::rule6_place(file, starts, sizes, n);
-    print(b" 4:", four);
-    print(b" 5:", five);
-    print(b" 6:", six);
-    if n < 200 {
-        print(b" entries ", lists::num(starts, n));
-    }
-    if four < n {
-        return false;
-    }
-    if five < n {
-        return false;
-    }
-    n <= six
+    console::show(
+        b" 4:# 5:# 6:# entries #",
+        four,
+        five,
+        six,
+        lists::num(starts, n),
+        0,
+    );
+    n <= lists::lesser(four, lists::lesser(five, six))
 }
 
 // The places that rules 8 and 9 give; whether both are kept.
 fn print_flat_rules<'a>(starts: &'a [u16], sizes: &'a [u8], entries: &'a [u16], n: usize) -> bool {
     let eight = faces::rule8_place(starts, sizes, entries, n);
     let nine = faces::rule9_place(starts, sizes, entries, n);
-    print(b" 8:", eight);
-    print(b" 9:", nine);
+    console::show(b" 8:# 9:#", eight, nine, 0, 0, 0);
     if eight < 4 {
         return false;
     }
@@ -79,282 +70,245 @@ fn print_scan<'a>(starts: &'a [u16], sizes: &'a [u8], entries: &'a [u16], n: usi
             io::write_all(1, b" triangle none");
         }
         faces::Scanned::Triple(a, b, c) => {
-            print(b" triangle ", a);
-            print(b",", b);
-            print(b",", c);
+            console::show(b" triangle #,#,#", a, b, c, 0, 0);
         }
     }
 }
 
-// How many of the first k bytes are the same in both, up to the first that differs.
-fn same_bytes<'a>(a: &'a [u8], b: &'a [u8], k: usize) -> usize {
-    let mut i = 0;
-    while i < k {
-        if lists::byte(a, i) != lists::byte(b, i) {
-            return i;
-        }
-        i += 1;
-    }
-    i
-}
-
-// What is answered when the plan alone is written as a file: its length, or how many bytes a short buffer would need.
-fn print_answer(answer: writing::Written) {
-    match answer {
-        writing::Written::Length(k) => {
-            print(b" length ", k);
-        }
-        writing::Written::Short(k) => {
-            print(b" short ", k);
-        }
-    }
-}
-
-// How many bytes are written, or would be.
-fn size_in(answer: writing::Written) -> usize {
+// How many bytes are written; 0 where the buffer is short.
+fn length_in(answer: writing::Written) -> usize {
     match answer {
         writing::Written::Length(k) => k,
+        writing::Written::Short(_) => 0,
+    }
+}
+
+// How many bytes a short buffer would need; 0 where it is not short.
+fn short_in(answer: writing::Written) -> usize {
+    match answer {
+        writing::Written::Length(_) => 0,
         writing::Written::Short(k) => k,
     }
 }
 
-// The plan alone, written as a file into a buffer.
-fn write_alone<'a>(
-    out: &mut [u8],
+// The plan alone, written as a file into the first bytes of a buffer; in place of the labels and points that it does not have stand its sizes and entries.
+fn write_part<'a>(
+    space: &mut [u8],
+    size: usize,
     sizes: &'a [u8],
     entries: &'a [u16],
     n: usize,
 ) -> writing::Written {
-    let none = [0u8; 1];
-    let nowhere = [0u16; 1];
+    if space.len() < size {
+        return writing::Written::Short(0);
+    }
+    let out = &mut space[..size];
     writing::write_file(
         out,
         writing::Parts::PlanOnly,
         n,
         sizes,
         entries,
-        &none,
+        sizes,
         0,
         0,
-        &nowhere,
-        &nowhere,
+        entries,
+        entries,
     )
 }
 
-// The plan alone, written as a file into the first bytes of a buffer.
-fn write_part<'a>(space: &mut [u8], size: usize, sizes: &'a [u8], entries: &'a [u16], n: usize) {
-    if space.len() < size {
-        return;
-    }
-    let answer = write_alone(&mut space[..size], sizes, entries, n);
-    print_answer(answer);
-}
-
-// The plan alone, written as a file into a buffer that just fits, and into one that is a byte short.
-fn print_buffers<'a>(sizes: &'a [u8], entries: &'a [u16], n: usize, size: usize) {
-    let mut space = io::buffer();
-    write_part(&mut space, size, sizes, entries, n);
-    if 0 < size {
-        write_part(&mut space, size - 1, sizes, entries, n);
-    }
-}
-
-// How many bytes the plan alone takes when it is written, and how many of them are the file's.
-fn print_written<'a>(file: &'a [u8], sizes: &'a [u8], entries: &'a [u16], n: usize) {
-    let mut space = io::buffer();
-    let answer = write_alone(&mut space, sizes, entries, n);
-    let size = size_in(answer);
-    print(b" bytes ", size);
-    print(b" same ", same_bytes(file, &space, size));
-    print_buffers(sizes, entries, n, size);
-}
-
-// A context's point.
-fn print_point<'a>(xs: &'a [u16], ys: &'a [u16], u: usize) {
-    print(b" ", lists::num(xs, u));
-    print(b",", lists::num(ys, u));
+// How many bytes the plan alone takes when it is written into a buffer, how many of them are the file's, and what a buffer gives that just fits and one that is a byte short.
+fn print_written<'a>(
+    space: &mut [u8],
+    file: &'a [u8],
+    sizes: &'a [u8],
+    entries: &'a [u16],
+    n: usize,
+) {
+    let size = length_in(write_part(space, 4096, sizes, entries, n));
+    let same = console::agreeing(file, space, size);
+    let just = length_in(write_part(space, size, sizes, entries, n));
+    let short = short_in(write_part(space, lists::minus(size, 1), sizes, entries, n));
+    console::show(
+        b" bytes # same # length # short #",
+        size,
+        same,
+        just,
+        short,
+        0,
+    );
 }
 
 // The points of n contexts.
 fn print_points<'a>(xs: &'a [u16], ys: &'a [u16], n: usize) {
     let mut u = 0;
     while u < n {
-        print_point(xs, ys, u);
+        console::show(b" #,#", lists::num(xs, u), lists::num(ys, u), 0, 0, 0);
         u += 1;
     }
+}
+
+// A chart: its size and the point of each of n contexts.
+fn print_drawn(drawn: placement::Drawn, n: usize) {
+    let w = lists::wide_word(drawn.w);
+    let h = lists::wide_word(drawn.h);
+    console::show(b" chart #x#", w, h, 0, 0, 0);
+    let xs = drawn.xs;
+    let ys = drawn.ys;
+    print_points(&xs, &ys, n);
 }
 
 // One coordinate of each point in the body of a chart record, from an offset on.
-fn copy_points(points: &mut [u16], chart: &[u8], from: usize)
+fn points_in(chart: &[u8], from: usize) -> [u16; 200]
     requires { ⌜ from ≤ 6 ⌝ }
 {
+    let mut points = [0u16; 200];
     let mut u = 0;
     while u < 200 {
-        store(points, u, lists::word_at(chart, from + 4 * u));
+        points[u] = lists::word_at(chart, from + 4 * u) as u16;
         u += 1;
     }
+    points
 }
 
-// Is the chart in the body of a chart record the one that is drawn?
-fn is_drawn(chart: &[u8], n: usize, drawn: placement::Drawn) -> bool {
-    let mut xs = [0u16; 200];
-    copy_points(&mut xs, chart, 4);
-    let mut ys = [0u16; 200];
-    copy_points(&mut ys, chart, 6);
+// What the body of a chart record is refused by where a chart is drawn: 0 if it is the same, else 12.
+fn refusal_of(chart: &[u8], n: usize, drawn: placement::Drawn) -> usize {
     let w = lists::word_at(chart, 0) as u16;
     let h = lists::word_at(chart, 2) as u16;
+    let xs = points_in(chart, 4);
+    let ys = points_in(chart, 6);
     let dx = drawn.xs;
     let dy = drawn.ys;
-    placement::same_chart(n, w, h, &xs, &ys, drawn.w, drawn.h, &dx, &dy)
+    if placement::same_chart(n, w, h, &xs, &ys, drawn.w, drawn.h, &dx, &dy) {
+        return 0;
+    }
+    12
 }
 
-// Whether a chart record, if the file has one, is the chart that is drawn.
-fn print_record(chart: &[u8], n: usize, drawn: placement::Drawn) {
-    if chart.len() == 0 {
-        return;
-    }
-    if is_drawn(chart, n, drawn) {
-        io::write_all(1, b" record same");
-        return;
-    }
-    io::write_all(1, b" record other");
-}
-
-// The chart of the labels: its size and the point of each context, and whether the file's chart record is the same.
+// The chart of the labels, and whether a chart record, if the file has one at an offset, is the same.
 fn print_chart<'a>(
+    file: &'a [u8],
     sizes: &'a [u8],
     entries: &'a [u16],
     n: usize,
     labels: &'a [u8],
-    chart: &'a [u8],
-) {
+    chart: usize,
+)
+    requires { ⌜ n ≤ 200 ⌝ }
+{
     let drawn = placement::chart_of(sizes, entries, n, labels);
     if !drawn.found {
         io::write_all(1, b" chart none");
         return;
     }
-    let w = drawn.w;
-    let h = drawn.h;
-    print(b" chart ", lists::wide_word(w));
-    print(b"x", lists::wide_word(h));
-    let xs = drawn.xs;
-    let ys = drawn.ys;
-    print_points(&xs, &ys, n);
-    print_record(chart, n, drawn);
-}
-
-// The place of the label rules, and the chart where they are kept.
-fn print_labels<'a>(
-    sizes: &'a [u8],
-    entries: &'a [u16],
-    n: usize,
-    labels: &'a [u8],
-    chart: &'a [u8],
-) {
-    let ten = labels::rules::rules_place(sizes, entries, n, labels);
-    print(b" 10:", ten);
-    if n <= ten {
-        print_chart(sizes, entries, n, labels, chart);
+    print_drawn(drawn, n);
+    if chart != 0 {
+        let record = framing::ring_part(file, chart, 4 + 4 * n);
+        console::show(b" record #", refusal_of(record, n, drawn), 0, 0, 0, 0);
     }
 }
 
-// The rules 8 and 9, and on a plan that keeps them the scan, what is written, and the label rules where there are labels.
+// The place of the label rules where the file has labels at an offset, and the chart where they are kept.
+fn print_labels<'a>(
+    file: &'a [u8],
+    sizes: &'a [u8],
+    entries: &'a [u16],
+    n: usize,
+    at: usize,
+    chart: usize,
+)
+    requires { ⌜ n ≤ 200 ⌝ }
+{
+    if at == 0 {
+        return;
+    }
+    let labels = framing::ring_part(file, at, lists::minus(6 * n, 14));
+    let ten = labels::rules::rules_place(sizes, entries, n, labels);
+    console::show(b" 10:#", ten, 0, 0, 0, 0);
+    if n <= ten {
+        print_chart(file, sizes, entries, n, labels, chart);
+    }
+}
+
+// The scan, and the plan written.
+fn print_whole<'a>(
+    file: &'a [u8],
+    starts: &'a [u16],
+    sizes: &'a [u8],
+    entries: &'a [u16],
+    n: usize,
+) {
+    print_scan(starts, sizes, entries, n);
+    let mut space = io::buffer();
+    print_written(&mut space, file, sizes, entries, n);
+}
+
+// The rules 8 and 9, and on a plan that keeps them the scan, the plan written and the labels.
 fn print_flat<'a>(
     file: &'a [u8],
     starts: &'a [u16],
     sizes: &'a [u8],
     entries: &'a [u16],
     n: usize,
-    labels: &'a [u8],
-    chart: &'a [u8],
-) {
-    if !print_flat_rules(starts, sizes, entries, n) {
-        return;
-    }
-    print_scan(starts, sizes, entries, n);
-    print_written(file, sizes, entries, n);
-    if labels.len() > 0 {
-        print_labels(sizes, entries, n, labels, chart);
+    labels: usize,
+    chart: usize,
+)
+    requires { ⌜ n ≤ 200 ⌝ }
+{
+    if print_flat_rules(starts, sizes, entries, n) {
+        print_whole(file, starts, sizes, entries, n);
+        print_labels(file, sizes, entries, n, labels, chart);
     }
 }
 
-// What the leaves find in a plan that is framed, behind a name; `labels` and `chart` are empty where the file has none.
-fn print_plan<'a>(
-    name: &'a [u8],
-    file: &'a [u8],
-    sizes: &'a [u8],
-    n: usize,
-    labels: &'a [u8],
-    chart: &'a [u8],
-) {
+// What the leaves find in a plan that is framed, with labels and chart at these offsets.
+fn print_plan<'a>(file: &'a [u8], sizes: &'a [u8], n: usize, labels: usize, chart: usize)
+    requires { ⌜ n ≤ 200 ⌝ }
+{
     let starts = rings::starts_of(sizes);
-    print(name, n);
-    if !print_lent_rules(file, &starts, sizes, n) {
-        return;
+    if print_lent_rules(file, &starts, sizes, n) {
+        let entries = entries_of(file, &starts, sizes, n);
+        print_flat(file, &starts, sizes, &entries, n, labels, chart);
     }
-    let mut entries = [0u16; 1186];
-    let mut u = 0;
-    while u < n {
-        copy_ring(&mut entries, file, &starts, sizes, n, u);
-        u += 1;
-    }
-    print_flat(file, &starts, sizes, &entries, n, labels, chart);
-}
-
-// How many labels a plan of n contexts has; 0 where no plan has n.
-fn dart_count(n: usize) -> usize {
-    if n < 5 {
-        return 0;
-    }
-    if 200 < n {
-        return 0;
-    }
-    6 * n - 14
-}
-
-// How many bytes the body of a chart record has; 0 where no plan has n.
-fn chart_size(n: usize) -> usize {
-    if n < 5 {
-        return 0;
-    }
-    if 200 < n {
-        return 0;
-    }
-    4 + 4 * n
-}
-
-// A refusal: its number and its place.
-fn print_refusal(number: u8, place: usize) {
-    print(b"refused ", lists::wide_byte(number));
-    print(b" at ", place);
 }
 
 // A file: the refusal, or what stands in it.
 fn print_file(file: &[u8]) {
     let layout = framing::frame_file(file);
     let found = layout.found;
-    let n = layout.n;
-    let sizes = layout.sizes;
-    let none = framing::ring_part(file, 0, 0);
-    let labels = framing::ring_part(file, layout.labels, dart_count(n));
-    let chart = framing::ring_part(file, layout.chart, chart_size(n));
     match found {
-        framing::Found::Refused(number, place) => print_refusal(number, place),
-        framing::Found::Opened => print_plan(b"plan n ", file, &sizes, n, none, none),
-        framing::Found::Labelled => print_plan(b"labels n ", file, &sizes, n, labels, none),
-        framing::Found::Charted => print_plan(b"chart n ", file, &sizes, n, labels, chart),
+        framing::Found::Refused(number, place) => {
+            console::show(b"refused # at #", lists::wide_byte(number), place, 0, 0, 0);
+        }
+        _ => {
+            console::show(
+                b"n # labels # chart #",
+                layout.n,
+                layout.labels,
+                layout.chart,
+                0,
+                0,
+            );
+            let sizes = layout.sizes;
+            print_plan(file, &sizes, layout.n, layout.labels, layout.chart);
+        }
     }
-    io::write_all(1, b"\n");
 }
 
-// Runs the files of standard input, one after another.
+// The files of an input, one after another.
+fn print_files(input: &[u8]) {
+    let mut at = 0;
+    while at < input.len() {
+        let size = lists::word_at(input, at);
+        print_file(framing::ring_part(input, at + 2, size));
+        io::write_all(1, b"\n");
+        at += 2 + size;
+    }
+}
+
+// Runs the files of standard input.
 fn main() {
     let mut space = io::large_buffer();
     let got = io::read_full(0, &mut space);
-    let mut at = 0;
-    while at < got {
-        let size = lists::word_at(&space, at);
-        print_file(framing::ring_part(&space, at + 2, size));
-        at += 2 + size;
-    }
+    print_files(framing::ring_part(&space, 0, got));
 }

@@ -7,27 +7,29 @@ use Rattle.trial_leaves.proofs.write_part.Statement.{statement}
 use Rattle.trial_leaves.proofs.write_part.Tie as tie
 use Rattle.trial_leaves.proofs.write_part.Reads as reads
 use Rattle.trial_leaves.proofs.write_part.Lts as lts
-use Rattle.trial_leaves.proofs.print_answer.Reads as print-answer-reads
-use Rattle.trial_leaves.proofs.write_alone.Reads as write-alone-reads
+use Rattle.writing.proofs.write_file.Reads as write-file-reads
 
+-- src/main.rt:115:9
 returns : tie.Need-returns
 returns c = search needs
 
-slice-relend-prefix-write-alone : tie.Need-slice-relend-prefix-write-alone
-slice-relend-prefix-write-alone c = search needs
+-- src/main.rt:117:15
+slice-relend-prefix-out : tie.Need-slice-relend-prefix-out
+slice-relend-prefix-out c = search needs
 
-slice-aggregate-write-alone : tie.Need-slice-aggregate-write-alone
-slice-aggregate-write-alone c = let a = c .before .before .before .before .before .args in sym (length-take-le (a .size) (a .space .now) (omega arith))
+-- src/main.rt:117:9
+slice-aggregate-out : tie.Need-slice-aggregate-out
+slice-aggregate-out c = let a = c .before .before .before .before .before .args in sym (length-take-le (a .size) (a .space .now) (omega arith))
 
-write-alone-requires : tie.Need-write-alone-requires
-write-alone-requires c κs = search needs
+-- src/main.rt:118:5
+write-file-requires : tie.Need-write-file-requires
+write-file-requires c κs = search needs
 
-print-answer-requires : tie.Need-print-answer-requires
-print-answer-requires c κs = search needs
-
+-- src/main.rt:107:1
 same-length : tie.Need-same-length
 same-length c = search needs
 
+-- src/main.rt:107:1
 returns-2 : tie.Need-returns-2
 returns-2 c = search needs
 
@@ -36,9 +38,8 @@ write-part-spec =
     tie.close
     (tie.spec
     returns
-    slice-relend-prefix-write-alone
-    slice-aggregate-write-alone
-    write-alone-requires
-    print-answer-requires
+    slice-relend-prefix-out
+    slice-aggregate-out
+    write-file-requires
     same-length
     returns-2)
