@@ -35,26 +35,6 @@ fn sheet_buffer() -> [u8; 8192]
     [170; 8192]
 }
 
-// Reads this many bytes to the start of the space; whether they were there.
-fn read_bytes(space: &mut [u8], size: usize) -> bool {
-    if space.len() < size {
-        return false;
-    }
-    io::read_full(0, &mut space[..size]) == size
-}
-
-// Reads an item, its argument to the start of the space: its kind and 256 times the length of its argument; 255 where there is none.
-fn read_item(space: &mut [u8]) -> usize {
-    if !read_bytes(space, 4) {
-        return 255;
-    }
-    let item = lists::word_at(space, 0) + 65536 * lists::word_at(space, 2);
-    if !read_bytes(space, item / 256) {
-        return 255;
-    }
-    item
-}
-
 // The numbers of a turn, which stand behind its direction.
 fn numbers_of(argument: &[u8]) -> [u16; 4096]
     ensures { λ r. ⌜ 4096 ≡ length r ⌝ }
@@ -144,7 +124,7 @@ fn run_items() -> usize {
     let mut sheet = sheet::fresh_sheet();
     let mut done = 0usize;
     while done < 100000 {
-        let item = read_item(&mut space);
+        let item = console::read_item(&mut space);
         let kind = item % 256;
         if 5 < kind {
             return done;

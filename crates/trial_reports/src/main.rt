@@ -36,26 +36,6 @@ fn wide_buffer() -> [u8; 65536]
     [170; 65536]
 }
 
-// Reads this many bytes to the start of the space; whether they were there.
-fn read_bytes(space: &mut [u8], size: usize) -> bool {
-    if space.len() < size {
-        return false;
-    }
-    io::read_full(0, &mut space[..size]) == size
-}
-
-// Reads an item, its argument to the start of the space: its kind and 256 times the length of its argument; 255 where there is none.
-fn read_item(space: &mut [u8]) -> usize {
-    if !read_bytes(space, 4) {
-        return 255;
-    }
-    let item = lists::word_at(space, 0) + 65536 * lists::word_at(space, 2);
-    if !read_bytes(space, item / 256) {
-        return 255;
-    }
-    item
-}
-
 // Writes a refusal: its number and its place.
 fn show_refusal(number: u8, place: usize) {
     console::show(b"refused # at #", lists::wide_byte(number), place, 0, 0, 0);
@@ -176,7 +156,7 @@ fn run_items() -> usize {
     let mut space = argument_room();
     let mut done = 0usize;
     while done < 100000 {
-        let item = read_item(&mut space);
+        let item = console::read_item(&mut space);
         if 4 < item % 256 {
             return done;
         }

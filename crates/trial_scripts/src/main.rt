@@ -5,21 +5,13 @@
 //
 // stdin and stdout beside this crate are made by the reference in rust/, by its examples calls_items and run_calls.
 
-// Reads this many bytes to the start of the space; whether they were there.
-fn read_bytes(space: &mut [u8], size: usize) -> bool {
-    if space.len() < size {
-        return false;
-    }
-    io::read_full(0, &mut space[..size]) == size
-}
-
 // Reads a script to the start of the space: its length, 65536 where there is none.
 fn read_script(space: &mut [u8]) -> usize {
-    if !read_bytes(space, 2) {
+    if !console::read_bytes(space, 2) {
         return 65536;
     }
     let size = lists::word_at(space, 0);
-    if !read_bytes(space, size) {
+    if !console::read_bytes(space, size) {
         return 65536;
     }
     size

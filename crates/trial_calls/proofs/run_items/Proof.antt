@@ -11,7 +11,7 @@ use Rattle.trial_calls.proofs.run_items.Lts as lts
 use Rattle.framing.proofs.ring_part.Reads as ring-part-reads
 use Rattle.sheet.proofs.fresh_sheet.Reads as fresh-sheet-reads
 use Rattle.trial_calls.proofs.argument_room.Reads as argument-room-reads
-use Rattle.trial_calls.proofs.read_item.Reads as read-item-reads
+use Rattle.console.proofs.read_item.Reads as read-item-reads
 use Rattle.trial_calls.proofs.run_call.Reads as run-call-reads
 use Rattle.trial_calls.proofs.show_call.Reads as show-call-reads
 use Rattle.trial_calls.proofs.show_sheet.Reads as show-sheet-reads

@@ -10,7 +10,7 @@ use Rattle.trial_reports.proofs.run_items.Reads as reads
 use Rattle.trial_reports.proofs.run_items.Lts as lts
 use Rattle.framing.proofs.ring_part.Reads as ring-part-reads
 use Rattle.trial_reports.proofs.argument_room.Reads as argument-room-reads
-use Rattle.trial_reports.proofs.read_item.Reads as read-item-reads
+use Rattle.console.proofs.read_item.Reads as read-item-reads
 use Rattle.trial_reports.proofs.run_item.Reads as run-item-reads
 
 abbrev Inv-loop : tie.InvT-loop
