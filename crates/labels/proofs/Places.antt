@@ -1,12 +1,12 @@
 -- Where the labels of a ring stand in a flat array, and what the model says of them there.
-use Prim.Native.Nat.{ℕ, zero, suc, _+_, _-_, _%_, _≤_, _<_, min}
+use Prim.Native.Nat.{ℕ, zero, suc, _+_, _-_, _≤_, _<_, min}
 use mathlib.Core.Path.{_≡_, refl, sym, ap, _∙_}
 use mathlib.Core.List.{List, [], _∷_, map}
 use mathlib.Core.Bool.{Bool, true, false, cond}
 use native.Mathlib.Omega.{arith}
 use lib.ListN.{length, getD, set, take, drop, length-append, length-take, List·getD-eq-default}
 use lib.Seq.{slice, take-nil, getD-take, getD-drop}
-use lib.Dec.{eqb, ltb}
+use lib.Dec.{ltb}
 use borrow.Author.Tests.{ltb-true, ltb-false, lt-ltb, le-ltb, ne-eqb}
 use Rattle.lists.specs.Tests.{member}
 use Rattle.lists.specs.Ranges.{from}
@@ -16,9 +16,8 @@ use Rattle.lists.proofs.Ranges.{getD-map-from}
 use Rattle.lists.proofs.Spans.{length-stretch}
 use Rattle.model.specs.Plan.{Plan, neighbour, entries, ring, adjacent}
 use Rattle.model.specs.Labels.{unlabelled, start, labelsAround, labelOf, put}
-use Rattle.rings.specs.Tables.{startOf, startsOf, sizeOf, rows, table}
+use Rattle.rings.specs.Tables.{startOf, startsOf, sizeOf, rows, table, held}
 use Rattle.rings.proofs.Rows.{start-first, start-more, size-outside, entries-rows, ring-rows, ring-size, member-index}
-use Rattle.rings.specs.Tables.{held}
 use Rattle.places.specs.Places.{place, cell, placesOf}
 use Rattle.places.proofs.Notes.{places-cell, place-absent, place-present}
 use Rattle.labels.specs.LabelBy.{labelAt, labelBy, aroundBy}
@@ -28,10 +27,6 @@ pub getD-inside : (l : List ℕ) (i d e : ℕ) → i < length l → getD l i d �
 getD-inside [] i d e h = absurd (omega arith)
 getD-inside (a ∷ l) zero d e h = refl
 getD-inside (a ∷ l) (suc i) d e h = getD-inside l i d e (omega arith)
-
--- whole turns do not matter
-pub turned-on : (l q : ℕ) → (l + q % 4) % 4 ≡ (l + q) % 4
-turned-on l q = omega arith
 
 -- of n contexts, at most 200
 pub held-small : (sizes es : List ℕ) (n : ℕ) → n ≤ 200 → held sizes es n ≡ table sizes es n

@@ -1,9 +1,9 @@
 // The label rules: the lowest context that breaks them, with the label of each dart found by a table of positions.
 ghost use mathlib.Core.Path.{_≡_};
+ghost use mathlib.Core.List.{map};
 ghost use Prim.Native.Nat.{min, _≤_, _<_, _^_};
 ghost use Rattle.lists.specs.Tests.{any};
 ghost use Rattle.lists.specs.Ranges.{lowest};
-ghost use mathlib.Core.List.{map};
 ghost use Rattle.lists.specs.Spans.{span};
 ghost use Rattle.model.specs.Plan.{neighbour};
 ghost use Rattle.model.specs.Labels.{breaks};
