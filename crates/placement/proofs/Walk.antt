@@ -30,11 +30,12 @@ pub record Walks (starts sizes es : List ℕ) (n : ℕ) (ls xl xh xg yl yh yg ma
 
 module _ (starts sizes es : List ℕ) (n : ℕ) (ls : List ℕ) where
   -- the ties, and no dart
-  pub walks-start : {k : ℕ} (z b : List ℕ) → z ≡ zeros 1188 → b ≡ zeros 1188 → k ≡ sizeOf sizes n 0 → k < 256 → Walks starts sizes es n ls (set z 1 1) (set z 0 1) b (set z 1 3) (set z 0 3) b (replicate 200 0) 2 0 0 0 k
+  pub walks-start : {k : ℕ} {xl xh xg yl yh yg : List ℕ} → (xl ≡ zeros 1188) × (xh ≡ zeros 1188) × (xg ≡ zeros 1188) → (yl ≡ zeros 1188) × (yh ≡ zeros 1188) × (yg ≡ zeros 1188) → k ≡ sizeOf sizes n 0 → k < 256
+      → Walks starts sizes es n ls (set xl 1 1) (set xh 0 1) xg (set yl 1 3) (set yh 0 3) yg (replicate 200 0) 2 0 0 0 k
   unfolding tiedTo
-  walks-start z b ez eb size few = record {
-    x = asking-start sizes es n ls false 1 refl z z b ez ez eb;
-    y = asking-start sizes es n ls true 3 refl z z b ez ez eb;
+  walks-start {k} {xl} {xh} {xg} {yl} {yh} {yg} ex ey size few = record {
+    x = asking-start sizes es n ls false 1 refl xl xh xg (ex .0) (ex .1) (ex .2);
+    y = asking-start sizes es n ls true 3 refl yl yh yg (ey .0) (ey .1) (ey .2);
     marked = marked-start (ring (rows starts sizes es n) 0);
     begins = start-first sizes;
     size = size;

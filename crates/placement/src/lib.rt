@@ -1,9 +1,9 @@
 // Placement: the chart of a labelled plan over flat arrays, and the comparison of two charts.
 ghost use mathlib.Core.Path.{_≡_};
 ghost use mathlib.Core.Bool.{true, false, _&&_};
-ghost use Prim.Native.Nat.{_+_, _-_, _<_, _≤_, _^_};
+ghost use Prim.Native.Nat.{_+_, _-_, _≤_};
 ghost use Rattle.lists.specs.Tests.{all, sameList};
-ghost use Rattle.lists.specs.Spans.{stretch};
+ghost use Rattle.lists.specs.Spans.{stretch, zeros};
 ghost use Rattle.lists.specs.Parts.{indexOf};
 ghost use Rattle.model.specs.Outcome.{refused};
 ghost use Rattle.model.specs.Plan.{ring};
@@ -15,17 +15,6 @@ ghost use Rattle.placement.specs.Marking.{Marked, DartAt};
 
 // The slope that a line must at least have.
 const SLOPE: u8 = 0;
-
-// The constraints of both coordinates in flat arrays, of each as many as count says.
-struct Asks {
-    pub count: usize,
-    pub xlows: [u16; 1188],
-    pub xhighs: [u16; 1188],
-    pub xgaps: [u8; 1188],
-    pub ylows: [u16; 1188],
-    pub yhighs: [u16; 1188],
-    pub ygaps: [u8; 1188],
-}
 
 // The least numbers of one coordinate, and whether they are found and meet all its constraints.
 struct Axis {
@@ -101,27 +90,29 @@ fn label_place<'a>(
     a + i
 }
 
-// The constraints of both coordinates: the border's tie, then those of the darts in the order of the rings.
+// Puts the constraints of both coordinates into arrays of zeros: the border's tie, then those of the darts in the order of the rings. How many there are of each.
 fn asks_of<'a>(
+    xlows: &mut [u16; 1188],
+    xhighs: &mut [u16; 1188],
+    xgaps: &mut [u8; 1188],
+    ylows: &mut [u16; 1188],
+    yhighs: &mut [u16; 1188],
+    ygaps: &mut [u8; 1188],
     starts: &'a [u16],
     sizes: &'a [u8],
     entries: &'a [u16],
     n: usize,
     labels: &'a [u8],
-) -> Asks
+) -> usize
     requires { ⌜ n ≤ 200 ⌝ }
     requires { ⌜ startOf (now sizes) n ≤ 1186 ⌝ }
     requires { ⌜ now starts ≡ startsOf (now sizes) ⌝ }
-    ensures x { λ r. ⌜ listed (r .xlows) (r .xhighs) (r .xgaps) (r .count) ≡ asked false (table (now (sizes .entry)) (now (entries .entry)) n) (now (labels .entry)) ⌝ }
-    ensures y { λ r. ⌜ listed (r .ylows) (r .yhighs) (r .ygaps) (r .count) ≡ asked true (table (now (sizes .entry)) (now (entries .entry)) n) (now (labels .entry)) ⌝ }
-    ensures tied { λ r. ⌜ 2 ≤ r .count ⌝ }
+    requires { ⌜ (now xlows ≡ zeros 1188) × (now xhighs ≡ zeros 1188) × (now xgaps ≡ zeros 1188) ⌝ }
+    requires { ⌜ (now ylows ≡ zeros 1188) × (now yhighs ≡ zeros 1188) × (now ygaps ≡ zeros 1188) ⌝ }
+    ensures x { λ r. ⌜ listed (now (xlows .exit)) (now (xhighs .exit)) (now (xgaps .exit)) r ≡ asked false (table (now (sizes .entry)) (now (entries .entry)) n) (now (labels .entry)) ⌝ }
+    ensures y { λ r. ⌜ listed (now (ylows .exit)) (now (yhighs .exit)) (now (ygaps .exit)) r ≡ asked true (table (now (sizes .entry)) (now (entries .entry)) n) (now (labels .entry)) ⌝ }
+    ensures tied { λ r. ⌜ 2 ≤ r ⌝ }
 {
-    let mut xlows = [0u16; 1188];
-    let mut xhighs = [0u16; 1188];
-    let mut xgaps = [0u8; 1188];
-    let mut ylows = [0u16; 1188];
-    let mut yhighs = [0u16; 1188];
-    let mut ygaps = [0u8; 1188];
     xhighs[0] = 1;
     xlows[1] = 1;
     yhighs[0] = 3;
@@ -154,15 +145,7 @@ fn asks_of<'a>(
             k = rings::size_of(sizes, n, u);
         }
     }
-    Asks {
-        count,
-        xlows,
-        xhighs,
-        xgaps,
-        ylows,
-        yhighs,
-        ygaps,
-    }
+    count
 }
 
 // The least numbers of the first count constraints, and whether they meet those after the tie.
@@ -248,18 +231,30 @@ fn chart_from<'a>(
     requires { ⌜ now starts ≡ startsOf (now sizes) ⌝ }
     ensures { λ r. ⌜ r ≡ drawnOf (chartFor (now (sizes .entry)) (now (entries .entry)) n (now (labels .entry))) ⌝ }
 {
-    let asks = asks_of(starts, sizes, entries, n, labels);
-    let xlows = asks.xlows;
-    let xhighs = asks.xhighs;
-    let xgaps = asks.xgaps;
-    let ylows = asks.ylows;
-    let yhighs = asks.yhighs;
-    let ygaps = asks.ygaps;
-    let x = axis_of(n, asks.count, &xlows, &xhighs, &xgaps);
+    let mut xlows = [0u16; 1188];
+    let mut xhighs = [0u16; 1188];
+    let mut xgaps = [0u8; 1188];
+    let mut ylows = [0u16; 1188];
+    let mut yhighs = [0u16; 1188];
+    let mut ygaps = [0u8; 1188];
+    let count = asks_of(
+        &mut xlows,
+        &mut xhighs,
+        &mut xgaps,
+        &mut ylows,
+        &mut yhighs,
+        &mut ygaps,
+        starts,
+        sizes,
+        entries,
+        n,
+        labels,
+    );
+    let x = axis_of(n, count, &xlows, &xhighs, &xgaps);
     if !x.kept {
         return undrawn();
     }
-    let y = axis_of(n, asks.count, &ylows, &yhighs, &ygaps);
+    let y = axis_of(n, count, &ylows, &yhighs, &ygaps);
     if !y.kept {
         return undrawn();
     }

@@ -1,7 +1,6 @@
 -- asks_of meets its contract.
 use Prim.Native.Nat.{ℕ, _+_, _-_, _*_}
 use mathlib.Core.Path.{refl, ap}
-use Rattle.lists.specs.Spans.{zeros}
 use Rattle.placement.proofs.Asking.{neighbour-le}
 use Rattle.placement.proofs.Walk.{Walks, walks-start, walks-room, walks-at, walks-dart, walks-next, walks-x, walks-y}
 use native.Mathlib.Omega.{arith}
@@ -10,30 +9,29 @@ use Rattle.placement.proofs.asks_of.Statement.{statement}
 use Rattle.placement.proofs.asks_of.Tie as tie
 
 abbrev Inv-loop : tie.InvT-loop
-Inv-loop starts sizes entries n labels xlows₀ xhighs₀ xgaps₀ ylows₀ yhighs₀ ygaps₀ marks₀ count₀ u₀ i₀ a₀ k₀ xlows xhighs xgaps ylows yhighs ygaps marks count u i a k =
+Inv-loop xlows₀ xhighs₀ xgaps₀ ylows₀ yhighs₀ ygaps₀ starts sizes entries n labels marks₀ count₀ u₀ i₀ a₀ k₀ xlows xhighs xgaps ylows yhighs ygaps marks count u i a k =
     Walks starts sizes entries n labels xlows xhighs xgaps ylows yhighs ygaps marks count u i a k
 
 abbrev μ-loop : tie.MeasureT-loop
-μ-loop starts sizes entries n labels xlows₀ xhighs₀ xgaps₀ ylows₀ yhighs₀ ygaps₀ marks₀ count₀ u₀ i₀ a₀ k₀ xlows xhighs xgaps ylows yhighs ygaps marks count u i a k = (n - u) * 256 - i
+μ-loop xlows₀ xhighs₀ xgaps₀ ylows₀ yhighs₀ ygaps₀ starts sizes entries n labels marks₀ count₀ u₀ i₀ a₀ k₀ xlows xhighs xgaps ylows yhighs ygaps marks count u i a k = (n - u) * 256 - i
 
-array-write-xhighs : tie.Need-array-write-xhighs Inv-loop μ-loop
-array-write-xhighs c = search needs
+element-write-xhighs : tie.Need-element-write-xhighs Inv-loop μ-loop
+element-write-xhighs c = search needs
 
-array-write-xlows : tie.Need-array-write-xlows Inv-loop μ-loop
-array-write-xlows c = search needs
+element-write-xlows : tie.Need-element-write-xlows Inv-loop μ-loop
+element-write-xlows c = search needs
 
-array-write-yhighs : tie.Need-array-write-yhighs Inv-loop μ-loop
-array-write-yhighs c = search needs
+element-write-yhighs : tie.Need-element-write-yhighs Inv-loop μ-loop
+element-write-yhighs c = search needs
 
-array-write-ylows : tie.Need-array-write-ylows Inv-loop μ-loop
-array-write-ylows c = search needs
+element-write-ylows : tie.Need-element-write-ylows Inv-loop μ-loop
+element-write-ylows c = search needs
 
 size-of-requires : tie.Need-size-of-requires Inv-loop μ-loop
 size-of-requires c κs = search needs
 
 loop-holds : tie.Need-loop-holds Inv-loop μ-loop
-unfolding zeros
-loop-holds c = walks-start (c .before .before .before .before .before .args .starts .now) (c .before .before .before .before .before .args .sizes .now) (c .before .before .before .before .before .args .entries .now) (c .before .before .before .before .before .args .n) (c .before .before .before .before .before .args .labels .now) (zeros 1188) (zeros 1188) refl refl (c .size-of .ensures .0) (c .size-of .ensures .1)
+loop-holds c = walks-start (c .before .before .before .before .before .args .starts .now) (c .before .before .before .before .before .args .sizes .now) (c .before .before .before .before .before .args .entries .now) (c .before .before .before .before .before .args .n) (c .before .before .before .before .before .args .labels .now) (c .before .before .before .before .before .pre .1 .1 .1 .0) (c .before .before .before .before .before .pre .1 .1 .1 .1) (c .size-of .ensures .0) (c .size-of .ensures .1)
 
 add-num : tie.Need-add-num Inv-loop μ-loop
 add-num c = let m = c .before .before .loop .inv .near in let f = c .before .before .loop .inv .few in omega arith
@@ -45,7 +43,7 @@ neighbour-of-requires : tie.Need-neighbour-of-requires Inv-loop μ-loop
 neighbour-of-requires c κs = search needs
 
 label-place-requires : tie.Need-label-place-requires Inv-loop μ-loop
-label-place-requires c κs = let pre = c .before .before .before .before .before .before .before .before .before .before .before .pre in (c .before .before .before .before .before .loop .inv .marked, walks-at (c .before .before .before .before .before .before .before .before .before .before .before .args .starts .now) (c .before .before .before .before .before .before .before .before .before .before .before .args .sizes .now) (c .before .before .before .before .before .before .before .before .before .before .before .args .entries .now) (c .before .before .before .before .before .before .before .before .before .before .before .args .n) (c .before .before .before .before .before .before .before .before .before .before .before .args .labels .now) (c .before .before .before .before .before .loop .inv) (c .before .before .before .before .loop-test .taken) (c .before .before .before .if1 .taken) (pre .0) (pre .1 .0) (pre .1 .1) (c .before .before .num .ensures .0) (c .before .neighbour-of .ensures))
+label-place-requires c κs = let pre = c .before .before .before .before .before .before .before .before .before .before .before .pre in (c .before .before .before .before .before .loop .inv .marked, walks-at (c .before .before .before .before .before .before .before .before .before .before .before .args .starts .now) (c .before .before .before .before .before .before .before .before .before .before .before .args .sizes .now) (c .before .before .before .before .before .before .before .before .before .before .before .args .entries .now) (c .before .before .before .before .before .before .before .before .before .before .before .args .n) (c .before .before .before .before .before .before .before .before .before .before .before .args .labels .now) (c .before .before .before .before .before .loop .inv) (c .before .before .before .before .loop-test .taken) (c .before .before .before .if1 .taken) (pre .0) (pre .1 .0) (pre .1 .1 .0) (c .before .before .num .ensures .0) (c .before .neighbour-of .ensures))
 
 label-at-requires : tie.Need-label-at-requires Inv-loop μ-loop
 label-at-requires c κs = search needs
@@ -62,8 +60,8 @@ end-of-requires c κs = search needs
 mul-xlows : tie.Need-mul-xlows Inv-loop μ-loop
 mul-xlows c = let r = walks-room (c .before .before .before .before .before .before .before .before .before .before .before .before .before .before .args .starts .now) (c .before .before .before .before .before .before .before .before .before .before .before .before .before .before .args .sizes .now) (c .before .before .before .before .before .before .before .before .before .before .before .before .before .before .args .entries .now) (c .before .before .before .before .before .before .before .before .before .before .before .before .before .before .args .n) (c .before .before .before .before .before .before .before .before .before .before .before .before .before .before .args .labels .now) (c .before .before .before .before .before .before .before .before .loop .inv) (c .before .before .before .before .before .before .before .loop-test .taken) (c .before .before .before .before .before .before .if1 .taken) (c .before .before .before .before .before .before .before .before .before .before .before .before .before .before .pre .1 .0) in omega arith
 
-array-write-xlows-2 : tie.Need-array-write-xlows-2 Inv-loop μ-loop
-array-write-xlows-2 c = walks-room (c .before .before .before .before .before .before .before .before .before .before .before .before .before .before .args .starts .now) (c .before .before .before .before .before .before .before .before .before .before .before .before .before .before .args .sizes .now) (c .before .before .before .before .before .before .before .before .before .before .before .before .before .before .args .entries .now) (c .before .before .before .before .before .before .before .before .before .before .before .before .before .before .args .n) (c .before .before .before .before .before .before .before .before .before .before .before .before .before .before .args .labels .now) (c .before .before .before .before .before .before .before .before .loop .inv) (c .before .before .before .before .before .before .before .loop-test .taken) (c .before .before .before .before .before .before .if1 .taken) (c .before .before .before .before .before .before .before .before .before .before .before .before .before .before .pre .1 .0)
+element-write-xlows-2 : tie.Need-element-write-xlows-2 Inv-loop μ-loop
+element-write-xlows-2 c = walks-room (c .before .before .before .before .before .before .before .before .before .before .before .before .before .before .args .starts .now) (c .before .before .before .before .before .before .before .before .before .before .before .before .before .before .args .sizes .now) (c .before .before .before .before .before .before .before .before .before .before .before .before .before .before .args .entries .now) (c .before .before .before .before .before .before .before .before .before .before .before .before .before .before .args .n) (c .before .before .before .before .before .before .before .before .before .before .before .before .before .before .args .labels .now) (c .before .before .before .before .before .before .before .before .loop .inv) (c .before .before .before .before .before .before .before .loop-test .taken) (c .before .before .before .before .before .before .if1 .taken) (c .before .before .before .before .before .before .before .before .before .before .before .before .before .before .pre .1 .0)
 
 end-of-requires-2 : tie.Need-end-of-requires-2 Inv-loop μ-loop
 end-of-requires-2 c κs = search needs
@@ -71,14 +69,14 @@ end-of-requires-2 c κs = search needs
 mul-xhighs : tie.Need-mul-xhighs Inv-loop μ-loop
 mul-xhighs c = let r = walks-room (c .before .before .before .before .before .before .before .before .before .before .before .before .before .before .before .args .starts .now) (c .before .before .before .before .before .before .before .before .before .before .before .before .before .before .before .args .sizes .now) (c .before .before .before .before .before .before .before .before .before .before .before .before .before .before .before .args .entries .now) (c .before .before .before .before .before .before .before .before .before .before .before .before .before .before .before .args .n) (c .before .before .before .before .before .before .before .before .before .before .before .before .before .before .before .args .labels .now) (c .before .before .before .before .before .before .before .before .before .loop .inv) (c .before .before .before .before .before .before .before .before .loop-test .taken) (c .before .before .before .before .before .before .before .if1 .taken) (c .before .before .before .before .before .before .before .before .before .before .before .before .before .before .before .pre .1 .0) in omega arith
 
-array-write-xhighs-2 : tie.Need-array-write-xhighs-2 Inv-loop μ-loop
-array-write-xhighs-2 c = walks-room (c .before .before .before .before .before .before .before .before .before .before .before .before .before .before .before .args .starts .now) (c .before .before .before .before .before .before .before .before .before .before .before .before .before .before .before .args .sizes .now) (c .before .before .before .before .before .before .before .before .before .before .before .before .before .before .before .args .entries .now) (c .before .before .before .before .before .before .before .before .before .before .before .before .before .before .before .args .n) (c .before .before .before .before .before .before .before .before .before .before .before .before .before .before .before .args .labels .now) (c .before .before .before .before .before .before .before .before .before .loop .inv) (c .before .before .before .before .before .before .before .before .loop-test .taken) (c .before .before .before .before .before .before .before .if1 .taken) (c .before .before .before .before .before .before .before .before .before .before .before .before .before .before .before .pre .1 .0)
+element-write-xhighs-2 : tie.Need-element-write-xhighs-2 Inv-loop μ-loop
+element-write-xhighs-2 c = walks-room (c .before .before .before .before .before .before .before .before .before .before .before .before .before .before .before .args .starts .now) (c .before .before .before .before .before .before .before .before .before .before .before .before .before .before .before .args .sizes .now) (c .before .before .before .before .before .before .before .before .before .before .before .before .before .before .before .args .entries .now) (c .before .before .before .before .before .before .before .before .before .before .before .before .before .before .before .args .n) (c .before .before .before .before .before .before .before .before .before .before .before .before .before .before .before .args .labels .now) (c .before .before .before .before .before .before .before .before .before .loop .inv) (c .before .before .before .before .before .before .before .before .loop-test .taken) (c .before .before .before .before .before .before .before .if1 .taken) (c .before .before .before .before .before .before .before .before .before .before .before .before .before .before .before .pre .1 .0)
 
 gap-of-requires : tie.Need-gap-of-requires Inv-loop μ-loop
 gap-of-requires c κs = search needs
 
-array-write-xgaps : tie.Need-array-write-xgaps Inv-loop μ-loop
-array-write-xgaps c = walks-room (c .before .before .before .before .before .before .before .before .before .before .before .before .before .before .before .before .args .starts .now) (c .before .before .before .before .before .before .before .before .before .before .before .before .before .before .before .before .args .sizes .now) (c .before .before .before .before .before .before .before .before .before .before .before .before .before .before .before .before .args .entries .now) (c .before .before .before .before .before .before .before .before .before .before .before .before .before .before .before .before .args .n) (c .before .before .before .before .before .before .before .before .before .before .before .before .before .before .before .before .args .labels .now) (c .before .before .before .before .before .before .before .before .before .before .loop .inv) (c .before .before .before .before .before .before .before .before .before .loop-test .taken) (c .before .before .before .before .before .before .before .before .if1 .taken) (c .before .before .before .before .before .before .before .before .before .before .before .before .before .before .before .before .pre .1 .0)
+element-write-xgaps : tie.Need-element-write-xgaps Inv-loop μ-loop
+element-write-xgaps c = walks-room (c .before .before .before .before .before .before .before .before .before .before .before .before .before .before .before .before .args .starts .now) (c .before .before .before .before .before .before .before .before .before .before .before .before .before .before .before .before .args .sizes .now) (c .before .before .before .before .before .before .before .before .before .before .before .before .before .before .before .before .args .entries .now) (c .before .before .before .before .before .before .before .before .before .before .before .before .before .before .before .before .args .n) (c .before .before .before .before .before .before .before .before .before .before .before .before .before .before .before .before .args .labels .now) (c .before .before .before .before .before .before .before .before .before .before .loop .inv) (c .before .before .before .before .before .before .before .before .before .loop-test .taken) (c .before .before .before .before .before .before .before .before .if1 .taken) (c .before .before .before .before .before .before .before .before .before .before .before .before .before .before .before .before .pre .1 .0)
 
 end-of-requires-3 : tie.Need-end-of-requires-3 Inv-loop μ-loop
 end-of-requires-3 c κs = search needs
@@ -86,8 +84,8 @@ end-of-requires-3 c κs = search needs
 mul-ylows : tie.Need-mul-ylows Inv-loop μ-loop
 mul-ylows c = let r = walks-room (c .before .before .before .before .before .before .before .before .before .before .before .before .before .before .before .before .before .args .starts .now) (c .before .before .before .before .before .before .before .before .before .before .before .before .before .before .before .before .before .args .sizes .now) (c .before .before .before .before .before .before .before .before .before .before .before .before .before .before .before .before .before .args .entries .now) (c .before .before .before .before .before .before .before .before .before .before .before .before .before .before .before .before .before .args .n) (c .before .before .before .before .before .before .before .before .before .before .before .before .before .before .before .before .before .args .labels .now) (c .before .before .before .before .before .before .before .before .before .before .before .loop .inv) (c .before .before .before .before .before .before .before .before .before .before .loop-test .taken) (c .before .before .before .before .before .before .before .before .before .if1 .taken) (c .before .before .before .before .before .before .before .before .before .before .before .before .before .before .before .before .before .pre .1 .0) in omega arith
 
-array-write-ylows-2 : tie.Need-array-write-ylows-2 Inv-loop μ-loop
-array-write-ylows-2 c = walks-room (c .before .before .before .before .before .before .before .before .before .before .before .before .before .before .before .before .before .args .starts .now) (c .before .before .before .before .before .before .before .before .before .before .before .before .before .before .before .before .before .args .sizes .now) (c .before .before .before .before .before .before .before .before .before .before .before .before .before .before .before .before .before .args .entries .now) (c .before .before .before .before .before .before .before .before .before .before .before .before .before .before .before .before .before .args .n) (c .before .before .before .before .before .before .before .before .before .before .before .before .before .before .before .before .before .args .labels .now) (c .before .before .before .before .before .before .before .before .before .before .before .loop .inv) (c .before .before .before .before .before .before .before .before .before .before .loop-test .taken) (c .before .before .before .before .before .before .before .before .before .if1 .taken) (c .before .before .before .before .before .before .before .before .before .before .before .before .before .before .before .before .before .pre .1 .0)
+element-write-ylows-2 : tie.Need-element-write-ylows-2 Inv-loop μ-loop
+element-write-ylows-2 c = walks-room (c .before .before .before .before .before .before .before .before .before .before .before .before .before .before .before .before .before .args .starts .now) (c .before .before .before .before .before .before .before .before .before .before .before .before .before .before .before .before .before .args .sizes .now) (c .before .before .before .before .before .before .before .before .before .before .before .before .before .before .before .before .before .args .entries .now) (c .before .before .before .before .before .before .before .before .before .before .before .before .before .before .before .before .before .args .n) (c .before .before .before .before .before .before .before .before .before .before .before .before .before .before .before .before .before .args .labels .now) (c .before .before .before .before .before .before .before .before .before .before .before .loop .inv) (c .before .before .before .before .before .before .before .before .before .before .loop-test .taken) (c .before .before .before .before .before .before .before .before .before .if1 .taken) (c .before .before .before .before .before .before .before .before .before .before .before .before .before .before .before .before .before .pre .1 .0)
 
 end-of-requires-4 : tie.Need-end-of-requires-4 Inv-loop μ-loop
 end-of-requires-4 c κs = search needs
@@ -95,14 +93,14 @@ end-of-requires-4 c κs = search needs
 mul-yhighs : tie.Need-mul-yhighs Inv-loop μ-loop
 mul-yhighs c = let r = walks-room (c .before .before .before .before .before .before .before .before .before .before .before .before .before .before .before .before .before .before .args .starts .now) (c .before .before .before .before .before .before .before .before .before .before .before .before .before .before .before .before .before .before .args .sizes .now) (c .before .before .before .before .before .before .before .before .before .before .before .before .before .before .before .before .before .before .args .entries .now) (c .before .before .before .before .before .before .before .before .before .before .before .before .before .before .before .before .before .before .args .n) (c .before .before .before .before .before .before .before .before .before .before .before .before .before .before .before .before .before .before .args .labels .now) (c .before .before .before .before .before .before .before .before .before .before .before .before .loop .inv) (c .before .before .before .before .before .before .before .before .before .before .before .loop-test .taken) (c .before .before .before .before .before .before .before .before .before .before .if1 .taken) (c .before .before .before .before .before .before .before .before .before .before .before .before .before .before .before .before .before .before .pre .1 .0) in omega arith
 
-array-write-yhighs-2 : tie.Need-array-write-yhighs-2 Inv-loop μ-loop
-array-write-yhighs-2 c = walks-room (c .before .before .before .before .before .before .before .before .before .before .before .before .before .before .before .before .before .before .args .starts .now) (c .before .before .before .before .before .before .before .before .before .before .before .before .before .before .before .before .before .before .args .sizes .now) (c .before .before .before .before .before .before .before .before .before .before .before .before .before .before .before .before .before .before .args .entries .now) (c .before .before .before .before .before .before .before .before .before .before .before .before .before .before .before .before .before .before .args .n) (c .before .before .before .before .before .before .before .before .before .before .before .before .before .before .before .before .before .before .args .labels .now) (c .before .before .before .before .before .before .before .before .before .before .before .before .loop .inv) (c .before .before .before .before .before .before .before .before .before .before .before .loop-test .taken) (c .before .before .before .before .before .before .before .before .before .before .if1 .taken) (c .before .before .before .before .before .before .before .before .before .before .before .before .before .before .before .before .before .before .pre .1 .0)
+element-write-yhighs-2 : tie.Need-element-write-yhighs-2 Inv-loop μ-loop
+element-write-yhighs-2 c = walks-room (c .before .before .before .before .before .before .before .before .before .before .before .before .before .before .before .before .before .before .args .starts .now) (c .before .before .before .before .before .before .before .before .before .before .before .before .before .before .before .before .before .before .args .sizes .now) (c .before .before .before .before .before .before .before .before .before .before .before .before .before .before .before .before .before .before .args .entries .now) (c .before .before .before .before .before .before .before .before .before .before .before .before .before .before .before .before .before .before .args .n) (c .before .before .before .before .before .before .before .before .before .before .before .before .before .before .before .before .before .before .args .labels .now) (c .before .before .before .before .before .before .before .before .before .before .before .before .loop .inv) (c .before .before .before .before .before .before .before .before .before .before .before .loop-test .taken) (c .before .before .before .before .before .before .before .before .before .before .if1 .taken) (c .before .before .before .before .before .before .before .before .before .before .before .before .before .before .before .before .before .before .pre .1 .0)
 
 gap-of-requires-2 : tie.Need-gap-of-requires-2 Inv-loop μ-loop
 gap-of-requires-2 c κs = search needs
 
-array-write-ygaps : tie.Need-array-write-ygaps Inv-loop μ-loop
-array-write-ygaps c = walks-room (c .before .before .before .before .before .before .before .before .before .before .before .before .before .before .before .before .before .before .before .args .starts .now) (c .before .before .before .before .before .before .before .before .before .before .before .before .before .before .before .before .before .before .before .args .sizes .now) (c .before .before .before .before .before .before .before .before .before .before .before .before .before .before .before .before .before .before .before .args .entries .now) (c .before .before .before .before .before .before .before .before .before .before .before .before .before .before .before .before .before .before .before .args .n) (c .before .before .before .before .before .before .before .before .before .before .before .before .before .before .before .before .before .before .before .args .labels .now) (c .before .before .before .before .before .before .before .before .before .before .before .before .before .loop .inv) (c .before .before .before .before .before .before .before .before .before .before .before .before .loop-test .taken) (c .before .before .before .before .before .before .before .before .before .before .before .if1 .taken) (c .before .before .before .before .before .before .before .before .before .before .before .before .before .before .before .before .before .before .before .pre .1 .0)
+element-write-ygaps : tie.Need-element-write-ygaps Inv-loop μ-loop
+element-write-ygaps c = walks-room (c .before .before .before .before .before .before .before .before .before .before .before .before .before .before .before .before .before .before .before .args .starts .now) (c .before .before .before .before .before .before .before .before .before .before .before .before .before .before .before .before .before .before .before .args .sizes .now) (c .before .before .before .before .before .before .before .before .before .before .before .before .before .before .before .before .before .before .before .args .entries .now) (c .before .before .before .before .before .before .before .before .before .before .before .before .before .before .before .before .before .before .before .args .n) (c .before .before .before .before .before .before .before .before .before .before .before .before .before .before .before .before .before .before .before .args .labels .now) (c .before .before .before .before .before .before .before .before .before .before .before .before .before .loop .inv) (c .before .before .before .before .before .before .before .before .before .before .before .before .loop-test .taken) (c .before .before .before .before .before .before .before .before .before .before .before .if1 .taken) (c .before .before .before .before .before .before .before .before .before .before .before .before .before .before .before .before .before .before .before .pre .1 .0)
 
 kept-of-requires : tie.Need-kept-of-requires Inv-loop μ-loop
 kept-of-requires c κs = search needs
@@ -119,7 +117,7 @@ loop-less c = let f = c .before .before .before .before .before .before .before 
 loop-again : tie.Need-loop-again Inv-loop μ-loop
 loop-again c =
     let pre = c .before .before .before .before .before .before .before .before .before .before .before .before .before .before .before .before .before .before .before .before .pre in
-    walks-dart (c .before .before .before .before .before .before .before .before .before .before .before .before .before .before .before .before .before .before .before .before .args .starts .now) (c .before .before .before .before .before .before .before .before .before .before .before .before .before .before .before .before .before .before .before .before .args .sizes .now) (c .before .before .before .before .before .before .before .before .before .before .before .before .before .before .before .before .before .before .before .before .args .entries .now) (c .before .before .before .before .before .before .before .before .before .before .before .before .before .before .before .before .before .before .before .before .args .n) (c .before .before .before .before .before .before .before .before .before .before .before .before .before .before .before .before .before .before .before .before .args .labels .now) (c .before .before .before .before .before .before .before .before .before .before .before .before .before .before .loop .inv) (c .before .before .before .before .before .before .before .before .before .before .before .before .before .loop-test .taken) (c .before .before .before .before .before .before .before .before .before .before .before .before .if1 .taken) (pre .0) (pre .1 .0) (pre .1 .1) (c .before .before .before .before .before .before .before .before .before .before .before .num .ensures .0) (c .before .before .before .before .before .before .before .before .before .before .neighbour-of .ensures) refl (c .before .before .before .before .before .before .before .before .label-place .ensures .0) (c .before .before .before .before .before .before .before .before .label-place .ensures .1) (c .before .before .before .before .before .before .before .label-at .ensures .0)
+    walks-dart (c .before .before .before .before .before .before .before .before .before .before .before .before .before .before .before .before .before .before .before .before .args .starts .now) (c .before .before .before .before .before .before .before .before .before .before .before .before .before .before .before .before .before .before .before .before .args .sizes .now) (c .before .before .before .before .before .before .before .before .before .before .before .before .before .before .before .before .before .before .before .before .args .entries .now) (c .before .before .before .before .before .before .before .before .before .before .before .before .before .before .before .before .before .before .before .before .args .n) (c .before .before .before .before .before .before .before .before .before .before .before .before .before .before .before .before .before .before .before .before .args .labels .now) (c .before .before .before .before .before .before .before .before .before .before .before .before .before .before .loop .inv) (c .before .before .before .before .before .before .before .before .before .before .before .before .before .loop-test .taken) (c .before .before .before .before .before .before .before .before .before .before .before .before .if1 .taken) (pre .0) (pre .1 .0) (pre .1 .1 .0) (c .before .before .before .before .before .before .before .before .before .before .before .num .ensures .0) (c .before .before .before .before .before .before .before .before .before .before .neighbour-of .ensures) refl (c .before .before .before .before .before .before .before .before .label-place .ensures .0) (c .before .before .before .before .before .before .before .before .label-place .ensures .1) (c .before .before .before .before .before .before .before .label-at .ensures .0)
     (c .before .before .before .before .before .before .end-of .ensures) (c .before .before .before .before .before .end-of2 .ensures) (c .before .before .before .before .gap-of .ensures) (c .before .before .before .end-of3 .ensures) (c .before .before .end-of4 .ensures) (c .before .gap-of2 .ensures) (ap (λ (k : ℕ). c .before .before .before .before .before .before .before .before .before .before .before .before .before .before .loop .count + k) (c .kept-of .ensures .0))
 
 add-u : tie.Need-add-u Inv-loop μ-loop
@@ -146,10 +144,10 @@ asks-of-spec =
     (tie.spec
     Inv-loop
     μ-loop
-    array-write-xhighs
-    array-write-xlows
-    array-write-yhighs
-    array-write-ylows
+    element-write-xhighs
+    element-write-xlows
+    element-write-yhighs
+    element-write-ylows
     size-of-requires
     loop-holds
     add-num
@@ -161,20 +159,20 @@ asks-of-spec =
     cast-t
     end-of-requires
     mul-xlows
-    array-write-xlows-2
+    element-write-xlows-2
     end-of-requires-2
     mul-xhighs
-    array-write-xhighs-2
+    element-write-xhighs-2
     gap-of-requires
-    array-write-xgaps
+    element-write-xgaps
     end-of-requires-3
     mul-ylows
-    array-write-ylows-2
+    element-write-ylows-2
     end-of-requires-4
     mul-yhighs
-    array-write-yhighs-2
+    element-write-yhighs-2
     gap-of-requires-2
-    array-write-ygaps
+    element-write-ygaps
     kept-of-requires
     add-count
     add-i
