@@ -23,28 +23,28 @@ ghost use Rattle.sheet.specs.Sheets.{heldCount, heldPlan, heldLabels, fits, rea
 ghost use Rattle.sheet.specs.Answers.{answerAs, answerOf, after};
 
 // The first k sizes, and zeros behind them.
-fn first_sizes(a: &[u8], k: usize) -> [u8; 200]
+fn first_sizes(a: &[u8; 200], k: usize) -> [u8; 200]
     requires { ⌜ k ≤ 200 ⌝ }
     ensures { λ r. ⌜ r ≡ padded 200 (stretch (now (a .entry)) 0 k) ⌝ }
 {
     let mut b = [0u8; 200];
     let mut i = 0;
     while i < k {
-        b[i] = lists::byte(a, i) as u8;
+        b[i] = a[i];
         i += 1;
     }
     b
 }
 
 // The first k entries, and zeros behind them.
-fn first_entries(a: &[u16], k: usize) -> [u16; 1186]
+fn first_entries(a: &[u16; 1186], k: usize) -> [u16; 1186]
     requires { ⌜ k ≤ 1186 ⌝ }
     ensures { λ r. ⌜ r ≡ padded 1186 (stretch (now (a .entry)) 0 k) ⌝ }
 {
     let mut b = [0u16; 1186];
     let mut i = 0;
     while i < k {
-        b[i] = lists::num(a, i) as u16;
+        b[i] = a[i];
         i += 1;
     }
     b
@@ -53,12 +53,13 @@ fn first_entries(a: &[u16], k: usize) -> [u16; 1186]
 // The first k labels, and zeros behind them.
 fn first_labels(a: &[u8], k: usize) -> [u8; 1186]
     requires { ⌜ k ≤ 1186 ⌝ }
+    requires { ⌜ k ≤ length (now a) ⌝ }
     ensures { λ r. ⌜ r ≡ padded 1186 (stretch (now (a .entry)) 0 k) ⌝ }
 {
     let mut b = [0u8; 1186];
     let mut i = 0;
     while i < k {
-        b[i] = lists::byte(a, i) as u8;
+        b[i] = a[i];
         i += 1;
     }
     b
@@ -68,6 +69,7 @@ fn first_labels(a: &[u8], k: usize) -> [u8; 1186]
 fn relabelled(sheet: Sheet, labels: &[u8], k: usize) -> Sheet
     requires { ⌜ fits sheet ≡ true ⌝ }
     requires { ⌜ k ≤ 1186 ⌝ }
+    requires { ⌜ k ≤ length (now labels) ⌝ }
     ensures { λ r. ⌜ r ≡ packed (labelled (heldPlan sheet) (stretch (now (labels .entry)) 0 k)) ⌝ }
 {
     let sizes = sheet.sizes;

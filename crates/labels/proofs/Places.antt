@@ -1,5 +1,5 @@
 -- Where the labels of a ring stand in a flat array, and what the model says of them there.
-use Prim.Native.Nat.{ℕ, zero, suc, _+_, _-_, _%_, _≤_, _<_, min}
+use Prim.Native.Nat.{ℕ, zero, suc, _+_, _-_, _≤_, _<_, min}
 use mathlib.Core.Path.{_≡_, refl, sym, ap, _∙_}
 use mathlib.Core.List.{List, [], _∷_, map}
 use mathlib.Core.Bool.{Bool, true, false, cond}
@@ -7,32 +7,26 @@ use native.Mathlib.Omega.{arith}
 use lib.ListN.{length, getD, set, take, drop, length-append, length-take, List·getD-eq-default}
 use lib.Seq.{slice, take-nil, getD-take, getD-drop}
 use lib.Dec.{ltb}
-use borrow.Author.Tests.{ltb-true, ltb-false, lt-ltb, le-ltb}
-use Rattle.lists.specs.Tests.{any, member}
+use borrow.Author.Tests.{ltb-true, ltb-false, lt-ltb, le-ltb, ne-eqb}
+use Rattle.lists.specs.Tests.{member}
 use Rattle.lists.specs.Ranges.{from}
 use Rattle.lists.specs.Parts.{concat, indexOf}
 use Rattle.lists.specs.Spans.{stretch, span}
-use Rattle.lists.proofs.Tests.{any-map}
 use Rattle.lists.proofs.Ranges.{getD-map-from}
 use Rattle.lists.proofs.Spans.{length-stretch}
 use Rattle.model.specs.Plan.{Plan, neighbour, entries, ring, adjacent}
 use Rattle.model.specs.Labels.{unlabelled, start, labelsAround, labelOf, put}
-use Rattle.rings.specs.Tables.{startOf, startsOf, sizeOf, rows, table}
+use Rattle.rings.specs.Tables.{startOf, startsOf, sizeOf, rows, table, held}
 use Rattle.rings.proofs.Rows.{start-first, start-more, size-outside, entries-rows, ring-rows, ring-size, member-index}
-use Rattle.rings.specs.Tables.{held}
-use Rattle.places.specs.Places.{placesOf, indexBy}
-use Rattle.places.proofs.Look.{index-told}
-use Rattle.labels.specs.LabelBy.{labelBy}
+use Rattle.places.specs.Places.{place, cell, placesOf}
+use Rattle.places.proofs.Notes.{places-cell, place-absent, place-present}
+use Rattle.labels.specs.LabelBy.{labelAt, labelBy, aroundBy}
 
 -- inside a list it does not matter what lies outside
 pub getD-inside : (l : List ℕ) (i d e : ℕ) → i < length l → getD l i d ≡ getD l i e
 getD-inside [] i d e h = absurd (omega arith)
 getD-inside (a ∷ l) zero d e h = refl
 getD-inside (a ∷ l) (suc i) d e h = getD-inside l i d e (omega arith)
-
--- whole turns do not matter
-pub turned-on : (l q : ℕ) → (l + q % 4) % 4 ≡ (l + q) % 4
-turned-on l q = omega arith
 
 -- of n contexts, at most 200
 pub held-small : (sizes es : List ℕ) (n : ℕ) → n ≤ 200 → held sizes es n ≡ table sizes es n
@@ -57,6 +51,16 @@ drop-take zero k l = let z : 0 + k ≡ k = omega arith in rw z
 drop-take (suc s) k [] = let z : suc s + k ≡ suc (s + k) = omega arith in rw z (sym (take-nil k))
 drop-take (suc s) k (x ∷ l) = let z : suc s + k ≡ suc (s + k) = omega arith in rw z (drop-take s k l)
 
+-- at place 0 stands no label
+at-none : (ls : List ℕ) (s : ℕ) → labelAt ls s 0 ≡ unlabelled
+unfolding labelAt
+at-none ls s = refl
+
+-- at a place, the label of the index before it
+at-some : (ls : List ℕ) (s i : ℕ) → labelAt ls s (suc i) ≡ getD ls (s + i) unlabelled
+unfolding labelAt
+at-some ls s i = rw (ne-eqb (suc i) 0 (λ z. omega arith)) (ap (λ (j : ℕ). getD ls (s + j) unlabelled) (omega arith))
+
 module _ (starts sizes es : List ℕ) (n : ℕ) (same : starts ≡ startsOf sizes) (small : n ≤ 200) where
   -- the plan that these starts give
   abbrev Rows : Plan
@@ -80,7 +84,7 @@ module _ (starts sizes es : List ℕ) (n : ℕ) (same : starts ≡ startsOf size
   size-rows u = ap length (entries-rows starts sizes es n u) ∙ length-stretch es (getD starts u 0) (sizeOf sizes n u)
 
   -- these starts are those of the table
-  is-table : Rows ≡ table sizes es n
+  pub is-table : Rows ≡ table sizes es n
   unfolding table
   is-table = ap (λ (l : List ℕ). rows l sizes es n) same
 
@@ -101,7 +105,7 @@ module _ (starts sizes es : List ℕ) (n : ℕ) (same : starts ≡ startsOf size
     begins h = from-s ∙ start-held u (within u i (omega arith))
 
     -- there is a dart from u to v: its label stands at s + i
-    label-there : (ls : List ℕ) → i < k → getD ls (s + i) unlabelled ≡ labelOf (table sizes es n) ls u v
+    pub label-there : (ls : List ℕ) → i < k → getD ls (s + i) unlabelled ≡ labelOf (table sizes es n) ls u v
     unfolding labelOf labelsAround
     label-there ls h =
         sym
@@ -139,44 +143,43 @@ module _ (starts sizes es : List ℕ) (n : ℕ) (same : starts ≡ startsOf size
     unfolding put
     put-none ls l h = sym (rw (is-dart ∙ le-ltb i k h)) ∙ ap (λ (p : Plan). put p u v l ls) is-table
 
-  -- What the look-up by the plan's own table says is the label of the dart
-  pub label-told : {t : List ℕ} → t ≡ placesOf Rows → (ls : List ℕ) (u v : ℕ) {r : ℕ} → r ≡ labelBy t starts Rows ls u v → r ≡ labelOf (table sizes es n) ls u v
+  -- By the plan's own table, what is found for contexts below 200 is the label of the dart
+  pub label-own : {t : List ℕ} → t ≡ placesOf Rows → (ls : List ℕ) (u v : ℕ) → u < 200 → v < 200 → labelBy t starts ls u v ≡ labelOf (table sizes es n) ls u v
   unfolding labelBy
-  label-told {t} own ls u v e = e ∙ go (ltb (indexBy t Rows u v) (length (ring Rows u))) refl
+  label-own {t} own ls u v h k = rw (lt-ltb u 200 h, lt-ltb v 200 k) (go (member v (ring Rows u)) refl)
     where
-      at : indexBy t Rows u v ≡ indexOf v (ring Rows u)
-      at = index-told Rows own u v refl
+      at : getD t (cell u v) 0 ≡ place v (ring Rows u)
+      at = ap (λ (s : List ℕ). getD s (cell u v) 0) own ∙ places-cell Rows u v h k
 
-      go : (b : Bool) → ltb (indexBy t Rows u v) (length (ring Rows u)) ≡ b → cond b (getD ls (getD starts u 0 + indexBy t Rows u v) unlabelled) unlabelled ≡ labelOf (table sizes es n) ls u v
-      go true q = label-there u v refl at (ring-size starts sizes es n u) ls (ltb-true (indexBy t Rows u v) (length (ring Rows u)) q)
-      go false q = label-none u v refl at (ring-size starts sizes es n u) ls (ltb-false (indexBy t Rows u v) (length (ring Rows u)) q)
+      go : (b : Bool) → member v (ring Rows u) ≡ b → labelAt ls (getD starts u 0) (getD t (cell u v) 0) ≡ labelOf (table sizes es n) ls u v
+      go true q =
+          ap (labelAt ls (getD starts u 0)) (at ∙ place-present v (ring Rows u) q)
+          ∙ at-some ls (getD starts u 0) (indexOf v (ring Rows u))
+          ∙ label-there u v refl refl (ring-size starts sizes es n u) ls (ltb-true (indexOf v (ring Rows u)) (length (ring Rows u)) (sym (member-index v (ring Rows u)) ∙ q))
+      go false q =
+          ap (labelAt ls (getD starts u 0)) (at ∙ place-absent v (ring Rows u) q)
+          ∙ at-none ls (getD starts u 0)
+          ∙ label-none u v refl refl (ring-size starts sizes es n u) ls (ltb-false (indexOf v (ring Rows u)) (length (ring Rows u)) (sym (member-index v (ring Rows u)) ∙ q))
 
-  -- ---- the labels around u, and the entries of its ring, as a stretch of an array
-  module _ (u : ℕ) {s k : ℕ} (from-s : s ≡ getD starts u 0) (size : k ≡ sizeOf sizes n u) where
-    pub around-held : (ls : List ℕ) → u < n → slice s (s + k) ls ≡ labelsAround (table sizes es n) ls u
-    unfolding labelsAround
-    around-held ls h =
-        drop-take s k ls ∙ (λ j. take ((size ∙ sym (size-rows u)) j) (drop ((from-s ∙ start-held u h) j) ls)) ∙ ap (λ (p : Plan). labelsAround p ls u) is-table
+  -- a dart that leaves no context has no label
+  pub label-outside : (ls : List ℕ) (u v : ℕ) → n ≤ u → labelOf (table sizes es n) ls u v ≡ unlabelled
+  label-outside ls u v h = sym (label-none u v {s = getD starts u 0} {i = indexOf v (ring Rows u)} {k = 0} refl refl (sym (size-outside sizes n u h)) ls (omega arith))
 
-    pub ring-any : (f : ℕ → Bool) → any (λ (x : ℕ). f (neighbour x)) (span es s (s + k)) ≡ any f (ring (table sizes es n) u)
-    ring-any f =
-        let z : s + k - s ≡ k = omega arith in
-        any-map f neighbour (span es s (s + k))
-        ∙ (λ j. any f (map neighbour (stretch es (from-s j) ((z ∙ size) j))))
-        ∙ ap (any f) (sym (ring-rows starts sizes es n u) ∙ ap (λ (p : Plan). ring p u) is-table)
+  -- the labels around u
+  pub around-own : (ls : List ℕ) (u : ℕ) → u < n → aroundBy starts Rows ls u ≡ labelsAround (table sizes es n) ls u
+  unfolding aroundBy labelsAround
+  around-own ls u h =
+      (λ j. take ((ring-size starts sizes es n u ∙ sym (size-rows u)) j) (drop (start-held u h j) ls)) ∙ ap (λ (p : Plan). labelsAround p ls u) is-table
 
--- ---- the look-up of a label, case by case as the code makes it
-module _ (t starts sizes es : List ℕ) (n : ℕ) (ls : List ℕ) (u v : ℕ) {i k : ℕ} (at : i ≡ indexBy t (rows starts sizes es n) u v) (size : k ≡ sizeOf sizes n u) where
-  -- the test of the code
-  same-test : ltb (indexBy t (rows starts sizes es n) u v) (length (ring (rows starts sizes es n) u)) ≡ ltb i k
-  same-test = λ j. ltb (sym at j) ((ring-size starts sizes es n u ∙ sym size) j)
+-- ---- a ring and its labels, where they stand in the arrays
+module _ (starts sizes es : List ℕ) (n u : ℕ) {s k : ℕ} (from-s : s ≡ getD starts u 0) (size : k ≡ sizeOf sizes n u) where
+  -- the ring
+  pub ring-there : map neighbour (span es s (s + k)) ≡ ring (rows starts sizes es n) u
+  ring-there =
+      let z : s + k - s ≡ k = omega arith in
+      (λ j. map neighbour (stretch es (from-s j) ((z ∙ size) j))) ∙ sym (ring-rows starts sizes es n u)
 
-  -- a label in u's part
-  pub look-there : {s : ℕ} → s ≡ getD starts u 0 → i < k → getD ls (s + i) unlabelled ≡ labelBy t starts (rows starts sizes es n) ls u v
-  unfolding labelBy
-  look-there from-s h = (λ j. getD ls (from-s j + at j) unlabelled) ∙ sym (rw (same-test ∙ lt-ltb i k h))
-
-  -- none
-  pub look-none : k ≤ i → unlabelled ≡ labelBy t starts (rows starts sizes es n) ls u v
-  unfolding labelBy
-  look-none h = sym (rw (same-test ∙ le-ltb i k h))
+  -- its labels
+  pub around-there : (ls : List ℕ) → slice s (s + k) ls ≡ aroundBy starts (rows starts sizes es n) ls u
+  unfolding aroundBy
+  around-there ls = drop-take s k ls ∙ (λ j. take ((size ∙ sym (ring-size starts sizes es n u)) j) (drop (from-s j) ls))

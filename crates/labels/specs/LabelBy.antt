@@ -1,13 +1,38 @@
--- The label of a dart, looked up by a table of positions.
-use Prim.Native.Nat.{ℕ, _+_}
+-- The label rules by a table of positions and the starts of the rings: what the code tests, on every table.
+use Prim.Native.Nat.{ℕ, _+_, _-_}
 use mathlib.Core.List.{List}
-use mathlib.Core.Bool.{cond}
-use lib.ListN.{length, getD}
-use lib.Dec.{ltb}
-use Rattle.model.specs.Plan.{Plan, ring}
-use Rattle.model.specs.Labels.{unlabelled}
-use Rattle.places.specs.Places.{indexBy}
+use mathlib.Core.Bool.{Bool, cond, not, _&&_, _||_}
+use lib.ListN.{length, getD, take, drop}
+use lib.Dec.{eqb, ltb}
+use Rattle.lists.specs.Tests.{any}
+use Rattle.model.specs.Plan.{Plan, ring, border}
+use Rattle.model.specs.Labels.{borderLabel, unlabelled, turned, due, fourRuns}
+use Rattle.places.specs.Places.{cell, tabled}
 
--- the label of the dart from u to v, by a table of positions and the starts of the rings; none where there is no dart
-unfoldable pub labelBy : List ℕ → List ℕ → Plan → List ℕ → ℕ → ℕ → ℕ
-labelBy t starts p ls u v = cond (ltb (indexBy t p u v) (length (ring p u))) (getD ls (getD starts u 0 + indexBy t p u v) unlabelled) unlabelled
+-- the label at a place of a ring, counted from 1, whose labels begin at a start; none at place 0
+unfoldable pub labelAt : List ℕ → ℕ → ℕ → ℕ
+labelAt ls s place = cond (eqb place 0) unlabelled (getD ls (s + (place - 1)) unlabelled)
+
+-- the label of the dart from u to v; none where there is no dart, and from 200 on
+unfoldable pub labelBy : List ℕ → List ℕ → List ℕ → ℕ → ℕ → ℕ
+labelBy t starts ls u v = cond (tabled u v) (labelAt ls (getD starts u 0) (getD t (cell u v) 0)) unlabelled
+
+-- the dart from u to v breaks the rules
+unfoldable pub badDartBy : List ℕ → List ℕ → List ℕ → ℕ → ℕ → Bool
+badDartBy t starts ls u v =
+    let l = labelBy t starts ls u v in
+    not (cond (border u && border v) (eqb l borderLabel) (ltb l 4 && eqb (labelBy t starts ls v u) (turned l 2)))
+
+-- an inner dart that leaves the border context u has another label than is due
+unfoldable pub notDueBy : List ℕ → List ℕ → List ℕ → ℕ → ℕ → Bool
+notDueBy t starts ls u v = not (border v || eqb (labelBy t starts ls u v) (due u))
+
+-- the labels around u
+unfoldable pub aroundBy : List ℕ → Plan → List ℕ → ℕ → List ℕ
+aroundBy starts p ls u = take (length (ring p u)) (drop (getD starts u 0) ls)
+
+-- u breaks the rules
+unfoldable pub breaksBy : List ℕ → List ℕ → Plan → List ℕ → ℕ → Bool
+breaksBy t starts p ls u =
+    any (badDartBy t starts ls u) (ring p u)
+    || cond (border u) (any (notDueBy t starts ls u) (ring p u)) (not (fourRuns (aroundBy starts p ls u)))

@@ -5,8 +5,6 @@ ghost use Prim.Native.Nat.{_<_, _^_};
 ghost use lib.ListN.{getD};
 ghost use Rattle.model.specs.Plan.{border};
 ghost use Rattle.model.specs.Labels.{unlabelled, due};
-ghost use Rattle.rings.specs.Tables.{rows};
-ghost use Rattle.labels.specs.LabelBy.{labelBy};
 
 pub mod rules;
 mod runs;
@@ -41,25 +39,4 @@ pub fn both_border(u: usize, v: usize) -> bool
     ensures { λ r. ⌜ r ≡ (border u && border v) ⌝ }
 {
     if u < 4 { v < 4 } else { false }
-}
-
-// The label of the dart from u to v by a table of positions, where the rings' labels begin at these starts; 5 where there is no dart.
-pub fn label_by<'a>(
-    places: &'a [u8],
-    starts: &'a [u16],
-    sizes: &'a [u8],
-    entries: &'a [u16],
-    n: usize,
-    labels: &'a [u8],
-    u: usize,
-    v: usize,
-) -> usize
-    ensures { λ r. ⌜ r ≡ labelBy (now (places .entry)) (now (starts .entry)) (rows (now (starts .entry)) (now (sizes .entry)) (now (entries .entry)) n) (now (labels .entry)) u v ⌝ }
-    ensures { λ r. ⌜ r < 2 ^ 8 ⌝ }
-{
-    let i = places::index_by(places, starts, sizes, entries, n, u, v);
-    if i < rings::size_of(sizes, n, u) {
-        return label_at(labels, lists::num(starts, u) + i);
-    }
-    5
 }

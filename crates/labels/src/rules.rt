@@ -1,59 +1,75 @@
-// The label rules: the lowest context that breaks them.
+// The label rules: the lowest context that breaks them, with the label of each dart found by a table of positions.
 ghost use mathlib.Core.Path.{_≡_};
-ghost use Prim.Native.Nat.{min, _≤_, _<_};
+ghost use mathlib.Core.List.{map};
+ghost use Prim.Native.Nat.{min, _≤_, _<_, _^_};
 ghost use Rattle.lists.specs.Tests.{any};
 ghost use Rattle.lists.specs.Ranges.{lowest};
-ghost use Rattle.model.specs.Plan.{ring};
-ghost use Rattle.model.specs.Labels.{badDart, notDue, badRing, breaks};
-ghost use Rattle.rings.specs.Tables.{startsOf, rows, table, held};
-ghost use Rattle.places.specs.Places.{placesOf};
+ghost use Rattle.lists.specs.Spans.{span};
+ghost use Rattle.model.specs.Plan.{neighbour};
+ghost use Rattle.model.specs.Labels.{breaks};
+ghost use Rattle.rings.specs.Tables.{rows, held};
+ghost use Rattle.labels.specs.LabelBy.{labelBy, badDartBy, notDueBy, breaksBy};
+
+// The label of the dart from u to v, where the labels of the rings begin at these starts; 5 where there is no dart, and from 200 on.
+fn label_by<'a>(
+    places: &'a [u8; 40000],
+    starts: &'a [u16; 200],
+    labels: &'a [u8],
+    u: usize,
+    v: usize,
+) -> usize
+    ensures { λ r. ⌜ r ≡ labelBy (now (places .entry)) (now (starts .entry)) (now (labels .entry)) u v ⌝ }
+    ensures { λ r. ⌜ r < 2 ^ 8 ⌝ }
+{
+    if u >= 200 {
+        return 5;
+    }
+    if v >= 200 {
+        return 5;
+    }
+    let place = lists::wide_byte(places[200 * u + v]);
+    if place == 0 {
+        return 5;
+    }
+    crate::label_at(labels, lists::wide_word(starts[u]) + place - 1)
+}
 
 // Does the dart from u to v break the rules? 4 stands between border contexts, and only there; elsewhere a dart and its reverse differ by two quarters.
 fn bad_dart<'a>(
-    places: &'a [u8],
-    starts: &'a [u16],
-    sizes: &'a [u8],
-    entries: &'a [u16],
-    n: usize,
+    places: &'a [u8; 40000],
+    starts: &'a [u16; 200],
     labels: &'a [u8],
     u: usize,
     v: usize,
 ) -> bool
-    requires { ⌜ now starts ≡ startsOf (now sizes) ⌝ }
-    requires { ⌜ n ≤ 200 ⌝ }
-    requires { ⌜ now places ≡ placesOf (rows (now starts) (now sizes) (now entries) n) ⌝ }
-    ensures { λ r. ⌜ r ≡ badDart (table (now (sizes .entry)) (now (entries .entry)) n) (now (labels .entry)) u v ⌝ }
+    ensures { λ r. ⌜ r ≡ badDartBy (now (places .entry)) (now (starts .entry)) (now (labels .entry)) u v ⌝ }
 {
-    let l = crate::label_by(places, starts, sizes, entries, n, labels, u, v);
+    let l = label_by(places, starts, labels, u, v);
     if crate::both_border(u, v) {
         return l != 4;
     }
     if l >= 4 {
         return true;
     }
-    crate::label_by(places, starts, sizes, entries, n, labels, v, u) != (l + 2) % 4
+    label_by(places, starts, labels, v, u) != (l + 2) % 4
 }
 
-// Does a dart that leaves u break the rules?
+// Does a dart that leaves u break the rules? u's ring stands from a up to e among the entries.
 fn bad_darts<'a>(
-    places: &'a [u8],
-    starts: &'a [u16],
-    sizes: &'a [u8],
+    places: &'a [u8; 40000],
+    starts: &'a [u16; 200],
     entries: &'a [u16],
-    n: usize,
     labels: &'a [u8],
     u: usize,
+    a: usize,
+    e: usize,
 ) -> bool
-    requires { ⌜ now starts ≡ startsOf (now sizes) ⌝ }
-    requires { ⌜ n ≤ 200 ⌝ }
-    requires { ⌜ now places ≡ placesOf (rows (now starts) (now sizes) (now entries) n) ⌝ }
-    ensures { λ r. ⌜ r ≡ any (badDart (table (now (sizes .entry)) (now (entries .entry)) n) (now (labels .entry)) u) (ring (table (now (sizes .entry)) (now (entries .entry)) n) u) ⌝ }
+    ensures { λ r. ⌜ r ≡ any (badDartBy (now (places .entry)) (now (starts .entry)) (now (labels .entry)) u) (map neighbour (span (now (entries .entry)) a e)) ⌝ }
 {
-    let mut i = lists::num(starts, u);
-    let e = i + rings::size_of(sizes, n, u);
+    let mut i = a;
     while i < e {
         let v = rings::neighbour_of(lists::num(entries, i));
-        if bad_dart(places, starts, sizes, entries, n, labels, u, v) {
+        if bad_dart(places, starts, labels, u, v) {
             return true;
         }
         i += 1;
@@ -63,46 +79,36 @@ fn bad_darts<'a>(
 
 // Is the dart from u to v, of a border context, an inner dart without the label due?
 fn not_due<'a>(
-    places: &'a [u8],
-    starts: &'a [u16],
-    sizes: &'a [u8],
-    entries: &'a [u16],
-    n: usize,
+    places: &'a [u8; 40000],
+    starts: &'a [u16; 200],
     labels: &'a [u8],
     u: usize,
     v: usize,
 ) -> bool
-    requires { ⌜ now starts ≡ startsOf (now sizes) ⌝ }
-    requires { ⌜ n ≤ 200 ⌝ }
-    requires { ⌜ now places ≡ placesOf (rows (now starts) (now sizes) (now entries) n) ⌝ }
-    ensures { λ r. ⌜ r ≡ notDue (table (now (sizes .entry)) (now (entries .entry)) n) (now (labels .entry)) u v ⌝ }
+    ensures { λ r. ⌜ r ≡ notDueBy (now (places .entry)) (now (starts .entry)) (now (labels .entry)) u v ⌝ }
 {
     if v < 4 {
         return false;
     }
-    crate::label_by(places, starts, sizes, entries, n, labels, u, v) != crate::due_label(u)
+    label_by(places, starts, labels, u, v) != crate::due_label(u)
 }
 
-// Has an inner dart of the border context u a label that is not due?
+// Has an inner dart of the border context u a label that is not due? u's ring stands from a up to e among the entries.
 fn not_dues<'a>(
-    places: &'a [u8],
-    starts: &'a [u16],
-    sizes: &'a [u8],
+    places: &'a [u8; 40000],
+    starts: &'a [u16; 200],
     entries: &'a [u16],
-    n: usize,
     labels: &'a [u8],
     u: usize,
+    a: usize,
+    e: usize,
 ) -> bool
-    requires { ⌜ now starts ≡ startsOf (now sizes) ⌝ }
-    requires { ⌜ n ≤ 200 ⌝ }
-    requires { ⌜ now places ≡ placesOf (rows (now starts) (now sizes) (now entries) n) ⌝ }
-    ensures { λ r. ⌜ r ≡ any (notDue (table (now (sizes .entry)) (now (entries .entry)) n) (now (labels .entry)) u) (ring (table (now (sizes .entry)) (now (entries .entry)) n) u) ⌝ }
+    ensures { λ r. ⌜ r ≡ any (notDueBy (now (places .entry)) (now (starts .entry)) (now (labels .entry)) u) (map neighbour (span (now (entries .entry)) a e)) ⌝ }
 {
-    let mut i = lists::num(starts, u);
-    let e = i + rings::size_of(sizes, n, u);
+    let mut i = a;
     while i < e {
         let v = rings::neighbour_of(lists::num(entries, i));
-        if not_due(places, starts, sizes, entries, n, labels, u, v) {
+        if not_due(places, starts, labels, u, v) {
             return true;
         }
         i += 1;
@@ -110,64 +116,39 @@ fn not_dues<'a>(
     false
 }
 
-// Does u's ring break the rules? A border context's inner darts have the label due, an inner context's labels are four runs.
-fn bad_ring<'a>(
-    places: &'a [u8],
-    starts: &'a [u16],
-    sizes: &'a [u8],
-    entries: &'a [u16],
-    n: usize,
-    labels: &'a [u8],
-    u: usize,
-) -> bool
-    requires { ⌜ now starts ≡ startsOf (now sizes) ⌝ }
-    requires { ⌜ n ≤ 200 ⌝ }
-    requires { ⌜ now places ≡ placesOf (rows (now starts) (now sizes) (now entries) n) ⌝ }
-    requires { ⌜ u < n ⌝ }
-    ensures { λ r. ⌜ r ≡ badRing (table (now (sizes .entry)) (now (entries .entry)) n) (now (labels .entry)) u ⌝ }
-{
-    if u < 4 {
-        return not_dues(places, starts, sizes, entries, n, labels, u);
-    }
-    let a = lists::num(starts, u);
-    !crate::runs::four_runs(labels, a, a + rings::size_of(sizes, n, u))
-}
-
-// Does u break the rules?
+// Does u break the rules? A border context's inner darts have the label due, an inner context's labels are four runs.
 fn breaks_at<'a>(
-    places: &'a [u8],
-    starts: &'a [u16],
+    places: &'a [u8; 40000],
+    starts: &'a [u16; 200],
     sizes: &'a [u8],
     entries: &'a [u16],
     n: usize,
     labels: &'a [u8],
     u: usize,
 ) -> bool
-    requires { ⌜ now starts ≡ startsOf (now sizes) ⌝ }
-    requires { ⌜ n ≤ 200 ⌝ }
-    requires { ⌜ now places ≡ placesOf (rows (now starts) (now sizes) (now entries) n) ⌝ }
-    requires { ⌜ u < n ⌝ }
-    ensures { λ r. ⌜ r ≡ breaks (table (now (sizes .entry)) (now (entries .entry)) n) (now (labels .entry)) u ⌝ }
+    ensures { λ r. ⌜ r ≡ breaksBy (now (places .entry)) (now (starts .entry)) (rows (now (starts .entry)) (now (sizes .entry)) (now (entries .entry)) n) (now (labels .entry)) u ⌝ }
 {
-    if bad_darts(places, starts, sizes, entries, n, labels, u) {
+    let a = lists::num(starts, u);
+    let e = a + rings::size_of(sizes, n, u);
+    if bad_darts(places, starts, entries, labels, u, a, e) {
         return true;
     }
-    bad_ring(places, starts, sizes, entries, n, labels, u)
+    if u < 4 {
+        return not_dues(places, starts, entries, labels, u, a, e);
+    }
+    !crate::runs::four_runs(labels, a, e)
 }
 
-// The lowest of n contexts that breaks the rules, or n, where the rings begin at these starts.
-fn place_in<'a>(
-    places: &'a [u8],
-    starts: &'a [u16],
+// The lowest of n contexts that breaks the rules by a table of positions, or n, where the rings begin at these starts.
+pub fn place_by<'a>(
+    places: &'a [u8; 40000],
+    starts: &'a [u16; 200],
     sizes: &'a [u8],
     entries: &'a [u16],
     n: usize,
     labels: &'a [u8],
 ) -> usize
-    requires { ⌜ now starts ≡ startsOf (now sizes) ⌝ }
-    requires { ⌜ n ≤ 200 ⌝ }
-    requires { ⌜ now places ≡ placesOf (rows (now starts) (now sizes) (now entries) n) ⌝ }
-    ensures { λ r. ⌜ r ≡ lowest (breaks (table (now (sizes .entry)) (now (entries .entry)) n) (now (labels .entry))) n ⌝ }
+    ensures { λ r. ⌜ r ≡ lowest (breaksBy (now (places .entry)) (now (starts .entry)) (rows (now (starts .entry)) (now (sizes .entry)) (now (entries .entry)) n) (now (labels .entry))) n ⌝ }
     ensures { λ r. ⌜ r ≤ n ⌝ }
 {
     let mut u = 0;
@@ -189,5 +170,5 @@ pub fn rules_place<'a>(sizes: &'a [u8], entries: &'a [u16], n: usize, labels: &'
     let m = lists::lesser(n, 200);
     let mut places = [0u8; 40000];
     places::fill(&mut places, &starts, sizes, entries, m);
-    place_in(&places, &starts, sizes, entries, m, labels)
+    place_by(&places, &starts, sizes, entries, m, labels)
 }

@@ -86,6 +86,10 @@ module _ (p : Plan) (ls : List ℕ) where
       (shuffle (eqb (getD xs 2 0) 0 && eqb (getD ys 2 0) 0) (eqb (getD xs 3 0) 0 && eqb (getD ys 3 0) (getD ys 0 0)) (eqb (getD xs 1 0) (getD xs 0 0) && eqb (getD ys 1 0) 0) (all (meets xs) (compass false p ls)) (all (meets ys) (compass true p ls))))
 
 -- ---- from the numbers of both coordinates to the answer
+and-none : (a : Bool) → (a && false) ≡ false
+and-none true = refl
+and-none false = refl
+
 module _ (f : List ℕ → Outcome Chart) where
   none-first : (o : Outcome (List ℕ)) → numbersOf o .found ≡ false → drawnOf (refused 11 0) ≡ drawnOf (o >>= f)
   unfolding numbersOf drawnOf
@@ -132,14 +136,18 @@ module _ (sizes es : List ℕ) (n : ℕ) (ls : List ℕ) where
   unfolding leastPlacement ties compass
   in-steps = λ i. leastNumbers (counts i) (asked false P ls) >>= λ xs. leastNumbers (counts i) (asked true P ls) >>= λ ys. require (isPlacement slope P ls (chartAt xs ys)) 11 0 >> accepted (chartAt xs ys)
 
+  -- the numbers of a coordinate are found and meet what the darts ask for
+  unfoldable pub keptIn : Bool → Bool
+  keptIn upright = numbersOf (leastNumbers n (asked upright P ls)) .found && all (meets (numbersOf (leastNumbers n (asked upright P ls)) .at)) (compass upright P ls)
+
   module _ (fits : inBounds sizes n ≡ true) where
     whole : drawnOf (leastNumbers n (asked false P ls) >>= λ xs. leastNumbers n (asked true P ls) >>= λ ys. require (isPlacement slope P ls (chartAt xs ys)) 11 0 >> accepted (chartAt xs ys)) ≡ drawnOf (chartFor sizes es n ls)
     whole = ap drawnOf (sym (chart-within fits ∙ in-steps))
 
-    pub chart-no-x : numbersOf (leastNumbers n (asked false P ls)) .found ≡ false → drawnOf (refused 11 0) ≡ drawnOf (chartFor sizes es n ls)
+    chart-no-x : numbersOf (leastNumbers n (asked false P ls)) .found ≡ false → drawnOf (refused 11 0) ≡ drawnOf (chartFor sizes es n ls)
     chart-no-x e = none-first (λ xs. leastNumbers n (asked true P ls) >>= λ ys. require (isPlacement slope P ls (chartAt xs ys)) 11 0 >> accepted (chartAt xs ys)) (leastNumbers n (asked false P ls)) e ∙ whole
 
-    pub chart-no-y : numbersOf (leastNumbers n (asked true P ls)) .found ≡ false → drawnOf (refused 11 0) ≡ drawnOf (chartFor sizes es n ls)
+    chart-no-y : numbersOf (leastNumbers n (asked true P ls)) .found ≡ false → drawnOf (refused 11 0) ≡ drawnOf (chartFor sizes es n ls)
     chart-no-y e = none-second (λ xs ys. require (isPlacement slope P ls (chartAt xs ys)) 11 0 >> accepted (chartAt xs ys)) (leastNumbers n (asked false P ls)) (leastNumbers n (asked true P ls)) e ∙ whole
 
     module _ (xs ys : List ℕ) (fx : numbersOf (leastNumbers n (asked false P ls)) .found ≡ true) (fy : numbersOf (leastNumbers n (asked true P ls)) .found ≡ true) (ex : xs ≡ numbersOf (leastNumbers n (asked false P ls)) .at) (ey : ys ≡ numbersOf (leastNumbers n (asked true P ls)) .at) where
@@ -152,17 +160,37 @@ module _ (sizes es : List ℕ) (n : ℕ) (ls : List ℕ) where
               e ∙ (λ i. testOf P ls ((ex ∙ ap (λ (o : Outcome (List ℕ)). numbersOf o .at) qa) i) ((ey ∙ ap (λ (o : Outcome (List ℕ)). numbersOf o .at) qb) i))
               ∙ test-is P ls js ks (least-length n (asked false P ls) js qa ∙ sym counts) (least-length n (asked true P ls) ks qb ∙ sym counts)
 
-      pub chart-not-x : false ≡ all (meets xs) (compass false P ls) → drawnOf (refused 11 0) ≡ drawnOf (chartFor sizes es n ls)
-      unfolding testOf drawnIf
-      chart-not-x e = chart-tested false (rw (← e))
+    -- The answer: a chart where both coordinates are kept and the border contexts stand at the corners
+    whole-test : (fx fy : Bool) → numbersOf (leastNumbers n (asked false P ls)) .found ≡ fx → numbersOf (leastNumbers n (asked true P ls)) .found ≡ fy
+        → drawnIf (keptIn false && keptIn true && squared (numbersOf (leastNumbers n (asked false P ls)) .at) (numbersOf (leastNumbers n (asked true P ls)) .at)) (numbersOf (leastNumbers n (asked false P ls)) .at) (numbersOf (leastNumbers n (asked true P ls)) .at)
+        ≡ drawnOf (chartFor sizes es n ls)
+    unfolding keptIn drawnIf testOf
+    whole-test false fy ex ey = rw ex (chart-no-x ex)
+    whole-test true false ex ey = rw (ex, ey, and-none (all (meets (numbersOf (leastNumbers n (asked false P ls)) .at)) (compass false P ls))) (chart-no-y ey)
+    whole-test true true ex ey = rw (ex, ey) (chart-tested (numbersOf (leastNumbers n (asked false P ls)) .at) (numbersOf (leastNumbers n (asked true P ls)) .at) ex ey refl refl _ refl)
 
-      pub chart-not-y : true ≡ all (meets xs) (compass false P ls) → false ≡ all (meets ys) (compass true P ls) → drawnOf (refused 11 0) ≡ drawnOf (chartFor sizes es n ls)
-      unfolding testOf drawnIf
-      chart-not-y e f = chart-tested false (rw (← e, ← f))
+    abbrev X : List ℕ
+    X = numbersOf (leastNumbers n (asked false P ls)) .at
 
-      pub chart-drawn : true ≡ all (meets xs) (compass false P ls) → true ≡ all (meets ys) (compass true P ls) → drawnIf (squared xs ys) xs ys ≡ drawnOf (chartFor sizes es n ls)
-      unfolding testOf
-      chart-drawn e f = chart-tested (squared xs ys) (rw (← e, ← f))
+    abbrev Y : List ℕ
+    Y = numbersOf (leastNumbers n (asked true P ls)) .at
+
+    all-tested : drawnIf (keptIn false && keptIn true && squared X Y) X Y ≡ drawnOf (chartFor sizes es n ls)
+    all-tested = whole-test (numbersOf (leastNumbers n (asked false P ls)) .found) (numbersOf (leastNumbers n (asked true P ls)) .found) refl refl
+
+    -- x is not kept
+    pub chart-not-x : {t : Bool} → t ≡ keptIn false → t ≡ false → drawnOf (refused 11 0) ≡ drawnOf (chartFor sizes es n ls)
+    unfolding drawnIf
+    chart-not-x e f = rw (sym e ∙ f) at all-tested
+
+    -- y is not kept
+    pub chart-not-y : {t : Bool} → t ≡ keptIn true → t ≡ false → drawnOf (refused 11 0) ≡ drawnOf (chartFor sizes es n ls)
+    unfolding drawnIf
+    chart-not-y e f = rw (sym e ∙ f, and-none (keptIn false)) at all-tested
+
+    -- both are
+    pub chart-drawn : {s t : Bool} {xs ys : List ℕ} → s ≡ keptIn false → s ≡ true → t ≡ keptIn true → t ≡ true → xs ≡ X → ys ≡ Y → drawnIf (squared xs ys) xs ys ≡ drawnOf (chartFor sizes es n ls)
+    chart-drawn a b c d ex ey = (λ i. drawnIf (squared (ex i) (ey i)) (ex i) (ey i)) ∙ rw (sym a ∙ b, sym c ∙ d) at all-tested
 
   -- the answer says what the outcome is
   pub drawn-says : drawnAs (drawnOf (chartFor sizes es n ls)) n ≡ chartFor sizes es n ls
@@ -230,9 +258,19 @@ module _ {a b : List ℕ} {n i : ℕ} (inv : Matches a b n i) where
   matches-end h = let z : n - i ≡ 0 = omega arith in sym (inv .same ∙ rw z)
 
 -- ---- what the functions hand on
-pub axis-numbers : (n : ℕ) (cs ds : List Constraint) (r : Numbers) → n ≤ 200 → r ≡ numbersOf (solved n cs) → cs ≡ ds → r ≡ numbersOf (leastNumbers n ds)
-unfolding solved
-axis-numbers n cs ds r h e q = e ∙ ap numbersOf (rw (le-leb n 200 h) (ap (leastNumbers n) q))
+module _ (n : ℕ) (lows highs gaps : List ℕ) (k : ℕ) (upright : Bool) (sizes es ls : List ℕ) (small : n ≤ 200) (tied : 2 ≤ k) (same : listed lows highs gaps k ≡ asked upright (table sizes es n) ls) where
+  axis-numbers : numbersOf (solved n (listed lows highs gaps k)) ≡ numbersOf (leastNumbers n (asked upright (table sizes es n) ls))
+  unfolding solved
+  axis-numbers = ap numbersOf (rw (le-leb n 200 small) (ap (leastNumbers n) same))
+
+  -- the numbers of a coordinate
+  pub axis-at : {ks : List ℕ} → ks ≡ numbersOf (solved n (listed lows highs gaps k)) .at → ks ≡ numbersOf (leastNumbers n (asked upright (table sizes es n) ls)) .at
+  axis-at e = e ∙ ap (λ (r : Numbers). r .at) axis-numbers
+
+  -- whether they are kept
+  pub axis-kept : {ks : List ℕ} {t : Bool} → ks ≡ numbersOf (solved n (listed lows highs gaps k)) .at → t ≡ (numbersOf (solved n (listed lows highs gaps k)) .found && all (meets ks) (listedFrom lows highs gaps 2 (k - 2))) → t ≡ keptIn sizes es n ls upright
+  unfolding keptIn
+  axis-kept e q = q ∙ (λ i. axis-numbers i .found && all (meets (axis-at e i)) (after-ties lows highs gaps k upright (table sizes es n) ls tied same i))
 
 pub drawn-no : (t : Bool) (xs ys : List ℕ) → t ≡ squared xs ys → t ≡ false → drawnOf (refused 11 0) ≡ drawnIf (squared xs ys) xs ys
 unfolding drawnIf

@@ -1,2 +1,4 @@
+pub mod Marks
 pub mod Asking
+pub mod Walk
 pub mod Draw

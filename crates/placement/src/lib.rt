@@ -1,30 +1,23 @@
 // Placement: the chart of a labelled plan over flat arrays, and the comparison of two charts.
 ghost use mathlib.Core.Path.{_≡_};
-ghost use mathlib.Core.Bool.{_&&_};
-ghost use Prim.Native.Nat.{_+_, _-_, _<_, _≤_, _^_};
+ghost use mathlib.Core.Bool.{true, false, _&&_};
+ghost use Prim.Native.Nat.{_+_, _-_, _≤_};
 ghost use Rattle.lists.specs.Tests.{all, sameList};
-ghost use Rattle.lists.specs.Spans.{stretch};
+ghost use Rattle.lists.specs.Spans.{stretch, zeros};
+ghost use Rattle.lists.specs.Parts.{indexOf};
 ghost use Rattle.model.specs.Outcome.{refused};
-ghost use Rattle.model.specs.Chart.{meets, leastNumbers, sameChart};
-ghost use Rattle.rings.specs.Tables.{startOf, startsOf, rows, table};
-ghost use Rattle.places.specs.Places.{placesOf};
-ghost use Rattle.solver.specs.Constraints.{numbersOf, listed, compass, asked, tiedTo, endOf, gapOf, keptOf};
+ghost use Rattle.model.specs.Plan.{ring};
+ghost use Rattle.model.specs.Chart.{meets, sameChart};
+ghost use Rattle.rings.specs.Tables.{startOf, startsOf, rows, table, inBounds};
+ghost use Rattle.solver.specs.Constraints.{numbersOf, solved, listedFrom, listed, asked, endOf, gapOf, keptOf};
 ghost use Rattle.placement.specs.Drawing.{chartOn, chartFor, drawnAs, drawnOf, drawnIf, standsAt, squared};
+ghost use Rattle.placement.specs.Marking.{Marked, DartAt};
 
 // The slope that a line must at least have.
 const SLOPE: u8 = 0;
 
-// Constraints in flat arrays, as many as count says.
-struct Asks {
-    pub count: usize,
-    pub lows: [u16; 1188],
-    pub highs: [u16; 1188],
-    pub gaps: [u8; 1188],
-}
-
-// The least numbers of one coordinate, and whether they meet all its constraints.
+// The least numbers of one coordinate, and whether they are found and meet all its constraints.
 struct Axis {
-    pub found: bool,
     pub kept: bool,
     pub at: [u16; 200],
 }
@@ -69,90 +62,110 @@ fn kept_of(label: usize) -> usize
     if label < 2 { 1 } else { 0 }
 }
 
-// The context that North is tied to.
-fn tied_to(upright: bool) -> u16
-    ensures { λ r. ⌜ r ≡ tiedTo upright ⌝ }
+// Where the label of the dart from u to v stands, v being the entry at i of u's ring, which begins at a. A mark of v above a is one more than that place; where there is none the entry is v's first in the ring, and is marked.
+fn label_place<'a>(
+    marks: &mut [u16; 200],
+    starts: &'a [u16],
+    sizes: &'a [u8],
+    entries: &'a [u16],
+    n: usize,
+    u: usize,
+    v: usize,
+    a: usize,
+    i: usize,
+) -> usize
+    requires { ⌜ Marked (now marks) (ring (rows (now starts) (now sizes) (now entries) n) u) a i ⌝ }
+    requires { ⌜ DartAt (ring (rows (now starts) (now sizes) (now entries) n) u) a i v ⌝ }
+    ensures { λ r. ⌜ r ≡ a + indexOf v (ring (rows (now (starts .entry)) (now (sizes .entry)) (now (entries .entry)) n) u) ⌝ }
+    ensures { λ r. ⌜ Marked (now (marks .exit)) (ring (rows (now (starts .entry)) (now (sizes .entry)) (now (entries .entry)) n) u) a (i + 1) ⌝ }
 {
-    if upright { 3 } else { 1 }
+    if v >= 200 {
+        return a + rings::index_of(starts, sizes, entries, n, u, v);
+    }
+    let mark = lists::wide_word(marks[v]);
+    if mark > a {
+        return mark - 1;
+    }
+    marks[v] = (a + i + 1) as u16;
+    a + i
 }
 
-// The constraints of one coordinate: the border's tie, then those of the darts in the order of the rings.
+// Puts the constraints of both coordinates into arrays of zeros: the border's tie, then those of the darts in the order of the rings. How many there are of each.
 fn asks_of<'a>(
-    places: &'a [u8],
+    xlows: &mut [u16; 1188],
+    xhighs: &mut [u16; 1188],
+    xgaps: &mut [u8; 1188],
+    ylows: &mut [u16; 1188],
+    yhighs: &mut [u16; 1188],
+    ygaps: &mut [u8; 1188],
     starts: &'a [u16],
     sizes: &'a [u8],
     entries: &'a [u16],
     n: usize,
     labels: &'a [u8],
-    upright: bool,
-) -> Asks
+) -> usize
     requires { ⌜ n ≤ 200 ⌝ }
     requires { ⌜ startOf (now sizes) n ≤ 1186 ⌝ }
     requires { ⌜ now starts ≡ startsOf (now sizes) ⌝ }
-    requires { ⌜ now places ≡ placesOf (rows (now starts) (now sizes) (now entries) n) ⌝ }
-    ensures { λ r. ⌜ listed (r .lows) (r .highs) (r .gaps) (r .count) ≡ asked upright (table (now (sizes .entry)) (now (entries .entry)) n) (now (labels .entry)) ⌝ }
-    ensures { λ r. ⌜ 2 ≤ r .count ⌝ }
+    requires { ⌜ (now xlows ≡ zeros 1188) × (now xhighs ≡ zeros 1188) × (now xgaps ≡ zeros 1188) ⌝ }
+    requires { ⌜ (now ylows ≡ zeros 1188) × (now yhighs ≡ zeros 1188) × (now ygaps ≡ zeros 1188) ⌝ }
+    ensures x { λ r. ⌜ listed (now (xlows .exit)) (now (xhighs .exit)) (now (xgaps .exit)) r ≡ asked false (table (now (sizes .entry)) (now (entries .entry)) n) (now (labels .entry)) ⌝ }
+    ensures y { λ r. ⌜ listed (now (ylows .exit)) (now (yhighs .exit)) (now (ygaps .exit)) r ≡ asked true (table (now (sizes .entry)) (now (entries .entry)) n) (now (labels .entry)) ⌝ }
+    ensures tied { λ r. ⌜ 2 ≤ r ⌝ }
 {
-    let mut lows = [0u16; 1188];
-    let mut highs = [0u16; 1188];
-    let mut gaps = [0u8; 1188];
-    let end = tied_to(upright);
-    highs[0] = end;
-    lows[1] = end;
+    xhighs[0] = 1;
+    xlows[1] = 1;
+    yhighs[0] = 3;
+    ylows[1] = 3;
+    let mut marks = [0u16; 200];
     let mut count = 2;
     let mut u = 0;
     let mut i = 0;
+    let mut a = 0;
+    let mut k = rings::size_of(sizes, n, 0);
     while u < n {
-        if i < rings::size_of(sizes, n, u) {
-            let v = rings::neighbour_of(lists::num(entries, lists::num(starts, u) + i));
-            let label = labels::label_by(places, starts, sizes, entries, n, labels, u, v);
-            let a = u as u16;
-            let b = v as u16;
-            lows[count] = end_of(upright, label, a, b);
-            highs[count] = end_of(upright, label, b, a);
-            gaps[count] = gap_of(upright, label);
+        if i < k {
+            let v = rings::neighbour_of(lists::num(entries, a + i));
+            let at = label_place(&mut marks, starts, sizes, entries, n, u, v, a, i);
+            let label = labels::label_at(labels, at);
+            let s = u as u16;
+            let t = v as u16;
+            xlows[count] = end_of(false, label, s, t);
+            xhighs[count] = end_of(false, label, t, s);
+            xgaps[count] = gap_of(false, label);
+            ylows[count] = end_of(true, label, s, t);
+            yhighs[count] = end_of(true, label, t, s);
+            ygaps[count] = gap_of(true, label);
             count += kept_of(label);
             i += 1;
         } else {
             u += 1;
             i = 0;
+            a += k;
+            k = rings::size_of(sizes, n, u);
         }
     }
-    Asks {
-        count,
-        lows,
-        highs,
-        gaps,
-    }
+    count
 }
 
-// The least numbers of one coordinate.
+// The least numbers of the first count constraints, and whether they meet those after the tie.
 fn axis_of<'a>(
-    places: &'a [u8],
-    starts: &'a [u16],
-    sizes: &'a [u8],
-    entries: &'a [u16],
     n: usize,
-    labels: &'a [u8],
-    upright: bool,
+    count: usize,
+    lows: &'a [u16; 1188],
+    highs: &'a [u16; 1188],
+    gaps: &'a [u8; 1188],
 ) -> Axis
-    requires { ⌜ n ≤ 200 ⌝ }
-    requires { ⌜ startOf (now sizes) n ≤ 1186 ⌝ }
-    requires { ⌜ now starts ≡ startsOf (now sizes) ⌝ }
-    requires { ⌜ now places ≡ placesOf (rows (now starts) (now sizes) (now entries) n) ⌝ }
-    ensures { λ r. ⌜ r .found ≡ numbersOf (leastNumbers n (asked upright (table (now (sizes .entry)) (now (entries .entry)) n) (now (labels .entry)))) .found ⌝ }
-    ensures { λ r. ⌜ r .at ≡ numbersOf (leastNumbers n (asked upright (table (now (sizes .entry)) (now (entries .entry)) n) (now (labels .entry)))) .at ⌝ }
-    ensures { λ r. ⌜ r .kept ≡ all (meets (r .at)) (compass upright (table (now (sizes .entry)) (now (entries .entry)) n) (now (labels .entry))) ⌝ }
+    ensures at { λ r. ⌜ r .at ≡ numbersOf (solved n (listed (now (lows .entry)) (now (highs .entry)) (now (gaps .entry)) count)) .at ⌝ }
+    ensures kept { λ r. ⌜ r .kept ≡ (numbersOf (solved n (listed (now (lows .entry)) (now (highs .entry)) (now (gaps .entry)) count)) .found && all (meets (r .at)) (listedFrom (now (lows .entry)) (now (highs .entry)) (now (gaps .entry)) 2 (count - 2))) ⌝ }
 {
-    let asks = asks_of(places, starts, sizes, entries, n, labels, upright);
-    let lows = asks.lows;
-    let highs = asks.highs;
-    let gaps = asks.gaps;
-    let numbers = solver::solve(n, asks.count, &lows, &highs, &gaps);
+    let numbers = solver::solve(n, count, lows, highs, gaps);
     let at = numbers.at;
+    if !numbers.found {
+        return Axis { kept: false, at };
+    }
     Axis {
-        found: numbers.found,
-        kept: solver::all_met(&lows, &highs, &gaps, 2, asks.count, &at),
+        kept: solver::all_met(lows, highs, gaps, 2, count, &at),
         at,
     }
 }
@@ -206,33 +219,42 @@ fn squared_off(xs: [u16; 200], ys: [u16; 200]) -> Drawn
     }
 }
 
-// The chart of the plan that sizes and entries hold, where the rings begin at these starts.
+// The chart of a plan within bounds, whose rings begin at these starts.
 fn chart_from<'a>(
-    places: &'a [u8],
     starts: &'a [u16],
     sizes: &'a [u8],
     entries: &'a [u16],
     n: usize,
     labels: &'a [u8],
 ) -> Drawn
+    requires { ⌜ inBounds (now sizes) n ≡ true ⌝ }
     requires { ⌜ now starts ≡ startsOf (now sizes) ⌝ }
-    requires { ⌜ now places ≡ placesOf (rows (now starts) (now sizes) (now entries) n) ⌝ }
     ensures { λ r. ⌜ r ≡ drawnOf (chartFor (now (sizes .entry)) (now (entries .entry)) n (now (labels .entry))) ⌝ }
 {
-    if !fit::is_in_bounds(sizes, n) {
-        return undrawn();
-    }
-    let x = axis_of(places, starts, sizes, entries, n, labels, false);
-    if !x.found {
-        return undrawn();
-    }
-    let y = axis_of(places, starts, sizes, entries, n, labels, true);
-    if !y.found {
-        return undrawn();
-    }
+    let mut xlows = [0u16; 1188];
+    let mut xhighs = [0u16; 1188];
+    let mut xgaps = [0u8; 1188];
+    let mut ylows = [0u16; 1188];
+    let mut yhighs = [0u16; 1188];
+    let mut ygaps = [0u8; 1188];
+    let count = asks_of(
+        &mut xlows,
+        &mut xhighs,
+        &mut xgaps,
+        &mut ylows,
+        &mut yhighs,
+        &mut ygaps,
+        starts,
+        sizes,
+        entries,
+        n,
+        labels,
+    );
+    let x = axis_of(n, count, &xlows, &xhighs, &xgaps);
     if !x.kept {
         return undrawn();
     }
+    let y = axis_of(n, count, &ylows, &yhighs, &ygaps);
     if !y.kept {
         return undrawn();
     }
@@ -246,10 +268,11 @@ pub fn chart_of<'a>(sizes: &'a [u8], entries: &'a [u16], n: usize, labels: &'a [
     ensures { λ r. ⌜ drawnAs r n ≡ chartFor (now (sizes .entry)) (now (entries .entry)) n (now (labels .entry)) ⌝ }
     ensures { λ r. ⌜ r ≡ drawnOf (chartFor (now (sizes .entry)) (now (entries .entry)) n (now (labels .entry))) ⌝ }
 {
+    if !fit::is_in_bounds(sizes, n) {
+        return undrawn();
+    }
     let starts = rings::starts_of(sizes);
-    let mut places = [0u8; 40000];
-    places::fill(&mut places, &starts, sizes, entries, n);
-    chart_from(&places, &starts, sizes, entries, n, labels)
+    chart_from(&starts, sizes, entries, n, labels)
 }
 
 // Are the first n numbers of two arrays equal?

@@ -8,7 +8,7 @@ ghost use Rattle.model.specs.Chart.{meets};
 ghost use Rattle.solver.specs.Constraints.{rise, constraintAt, listedFrom, listed, solved, numbersOf};
 ghost use Rattle.solver.specs.Relaxing.{Raised, Passed, placeOf};
 
-mod order;
+mod first;
 
 // The numbers found, or zeros where there are none.
 pub struct Numbers {
@@ -116,46 +116,6 @@ fn raise<'a>(
     }
 }
 
-// Takes the constraints of an order, one after the other.
-fn raise_all<'a>(
-    at: &mut [u16],
-    n: usize,
-    count: usize,
-    lows: &'a [u16],
-    highs: &'a [u16],
-    gaps: &'a [u8],
-    order: &'a [u16],
-    len: usize,
-)
-    requires { ⌜ n ≤ 200 ⌝ }
-    requires { ⌜ Raised n (listed (now lows) (now highs) (now gaps) count) (now at) ⌝ }
-    ensures { λ r. ⌜ Raised n (listed (now (lows .entry)) (now (highs .entry)) (now (gaps .entry)) count) (now (at .exit)) ⌝ }
-{
-    let mut i = 0;
-    while i < len {
-        raise(at, n, count, lows, highs, gaps, lists::num(order, i));
-        i += 1;
-    }
-}
-
-// The numbers that a first pass, in an order that settles most of them, raises from 0.
-fn first_pass<'a>(
-    n: usize,
-    count: usize,
-    lows: &'a [u16],
-    highs: &'a [u16],
-    gaps: &'a [u8],
-) -> [u16; 200]
-    requires { ⌜ n ≤ 200 ⌝ }
-    ensures { λ r. ⌜ Raised n (listed (now (lows .entry)) (now (highs .entry)) (now (gaps .entry)) count) r ⌝ }
-{
-    let order = order::order_of(n, count, lows, highs);
-    let list = order.list;
-    let mut at = [0u16; 200];
-    raise_all(&mut at, n, count, lows, highs, gaps, &list, order.len);
-    at
-}
-
 // No numbers.
 fn nothing() -> Numbers
     ensures { λ r. ⌜ r ≡ numbersOf (refused 11 0) ⌝ }
@@ -179,7 +139,7 @@ pub fn solve<'a>(
     if 200 < n {
         return nothing();
     }
-    let mut at = first_pass(n, count, lows, highs, gaps);
+    let mut at = first::first_pass(n, count, lows, highs, gaps);
     let mut back = false;
     loop {
         let p = pass(n, count, lows, highs, gaps, at, back);

@@ -1,5 +1,5 @@
 -- The engine's answer is the model's: each case of the answer, and the labels beside it.
-use Prim.Native.Nat.{ℕ, _/_, _%_, _≤_, _<_, min}
+use Prim.Native.Nat.{ℕ, _/_, _%_, _≤_, _<_}
 use mathlib.Core.Path.{_≡_, refl, sym, ap, _∙_, subst}
 use mathlib.Core.Logic.{_≢_}
 use mathlib.Core.List.{List, [], _∷_, _++_}
@@ -20,8 +20,6 @@ use Rattle.model.specs.Labels.{labelOf, turned, put, breaks, labelRules}
 use Rattle.model.specs.Turn.{badPair, quarters, turnDart, turnEdges, turn}
 use Rattle.rings.specs.Tables.{startOf, startsOf, table, inBounds}
 use Rattle.rings.proofs.Rows.{count-rows}
-use Rattle.rings.specs.Tables.{held}
-use Rattle.labels.proofs.Places.{held-small}
 use Rattle.labels.proofs.Darts.{label-behind, put-behind, rules-behind}
 use Rattle.model.proofs.LabelCounts.{turns-long}
 use Rattle.turn.specs.declared.TurnAnswer.{TurnAnswer}
@@ -184,7 +182,7 @@ module _ (sizes es : List ℕ) (n : ℕ) (labels items : List ℕ) (direction : 
           unfolding outcomeOf
           answer-direction far = refusal (BadList m) 15 m (fits ∙ turn-direction P Old items direction (let e = half in omega arith) even (omega arith) ∙ (λ i. refused 15 (sym half i))) refl
 
-          module _ (near : direction ≤ 1) {q : ℕ} {new : List ℕ} (by : q ≡ quarters direction) (turned-all : new ≡ turnEdges P q (take at (pairs items)) labels) {place : ℕ} (tested : place ≡ lowest (breaks (held sizes es n) new) (min n 200)) where
+          module _ (near : direction ≤ 1) {q : ℕ} {new : List ℕ} (by : q ≡ quarters direction) (turned-all : new ≡ turnEdges P q (take at (pairs items)) labels) {place : ℕ} (tested : place ≡ lowest (breaks P new) n) where
             -- the labels after all edges are turned
             abbrev New : List ℕ
             New = After P Old items direction
@@ -203,9 +201,8 @@ module _ (sizes es : List ℕ) (n : ℕ) (labels items : List ℕ) (direction : 
             -- the context that the code found
             place-is : place ≡ lowest (breaks P New) (count P)
             place-is =
-                let most : min n 200 ≡ count P = let c = many in omega arith in
                 tested
-                ∙ (λ i. lowest (breaks (held-small sizes es n small i) (new-front i)) (most i))
+                ∙ (λ i. lowest (breaks P (new-front i)) (sym many i))
                 ∙ rules-behind P New Rest (new-long ∙ old-each) (count P)
 
             -- only the label rules are left

@@ -8,9 +8,6 @@ use native.Mathlib.Omega.{arith}
 use borrow.Author.Needs.{needs}
 use Rattle.calls.proofs.first_entries.Statement.{statement}
 use Rattle.calls.proofs.first_entries.Tie as tie
-use Rattle.calls.proofs.first_entries.Reads as reads
-use Rattle.calls.proofs.first_entries.Lts as lts
-use Rattle.lists.proofs.num.Reads as num-reads
 
 abbrev Inv-loop : tie.InvT-loop
 Inv-loop a k b₀ i₀ b i = (i ≤ k) × Fills 1186 (λ (j : ℕ). getD a j 0) i b
@@ -21,14 +18,14 @@ abbrev μ-loop : tie.MeasureT-loop
 loop-holds : tie.Need-loop-holds Inv-loop μ-loop
 loop-holds c = (omega arith, fills-start refl)
 
-num-requires : tie.Need-num-requires Inv-loop μ-loop
-num-requires c κs = search needs
-
-cast-b : tie.Need-cast-b Inv-loop μ-loop
-cast-b c = search needs
-
 mul-b : tie.Need-mul-b Inv-loop μ-loop
 mul-b c = search needs
+
+element-copy-out-b : tie.Need-element-copy-out-b Inv-loop μ-loop
+element-copy-out-b c = search needs
+
+mul-b-2 : tie.Need-mul-b-2 Inv-loop μ-loop
+mul-b-2 c = search needs
 
 array-write-b : tie.Need-array-write-b Inv-loop μ-loop
 array-write-b c = search needs
@@ -40,10 +37,10 @@ loop-less : tie.Need-loop-less Inv-loop μ-loop
 loop-less c = search needs
 
 loop-again : tie.Need-loop-again Inv-loop μ-loop
-loop-again c = (omega arith, fills-on (c .before .before .loop .inv .1) (omega arith) (omega arith) (c .num .ensures .0) refl)
+loop-again c = (omega arith, fills-on (c .before .before .loop .inv .1) (omega arith) (omega arith) refl refl)
 
 returns : tie.Need-returns Inv-loop μ-loop
-returns c = let a = c .before .before .before .args in filled-front (a .a .now) (a .k) (c .before .loop .inv .1) (omega arith)
+returns c = let a = c .before .before .args in filled-front (a .a .now) (a .k) (c .before .loop .inv .1) (omega arith)
 
 pub first-entries-spec : {M : Type 1} → statement M
 first-entries-spec =
@@ -52,9 +49,9 @@ first-entries-spec =
     Inv-loop
     μ-loop
     loop-holds
-    num-requires
-    cast-b
     mul-b
+    element-copy-out-b
+    mul-b-2
     array-write-b
     add-i
     loop-less

@@ -27,14 +27,8 @@ slice-aggregate-total-of c = search needs
 total-of-requires : tie.Need-total-of-requires
 total-of-requires c κs = search needs
 
-slice-aggregate-first-sizes : tie.Need-slice-aggregate-first-sizes
-slice-aggregate-first-sizes c = search needs
-
 first-sizes-requires : tie.Need-first-sizes-requires
 first-sizes-requires c κs = let w = c .before .before .before .wide-word .ensures .0 in let h = few (c .before .before .before .before .before .before .before .args .sheet) (c .before .before .before .before .before .before .before .pre .0) in omega arith
-
-slice-aggregate-first-entries : tie.Need-slice-aggregate-first-entries
-slice-aggregate-first-entries c = search needs
 
 first-entries-requires : tie.Need-first-entries-requires
 first-entries-requires c κs =
@@ -66,9 +60,7 @@ relabelled-spec =
     wide-word-requires
     slice-aggregate-total-of
     total-of-requires
-    slice-aggregate-first-sizes
     first-sizes-requires
-    slice-aggregate-first-entries
     first-entries-requires
     first-labels-requires
     returns)

@@ -1,122 +1,142 @@
 -- asks_of meets its contract.
-use Rattle.placement.proofs.Asking.{Asking, asking-start, asking-room, asking-dart, asking-next, asking-end, dart-at, neighbour-le}
-use Rattle.labels.proofs.Places.{label-told}
-use Rattle.rings.specs.Tables.{sizeOf}
-use Rattle.lists.specs.Spans.{zeros}
-use Prim.Native.Nat.{ℕ, _<_, _-_, _+_, _*_}
+use Prim.Native.Nat.{ℕ, _+_, _-_, _*_}
 use mathlib.Core.Path.{refl, ap}
+use Rattle.placement.proofs.Asking.{neighbour-le}
+use Rattle.placement.proofs.Walk.{Walks, walks-start, walks-room, walks-at, walks-dart, walks-next, walks-x, walks-y}
 use native.Mathlib.Omega.{arith}
 use borrow.Author.Needs.{needs}
 use Rattle.placement.proofs.asks_of.Statement.{statement}
 use Rattle.placement.proofs.asks_of.Tie as tie
-use Rattle.placement.proofs.asks_of.Reads as reads
-use Rattle.placement.proofs.asks_of.Lts as lts
-use Rattle.lists.proofs.num.Reads as num-reads
-use Rattle.placement.proofs.end_of.Reads as end-of-reads
-use Rattle.placement.proofs.gap_of.Reads as gap-of-reads
-use Rattle.placement.proofs.kept_of.Reads as kept-of-reads
-use Rattle.labels.proofs.label_by.Reads as label-by-reads
-use Rattle.placement.proofs.tied_to.Reads as tied-to-reads
-use Rattle.rings.proofs.neighbour_of.Reads as neighbour-of-reads
-use Rattle.rings.proofs.size_of.Reads as size-of-reads
 
 abbrev Inv-loop : tie.InvT-loop
-Inv-loop places starts sizes entries n labels upright lows₀ highs₀ gaps₀ end count₀ u₀ i₀ lows highs gaps count u i = Asking sizes entries n labels upright lows highs gaps count u i
+Inv-loop xlows₀ xhighs₀ xgaps₀ ylows₀ yhighs₀ ygaps₀ starts sizes entries n labels marks₀ count₀ u₀ i₀ a₀ k₀ xlows xhighs xgaps ylows yhighs ygaps marks count u i a k =
+    Walks starts sizes entries n labels xlows xhighs xgaps ylows yhighs ygaps marks count u i a k
 
 abbrev μ-loop : tie.MeasureT-loop
-μ-loop places starts sizes entries n labels upright lows₀ highs₀ gaps₀ end count₀ u₀ i₀ lows highs gaps count u i = (n - u) * 256 - i
+μ-loop xlows₀ xhighs₀ xgaps₀ ylows₀ yhighs₀ ygaps₀ starts sizes entries n labels marks₀ count₀ u₀ i₀ a₀ k₀ xlows xhighs xgaps ylows yhighs ygaps marks count u i a k = (n - u) * 256 - i
 
-tied-to-requires : tie.Need-tied-to-requires Inv-loop μ-loop
-tied-to-requires c κs = search needs
+element-write-xhighs : tie.Need-element-write-xhighs Inv-loop μ-loop
+element-write-xhighs c = search needs
 
-array-write-highs : tie.Need-array-write-highs Inv-loop μ-loop
-array-write-highs c = search needs
+element-write-xlows : tie.Need-element-write-xlows Inv-loop μ-loop
+element-write-xlows c = search needs
 
-array-write-lows : tie.Need-array-write-lows Inv-loop μ-loop
-array-write-lows c = search needs
+element-write-yhighs : tie.Need-element-write-yhighs Inv-loop μ-loop
+element-write-yhighs c = search needs
 
-loop-holds : tie.Need-loop-holds Inv-loop μ-loop
-unfolding zeros
-loop-holds c = asking-start (c .before .before .before .before .before .before .args .sizes .now) (c .before .before .before .before .before .before .args .entries .now) (c .before .before .before .before .before .before .args .n) (c .before .before .before .before .before .before .args .labels .now) (c .before .before .before .before .before .before .args .upright) _ (c .tied-to .ensures) (zeros 1188) (zeros 1188) (zeros 1188) refl refl refl
+element-write-ylows : tie.Need-element-write-ylows Inv-loop μ-loop
+element-write-ylows c = search needs
 
 size-of-requires : tie.Need-size-of-requires Inv-loop μ-loop
 size-of-requires c κs = search needs
 
-num-requires : tie.Need-num-requires Inv-loop μ-loop
-num-requires c κs = search needs
+loop-holds : tie.Need-loop-holds Inv-loop μ-loop
+loop-holds c = walks-start (c .before .before .before .before .before .args .starts .now) (c .before .before .before .before .before .args .sizes .now) (c .before .before .before .before .before .args .entries .now) (c .before .before .before .before .before .args .n) (c .before .before .before .before .before .args .labels .now) (c .before .before .before .before .before .pre .1 .1 .1 .0) (c .before .before .before .before .before .pre .1 .1 .1 .1) (c .size-of .ensures .0) (c .size-of .ensures .1)
 
 add-num : tie.Need-add-num Inv-loop μ-loop
-add-num c = search needs
+add-num c = let m = c .before .before .loop .inv .near in let f = c .before .before .loop .inv .few in omega arith
 
-num-requires-2 : tie.Need-num-requires-2 Inv-loop μ-loop
-num-requires-2 c κs = search needs
+num-requires : tie.Need-num-requires Inv-loop μ-loop
+num-requires c κs = search needs
 
 neighbour-of-requires : tie.Need-neighbour-of-requires Inv-loop μ-loop
 neighbour-of-requires c κs = search needs
 
-label-by-requires : tie.Need-label-by-requires Inv-loop μ-loop
-label-by-requires c κs = search needs
+label-place-requires : tie.Need-label-place-requires Inv-loop μ-loop
+label-place-requires c κs = let pre = c .before .before .before .before .before .before .before .before .before .before .before .pre in (c .before .before .before .before .before .loop .inv .marked, walks-at (c .before .before .before .before .before .before .before .before .before .before .before .args .starts .now) (c .before .before .before .before .before .before .before .before .before .before .before .args .sizes .now) (c .before .before .before .before .before .before .before .before .before .before .before .args .entries .now) (c .before .before .before .before .before .before .before .before .before .before .before .args .n) (c .before .before .before .before .before .before .before .before .before .before .before .args .labels .now) (c .before .before .before .before .before .loop .inv) (c .before .before .before .before .loop-test .taken) (c .before .before .before .if1 .taken) (pre .0) (pre .1 .0) (pre .1 .1 .0) (c .before .before .num .ensures .0) (c .before .neighbour-of .ensures))
 
-cast-a : tie.Need-cast-a Inv-loop μ-loop
-cast-a c = search needs
+label-at-requires : tie.Need-label-at-requires Inv-loop μ-loop
+label-at-requires c κs = search needs
 
-cast-b : tie.Need-cast-b Inv-loop μ-loop
-cast-b c = let e = c .before .neighbour-of .ensures in let l = neighbour-le (c .before .before .num2 .result) in let b = c .before .before .num2 .ensures .1 in record { fits = omega arith }
+cast-s : tie.Need-cast-s Inv-loop μ-loop
+cast-s c = search needs
+
+cast-t : tie.Need-cast-t Inv-loop μ-loop
+cast-t c = let e = c .before .before .before .neighbour-of .ensures in let l = neighbour-le (c .before .before .before .before .num .result) in let b = c .before .before .before .before .num .ensures .1 in record { fits = omega arith }
 
 end-of-requires : tie.Need-end-of-requires Inv-loop μ-loop
 end-of-requires c κs = search needs
 
-mul-lows : tie.Need-mul-lows Inv-loop μ-loop
-mul-lows c = let r = (asking-room (c .before .before .before .before .before .before .before .before .before .before .before .before .before .before .before .args .sizes .now) (c .before .before .before .before .before .before .before .before .before .before .before .before .before .before .before .args .entries .now) (c .before .before .before .before .before .before .before .before .before .before .before .before .before .before .before .args .n) (c .before .before .before .before .before .before .before .before .before .before .before .before .before .before .before .args .labels .now) (c .before .before .before .before .before .before .before .before .before .before .before .before .before .before .before .args .upright) (c .before .before .before .before .before .before .before .before .loop .inv) (c .before .before .before .before .before .before .before .before .before .before .before .before .before .before .before .pre .1 .0) (c .before .before .before .before .before .before .before .loop-test .taken) (let s = c .before .before .before .before .before .before .size-of .ensures .0 in let t = c .before .before .before .before .before .if1 .taken in omega arith)) in omega arith
+mul-xlows : tie.Need-mul-xlows Inv-loop μ-loop
+mul-xlows c = let r = walks-room (c .before .before .before .before .before .before .before .before .before .before .before .before .before .before .args .starts .now) (c .before .before .before .before .before .before .before .before .before .before .before .before .before .before .args .sizes .now) (c .before .before .before .before .before .before .before .before .before .before .before .before .before .before .args .entries .now) (c .before .before .before .before .before .before .before .before .before .before .before .before .before .before .args .n) (c .before .before .before .before .before .before .before .before .before .before .before .before .before .before .args .labels .now) (c .before .before .before .before .before .before .before .before .loop .inv) (c .before .before .before .before .before .before .before .loop-test .taken) (c .before .before .before .before .before .before .if1 .taken) (c .before .before .before .before .before .before .before .before .before .before .before .before .before .before .pre .1 .0) in omega arith
 
-array-write-lows-2 : tie.Need-array-write-lows-2 Inv-loop μ-loop
-array-write-lows-2 c = asking-room (c .before .before .before .before .before .before .before .before .before .before .before .before .before .before .before .args .sizes .now) (c .before .before .before .before .before .before .before .before .before .before .before .before .before .before .before .args .entries .now) (c .before .before .before .before .before .before .before .before .before .before .before .before .before .before .before .args .n) (c .before .before .before .before .before .before .before .before .before .before .before .before .before .before .before .args .labels .now) (c .before .before .before .before .before .before .before .before .before .before .before .before .before .before .before .args .upright) (c .before .before .before .before .before .before .before .before .loop .inv) (c .before .before .before .before .before .before .before .before .before .before .before .before .before .before .before .pre .1 .0) (c .before .before .before .before .before .before .before .loop-test .taken) (let s = c .before .before .before .before .before .before .size-of .ensures .0 in let t = c .before .before .before .before .before .if1 .taken in omega arith)
+element-write-xlows-2 : tie.Need-element-write-xlows-2 Inv-loop μ-loop
+element-write-xlows-2 c = walks-room (c .before .before .before .before .before .before .before .before .before .before .before .before .before .before .args .starts .now) (c .before .before .before .before .before .before .before .before .before .before .before .before .before .before .args .sizes .now) (c .before .before .before .before .before .before .before .before .before .before .before .before .before .before .args .entries .now) (c .before .before .before .before .before .before .before .before .before .before .before .before .before .before .args .n) (c .before .before .before .before .before .before .before .before .before .before .before .before .before .before .args .labels .now) (c .before .before .before .before .before .before .before .before .loop .inv) (c .before .before .before .before .before .before .before .loop-test .taken) (c .before .before .before .before .before .before .if1 .taken) (c .before .before .before .before .before .before .before .before .before .before .before .before .before .before .pre .1 .0)
 
 end-of-requires-2 : tie.Need-end-of-requires-2 Inv-loop μ-loop
 end-of-requires-2 c κs = search needs
 
-mul-highs : tie.Need-mul-highs Inv-loop μ-loop
-mul-highs c = let r = (asking-room (c .before .before .before .before .before .before .before .before .before .before .before .before .before .before .before .before .args .sizes .now) (c .before .before .before .before .before .before .before .before .before .before .before .before .before .before .before .before .args .entries .now) (c .before .before .before .before .before .before .before .before .before .before .before .before .before .before .before .before .args .n) (c .before .before .before .before .before .before .before .before .before .before .before .before .before .before .before .before .args .labels .now) (c .before .before .before .before .before .before .before .before .before .before .before .before .before .before .before .before .args .upright) (c .before .before .before .before .before .before .before .before .before .loop .inv) (c .before .before .before .before .before .before .before .before .before .before .before .before .before .before .before .before .pre .1 .0) (c .before .before .before .before .before .before .before .before .loop-test .taken) (let s = c .before .before .before .before .before .before .before .size-of .ensures .0 in let t = c .before .before .before .before .before .before .if1 .taken in omega arith)) in omega arith
+mul-xhighs : tie.Need-mul-xhighs Inv-loop μ-loop
+mul-xhighs c = let r = walks-room (c .before .before .before .before .before .before .before .before .before .before .before .before .before .before .before .args .starts .now) (c .before .before .before .before .before .before .before .before .before .before .before .before .before .before .before .args .sizes .now) (c .before .before .before .before .before .before .before .before .before .before .before .before .before .before .before .args .entries .now) (c .before .before .before .before .before .before .before .before .before .before .before .before .before .before .before .args .n) (c .before .before .before .before .before .before .before .before .before .before .before .before .before .before .before .args .labels .now) (c .before .before .before .before .before .before .before .before .before .loop .inv) (c .before .before .before .before .before .before .before .before .loop-test .taken) (c .before .before .before .before .before .before .before .if1 .taken) (c .before .before .before .before .before .before .before .before .before .before .before .before .before .before .before .pre .1 .0) in omega arith
 
-array-write-highs-2 : tie.Need-array-write-highs-2 Inv-loop μ-loop
-array-write-highs-2 c = asking-room (c .before .before .before .before .before .before .before .before .before .before .before .before .before .before .before .before .args .sizes .now) (c .before .before .before .before .before .before .before .before .before .before .before .before .before .before .before .before .args .entries .now) (c .before .before .before .before .before .before .before .before .before .before .before .before .before .before .before .before .args .n) (c .before .before .before .before .before .before .before .before .before .before .before .before .before .before .before .before .args .labels .now) (c .before .before .before .before .before .before .before .before .before .before .before .before .before .before .before .before .args .upright) (c .before .before .before .before .before .before .before .before .before .loop .inv) (c .before .before .before .before .before .before .before .before .before .before .before .before .before .before .before .before .pre .1 .0) (c .before .before .before .before .before .before .before .before .loop-test .taken) (let s = c .before .before .before .before .before .before .before .size-of .ensures .0 in let t = c .before .before .before .before .before .before .if1 .taken in omega arith)
+element-write-xhighs-2 : tie.Need-element-write-xhighs-2 Inv-loop μ-loop
+element-write-xhighs-2 c = walks-room (c .before .before .before .before .before .before .before .before .before .before .before .before .before .before .before .args .starts .now) (c .before .before .before .before .before .before .before .before .before .before .before .before .before .before .before .args .sizes .now) (c .before .before .before .before .before .before .before .before .before .before .before .before .before .before .before .args .entries .now) (c .before .before .before .before .before .before .before .before .before .before .before .before .before .before .before .args .n) (c .before .before .before .before .before .before .before .before .before .before .before .before .before .before .before .args .labels .now) (c .before .before .before .before .before .before .before .before .before .loop .inv) (c .before .before .before .before .before .before .before .before .loop-test .taken) (c .before .before .before .before .before .before .before .if1 .taken) (c .before .before .before .before .before .before .before .before .before .before .before .before .before .before .before .pre .1 .0)
 
 gap-of-requires : tie.Need-gap-of-requires Inv-loop μ-loop
 gap-of-requires c κs = search needs
 
-array-write-gaps : tie.Need-array-write-gaps Inv-loop μ-loop
-array-write-gaps c = asking-room (c .before .before .before .before .before .before .before .before .before .before .before .before .before .before .before .before .before .args .sizes .now) (c .before .before .before .before .before .before .before .before .before .before .before .before .before .before .before .before .before .args .entries .now) (c .before .before .before .before .before .before .before .before .before .before .before .before .before .before .before .before .before .args .n) (c .before .before .before .before .before .before .before .before .before .before .before .before .before .before .before .before .before .args .labels .now) (c .before .before .before .before .before .before .before .before .before .before .before .before .before .before .before .before .before .args .upright) (c .before .before .before .before .before .before .before .before .before .before .loop .inv) (c .before .before .before .before .before .before .before .before .before .before .before .before .before .before .before .before .before .pre .1 .0) (c .before .before .before .before .before .before .before .before .before .loop-test .taken) (let s = c .before .before .before .before .before .before .before .before .size-of .ensures .0 in let t = c .before .before .before .before .before .before .before .if1 .taken in omega arith)
+element-write-xgaps : tie.Need-element-write-xgaps Inv-loop μ-loop
+element-write-xgaps c = walks-room (c .before .before .before .before .before .before .before .before .before .before .before .before .before .before .before .before .args .starts .now) (c .before .before .before .before .before .before .before .before .before .before .before .before .before .before .before .before .args .sizes .now) (c .before .before .before .before .before .before .before .before .before .before .before .before .before .before .before .before .args .entries .now) (c .before .before .before .before .before .before .before .before .before .before .before .before .before .before .before .before .args .n) (c .before .before .before .before .before .before .before .before .before .before .before .before .before .before .before .before .args .labels .now) (c .before .before .before .before .before .before .before .before .before .before .loop .inv) (c .before .before .before .before .before .before .before .before .before .loop-test .taken) (c .before .before .before .before .before .before .before .before .if1 .taken) (c .before .before .before .before .before .before .before .before .before .before .before .before .before .before .before .before .pre .1 .0)
+
+end-of-requires-3 : tie.Need-end-of-requires-3 Inv-loop μ-loop
+end-of-requires-3 c κs = search needs
+
+mul-ylows : tie.Need-mul-ylows Inv-loop μ-loop
+mul-ylows c = let r = walks-room (c .before .before .before .before .before .before .before .before .before .before .before .before .before .before .before .before .before .args .starts .now) (c .before .before .before .before .before .before .before .before .before .before .before .before .before .before .before .before .before .args .sizes .now) (c .before .before .before .before .before .before .before .before .before .before .before .before .before .before .before .before .before .args .entries .now) (c .before .before .before .before .before .before .before .before .before .before .before .before .before .before .before .before .before .args .n) (c .before .before .before .before .before .before .before .before .before .before .before .before .before .before .before .before .before .args .labels .now) (c .before .before .before .before .before .before .before .before .before .before .before .loop .inv) (c .before .before .before .before .before .before .before .before .before .before .loop-test .taken) (c .before .before .before .before .before .before .before .before .before .if1 .taken) (c .before .before .before .before .before .before .before .before .before .before .before .before .before .before .before .before .before .pre .1 .0) in omega arith
+
+element-write-ylows-2 : tie.Need-element-write-ylows-2 Inv-loop μ-loop
+element-write-ylows-2 c = walks-room (c .before .before .before .before .before .before .before .before .before .before .before .before .before .before .before .before .before .args .starts .now) (c .before .before .before .before .before .before .before .before .before .before .before .before .before .before .before .before .before .args .sizes .now) (c .before .before .before .before .before .before .before .before .before .before .before .before .before .before .before .before .before .args .entries .now) (c .before .before .before .before .before .before .before .before .before .before .before .before .before .before .before .before .before .args .n) (c .before .before .before .before .before .before .before .before .before .before .before .before .before .before .before .before .before .args .labels .now) (c .before .before .before .before .before .before .before .before .before .before .before .loop .inv) (c .before .before .before .before .before .before .before .before .before .before .loop-test .taken) (c .before .before .before .before .before .before .before .before .before .if1 .taken) (c .before .before .before .before .before .before .before .before .before .before .before .before .before .before .before .before .before .pre .1 .0)
+
+end-of-requires-4 : tie.Need-end-of-requires-4 Inv-loop μ-loop
+end-of-requires-4 c κs = search needs
+
+mul-yhighs : tie.Need-mul-yhighs Inv-loop μ-loop
+mul-yhighs c = let r = walks-room (c .before .before .before .before .before .before .before .before .before .before .before .before .before .before .before .before .before .before .args .starts .now) (c .before .before .before .before .before .before .before .before .before .before .before .before .before .before .before .before .before .before .args .sizes .now) (c .before .before .before .before .before .before .before .before .before .before .before .before .before .before .before .before .before .before .args .entries .now) (c .before .before .before .before .before .before .before .before .before .before .before .before .before .before .before .before .before .before .args .n) (c .before .before .before .before .before .before .before .before .before .before .before .before .before .before .before .before .before .before .args .labels .now) (c .before .before .before .before .before .before .before .before .before .before .before .before .loop .inv) (c .before .before .before .before .before .before .before .before .before .before .before .loop-test .taken) (c .before .before .before .before .before .before .before .before .before .before .if1 .taken) (c .before .before .before .before .before .before .before .before .before .before .before .before .before .before .before .before .before .before .pre .1 .0) in omega arith
+
+element-write-yhighs-2 : tie.Need-element-write-yhighs-2 Inv-loop μ-loop
+element-write-yhighs-2 c = walks-room (c .before .before .before .before .before .before .before .before .before .before .before .before .before .before .before .before .before .before .args .starts .now) (c .before .before .before .before .before .before .before .before .before .before .before .before .before .before .before .before .before .before .args .sizes .now) (c .before .before .before .before .before .before .before .before .before .before .before .before .before .before .before .before .before .before .args .entries .now) (c .before .before .before .before .before .before .before .before .before .before .before .before .before .before .before .before .before .before .args .n) (c .before .before .before .before .before .before .before .before .before .before .before .before .before .before .before .before .before .before .args .labels .now) (c .before .before .before .before .before .before .before .before .before .before .before .before .loop .inv) (c .before .before .before .before .before .before .before .before .before .before .before .loop-test .taken) (c .before .before .before .before .before .before .before .before .before .before .if1 .taken) (c .before .before .before .before .before .before .before .before .before .before .before .before .before .before .before .before .before .before .pre .1 .0)
+
+gap-of-requires-2 : tie.Need-gap-of-requires-2 Inv-loop μ-loop
+gap-of-requires-2 c κs = search needs
+
+element-write-ygaps : tie.Need-element-write-ygaps Inv-loop μ-loop
+element-write-ygaps c = walks-room (c .before .before .before .before .before .before .before .before .before .before .before .before .before .before .before .before .before .before .before .args .starts .now) (c .before .before .before .before .before .before .before .before .before .before .before .before .before .before .before .before .before .before .before .args .sizes .now) (c .before .before .before .before .before .before .before .before .before .before .before .before .before .before .before .before .before .before .before .args .entries .now) (c .before .before .before .before .before .before .before .before .before .before .before .before .before .before .before .before .before .before .before .args .n) (c .before .before .before .before .before .before .before .before .before .before .before .before .before .before .before .before .before .before .before .args .labels .now) (c .before .before .before .before .before .before .before .before .before .before .before .before .before .loop .inv) (c .before .before .before .before .before .before .before .before .before .before .before .before .loop-test .taken) (c .before .before .before .before .before .before .before .before .before .before .before .if1 .taken) (c .before .before .before .before .before .before .before .before .before .before .before .before .before .before .before .before .before .before .before .pre .1 .0)
 
 kept-of-requires : tie.Need-kept-of-requires Inv-loop μ-loop
 kept-of-requires c κs = search needs
 
 add-count : tie.Need-add-count Inv-loop μ-loop
-add-count c = let r = (asking-room (c .before .before .before .before .before .before .before .before .before .before .before .before .before .before .before .before .before .before .args .sizes .now) (c .before .before .before .before .before .before .before .before .before .before .before .before .before .before .before .before .before .before .args .entries .now) (c .before .before .before .before .before .before .before .before .before .before .before .before .before .before .before .before .before .before .args .n) (c .before .before .before .before .before .before .before .before .before .before .before .before .before .before .before .before .before .before .args .labels .now) (c .before .before .before .before .before .before .before .before .before .before .before .before .before .before .before .before .before .before .args .upright) (c .before .before .before .before .before .before .before .before .before .before .before .loop .inv) (c .before .before .before .before .before .before .before .before .before .before .before .before .before .before .before .before .before .before .pre .1 .0) (c .before .before .before .before .before .before .before .before .before .before .loop-test .taken) (let s = c .before .before .before .before .before .before .before .before .before .size-of .ensures .0 in let t = c .before .before .before .before .before .before .before .before .if1 .taken in omega arith)) in let k = c .kept-of .ensures .1 in record { fits = omega arith }
+add-count c = let r = walks-room (c .before .before .before .before .before .before .before .before .before .before .before .before .before .before .before .before .before .before .before .before .args .starts .now) (c .before .before .before .before .before .before .before .before .before .before .before .before .before .before .before .before .before .before .before .before .args .sizes .now) (c .before .before .before .before .before .before .before .before .before .before .before .before .before .before .before .before .before .before .before .before .args .entries .now) (c .before .before .before .before .before .before .before .before .before .before .before .before .before .before .before .before .before .before .before .before .args .n) (c .before .before .before .before .before .before .before .before .before .before .before .before .before .before .before .before .before .before .before .before .args .labels .now) (c .before .before .before .before .before .before .before .before .before .before .before .before .before .before .loop .inv) (c .before .before .before .before .before .before .before .before .before .before .before .before .before .loop-test .taken) (c .before .before .before .before .before .before .before .before .before .before .before .before .if1 .taken) (c .before .before .before .before .before .before .before .before .before .before .before .before .before .before .before .before .before .before .before .before .pre .1 .0) in let k = c .kept-of .ensures .1 in omega arith
 
 add-i : tie.Need-add-i Inv-loop μ-loop
-add-i c = let s = c .before .before .before .before .before .before .before .before .before .size-of .ensures .1 in let t = c .before .before .before .before .before .before .before .before .if1 .taken in record { fits = omega arith }
+add-i c = let f = c .before .before .before .before .before .before .before .before .before .before .before .before .before .before .loop .inv .few in omega arith
 
 loop-less : tie.Need-loop-less Inv-loop μ-loop
-loop-less c = let s = c .before .before .before .before .before .before .before .before .before .size-of .ensures .1 in let t = c .before .before .before .before .before .before .before .before .if1 .taken in let u = c .before .before .before .before .before .before .before .before .before .before .loop-test .taken in omega arith
+loop-less c = let f = c .before .before .before .before .before .before .before .before .before .before .before .before .before .before .loop .inv .few in let t = c .before .before .before .before .before .before .before .before .before .before .before .before .if1 .taken in let u = c .before .before .before .before .before .before .before .before .before .before .before .before .before .loop-test .taken in omega arith
 
 loop-again : tie.Need-loop-again Inv-loop μ-loop
-loop-again c = let room = asking-room (c .before .before .before .before .before .before .before .before .before .before .before .before .before .before .before .before .before .before .args .sizes .now) (c .before .before .before .before .before .before .before .before .before .before .before .before .before .before .before .before .before .before .args .entries .now) (c .before .before .before .before .before .before .before .before .before .before .before .before .before .before .before .before .before .before .args .n) (c .before .before .before .before .before .before .before .before .before .before .before .before .before .before .before .before .before .before .args .labels .now) (c .before .before .before .before .before .before .before .before .before .before .before .before .before .before .before .before .before .before .args .upright) (c .before .before .before .before .before .before .before .before .before .before .before .loop .inv) (c .before .before .before .before .before .before .before .before .before .before .before .before .before .before .before .before .before .before .pre .1 .0) (c .before .before .before .before .before .before .before .before .before .before .loop-test .taken) (let s = c .before .before .before .before .before .before .before .before .before .size-of .ensures .0 in let t = c .before .before .before .before .before .before .before .before .if1 .taken in omega arith) in
-    let h : c .before .before .before .before .before .before .before .before .before .before .before .loop .i < sizeOf (c .before .before .before .before .before .before .before .before .before .before .before .before .before .before .before .before .before .before .args .sizes .now) (c .before .before .before .before .before .before .before .before .before .before .before .before .before .before .before .before .before .before .args .n) (c .before .before .before .before .before .before .before .before .before .before .before .loop .u) = let s = c .before .before .before .before .before .before .before .before .before .size-of .ensures .0 in let t = c .before .before .before .before .before .before .before .before .if1 .taken in omega arith in
-    let at = dart-at (c .before .before .before .before .before .before .before .before .before .before .before .before .before .before .before .before .before .before .args .starts .now) (c .before .before .before .before .before .before .before .before .before .before .before .before .before .before .before .before .before .before .args .sizes .now) (c .before .before .before .before .before .before .before .before .before .before .before .before .before .before .before .before .before .before .args .entries .now) _ _ _ _ _ _ (c .before .before .before .before .before .before .before .before .before .before .before .before .before .before .before .before .before .before .pre .1 .1 .0) h (c .before .before .before .before .before .before .before .num .ensures .0) (c .before .before .before .before .before .before .num2 .ensures .0) (c .before .before .before .before .before .neighbour-of .ensures) in
-    asking-dart (c .before .before .before .before .before .before .before .before .before .before .before .before .before .before .before .before .before .before .args .sizes .now) (c .before .before .before .before .before .before .before .before .before .before .before .before .before .before .before .before .before .before .args .entries .now) (c .before .before .before .before .before .before .before .before .before .before .before .before .before .before .before .before .before .before .args .n) (c .before .before .before .before .before .before .before .before .before .before .before .before .before .before .before .before .before .before .args .labels .now) (c .before .before .before .before .before .before .before .before .before .before .before .before .before .before .before .before .before .before .args .upright) (c .before .before .before .before .before .before .before .before .before .before .before .loop .inv) (c .before .before .before .before .before .neighbour-of .result) (c .before .before .before .before .label-by .result) _ _ _ (omega arith) room h at (label-told (c .before .before .before .before .before .before .before .before .before .before .before .before .before .before .before .before .before .before .args .starts .now) (c .before .before .before .before .before .before .before .before .before .before .before .before .before .before .before .before .before .before .args .sizes .now) (c .before .before .before .before .before .before .before .before .before .before .before .before .before .before .before .before .before .before .args .entries .now) (c .before .before .before .before .before .before .before .before .before .before .before .before .before .before .before .before .before .before .args .n) (c .before .before .before .before .before .before .before .before .before .before .before .before .before .before .before .before .before .before .pre .1 .1 .0) (c .before .before .before .before .before .before .before .before .before .before .before .before .before .before .before .before .before .before .pre .0) (c .before .before .before .before .before .before .before .before .before .before .before .before .before .before .before .before .before .before .pre .1 .1 .1) (c .before .before .before .before .before .before .before .before .before .before .before .before .before .before .before .before .before .before .args .labels .now) _ _ (c .before .before .before .before .label-by .ensures .0))
-    (c .before .before .before .end-of .ensures) (c .before .before .end-of2 .ensures) (c .before .gap-of .ensures) (ap (λ (k : ℕ). c .before .before .before .before .before .before .before .before .before .before .before .loop .count + k) (c .kept-of .ensures .0))
+loop-again c =
+    let pre = c .before .before .before .before .before .before .before .before .before .before .before .before .before .before .before .before .before .before .before .before .pre in
+    walks-dart (c .before .before .before .before .before .before .before .before .before .before .before .before .before .before .before .before .before .before .before .before .args .starts .now) (c .before .before .before .before .before .before .before .before .before .before .before .before .before .before .before .before .before .before .before .before .args .sizes .now) (c .before .before .before .before .before .before .before .before .before .before .before .before .before .before .before .before .before .before .before .before .args .entries .now) (c .before .before .before .before .before .before .before .before .before .before .before .before .before .before .before .before .before .before .before .before .args .n) (c .before .before .before .before .before .before .before .before .before .before .before .before .before .before .before .before .before .before .before .before .args .labels .now) (c .before .before .before .before .before .before .before .before .before .before .before .before .before .before .loop .inv) (c .before .before .before .before .before .before .before .before .before .before .before .before .before .loop-test .taken) (c .before .before .before .before .before .before .before .before .before .before .before .before .if1 .taken) (pre .0) (pre .1 .0) (pre .1 .1 .0) (c .before .before .before .before .before .before .before .before .before .before .before .num .ensures .0) (c .before .before .before .before .before .before .before .before .before .before .neighbour-of .ensures) refl (c .before .before .before .before .before .before .before .before .label-place .ensures .0) (c .before .before .before .before .before .before .before .before .label-place .ensures .1) (c .before .before .before .before .before .before .before .label-at .ensures .0)
+    (c .before .before .before .before .before .before .end-of .ensures) (c .before .before .before .before .before .end-of2 .ensures) (c .before .before .before .before .gap-of .ensures) (c .before .before .before .end-of3 .ensures) (c .before .before .end-of4 .ensures) (c .before .gap-of2 .ensures) (ap (λ (k : ℕ). c .before .before .before .before .before .before .before .before .before .before .before .before .before .before .loop .count + k) (c .kept-of .ensures .0))
 
 add-u : tie.Need-add-u Inv-loop μ-loop
 add-u c = search needs
 
+add-a : tie.Need-add-a Inv-loop μ-loop
+add-a c = let m = c .before .before .loop .inv .near in let f = c .before .before .loop .inv .few in omega arith
+
+size-of-requires-2 : tie.Need-size-of-requires-2 Inv-loop μ-loop
+size-of-requires-2 c κs = search needs
+
 loop-less-2 : tie.Need-loop-less-2 Inv-loop μ-loop
-loop-less-2 c = let u = c .before .before .loop-test .taken in let w = c .before .before .before .loop .inv .within in let s = c .before .size-of .ensures in let t = c .if1 .left in omega arith
+loop-less-2 c = let u = c .before .before .loop-test .taken in let w = c .before .before .before .loop .inv .x .within in let s = c .before .before .before .loop .inv .size in let f = c .before .before .before .loop .inv .few in let t = c .before .if1 .left in omega arith
 
 loop-again-2 : tie.Need-loop-again-2 Inv-loop μ-loop
-loop-again-2 c = asking-next (c .before .before .before .before .before .before .before .before .before .before .args .sizes .now) (c .before .before .before .before .before .before .before .before .before .before .args .entries .now) (c .before .before .before .before .before .before .before .before .before .before .args .n) (c .before .before .before .before .before .before .before .before .before .before .args .labels .now) (c .before .before .before .before .before .before .before .before .before .before .args .upright) (c .before .before .before .loop .inv) (omega arith) (c .before .before .loop-test .taken) (let s = c .before .size-of .ensures .0 in let t = c .if1 .left in omega arith)
+loop-again-2 c = walks-next (c .before .before .before .before .before .before .before .before .before .args .starts .now) (c .before .before .before .before .before .before .before .before .before .args .sizes .now) (c .before .before .before .before .before .before .before .before .before .args .entries .now) (c .before .before .before .before .before .before .before .before .before .args .n) (c .before .before .before .before .before .before .before .before .before .args .labels .now) (c .before .before .before .loop .inv) (omega arith) refl (c .size-of2 .ensures .0) (c .size-of2 .ensures .1) (c .before .before .loop-test .taken) (c .before .if1 .left) (c .before .before .before .before .before .before .before .before .before .pre .1 .0)
 
 returns : tie.Need-returns Inv-loop μ-loop
-returns c = (asking-end (c .before .before .before .before .before .before .before .before .args .sizes .now) (c .before .before .before .before .before .before .before .before .args .entries .now) (c .before .before .before .before .before .before .before .before .args .n) (c .before .before .before .before .before .before .before .before .args .labels .now) (c .before .before .before .before .before .before .before .before .args .upright) (c .before .loop .inv) (c .loop-test .left), c .before .loop .inv .least)
+returns c = (walks-x (c .before .before .before .before .before .before .before .args .starts .now) (c .before .before .before .before .before .before .before .args .sizes .now) (c .before .before .before .before .before .before .before .args .entries .now) (c .before .before .before .before .before .before .before .args .n) (c .before .before .before .before .before .before .before .args .labels .now) (c .before .loop .inv) (c .loop-test .left), (walks-y (c .before .before .before .before .before .before .before .args .starts .now) (c .before .before .before .before .before .before .before .args .sizes .now) (c .before .before .before .before .before .before .before .args .entries .now) (c .before .before .before .before .before .before .before .args .n) (c .before .before .before .before .before .before .before .args .labels .now) (c .before .loop .inv) (c .loop-test .left), c .before .loop .inv .x .least))
 
 pub asks-of-spec : {M : Type 1} → statement M
 asks-of-spec =
@@ -124,32 +144,43 @@ asks-of-spec =
     (tie.spec
     Inv-loop
     μ-loop
-    tied-to-requires
-    array-write-highs
-    array-write-lows
-    loop-holds
+    element-write-xhighs
+    element-write-xlows
+    element-write-yhighs
+    element-write-ylows
     size-of-requires
-    num-requires
+    loop-holds
     add-num
-    num-requires-2
+    num-requires
     neighbour-of-requires
-    label-by-requires
-    cast-a
-    cast-b
+    label-place-requires
+    label-at-requires
+    cast-s
+    cast-t
     end-of-requires
-    mul-lows
-    array-write-lows-2
+    mul-xlows
+    element-write-xlows-2
     end-of-requires-2
-    mul-highs
-    array-write-highs-2
+    mul-xhighs
+    element-write-xhighs-2
     gap-of-requires
-    array-write-gaps
+    element-write-xgaps
+    end-of-requires-3
+    mul-ylows
+    element-write-ylows-2
+    end-of-requires-4
+    mul-yhighs
+    element-write-yhighs-2
+    gap-of-requires-2
+    element-write-ygaps
     kept-of-requires
     add-count
     add-i
     loop-less
     loop-again
     add-u
+    add-a
+    size-of-requires-2
     loop-less-2
     loop-again-2
     returns)

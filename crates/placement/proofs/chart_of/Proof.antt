@@ -1,42 +1,37 @@
 -- chart_of meets its contract.
-use Rattle.places.proofs.Notes.{filled-zeros}
-use Rattle.placement.proofs.Draw.{drawn-says}
+use mathlib.Core.Path.{sym, ap, _∙_}
+use borrow.Author.Tests.{not-true, not-false}
 use Rattle.placement.specs.declared.Drawn.{Drawn}
 use Rattle.placement.specs.Drawing.{drawnAs}
-use mathlib.Core.Path.{refl, ap, _∙_}
-use native.Mathlib.Omega.{arith}
+use Rattle.placement.proofs.Draw.{chart-out, drawn-says}
 use borrow.Author.Needs.{needs}
 use Rattle.placement.proofs.chart_of.Statement.{statement}
 use Rattle.placement.proofs.chart_of.Tie as tie
-use Rattle.placement.proofs.chart_of.Reads as reads
-use Rattle.placement.proofs.chart_of.Lts as lts
-use Rattle.placement.proofs.chart_from.Reads as chart-from-reads
-use Rattle.rings.proofs.starts_of.Reads as starts-of-reads
+
+is-in-bounds-requires : tie.Need-is-in-bounds-requires
+is-in-bounds-requires c κs = search needs
+
+undrawn-requires : tie.Need-undrawn-requires
+undrawn-requires c κs = search needs
+
+returns : tie.Need-returns
+returns c =
+    let a = c .before .before .before .before .before .before .args in
+    let e = c .undrawn .ensures ∙ chart-out (a .sizes .now) (a .entries .now) (a .n) (a .labels .now) (sym (c .before .before .is-in-bounds .ensures) ∙ not-true _ (c .before .if1 .taken)) in
+    (ap (λ (r : Drawn). drawnAs r (a .n)) e ∙ drawn-says (a .sizes .now) (a .entries .now) (a .n) (a .labels .now), e)
 
 starts-of-requires : tie.Need-starts-of-requires
 starts-of-requires c κs = search needs
 
-slice-aggregate-fill : tie.Need-slice-aggregate-fill
-slice-aggregate-fill c = search needs
-
-slice-aggregate-fill-2 : tie.Need-slice-aggregate-fill-2
-slice-aggregate-fill-2 c = search needs
-
-fill-requires : tie.Need-fill-requires
-fill-requires c κs = search needs
-
 slice-aggregate-chart-from : tie.Need-slice-aggregate-chart-from
 slice-aggregate-chart-from c = search needs
 
-slice-aggregate-chart-from-2 : tie.Need-slice-aggregate-chart-from-2
-slice-aggregate-chart-from-2 c = search needs
-
 chart-from-requires : tie.Need-chart-from-requires
-chart-from-requires c κs = (c .before .before .before .before .before .before .starts-of .ensures, c .before .before .before .fill .ensures ∙ filled-zeros _ refl)
+chart-from-requires c κs = (sym (c .before .before .before .is-in-bounds .ensures) ∙ not-false _ (c .before .before .if1 .left), c .before .starts-of .ensures)
 
-returns : tie.Need-returns
-returns c =
-    let a = c .before .before .before .before .before .before .before .before .before .before .before .args in
+returns-2 : tie.Need-returns-2
+returns-2 c =
+    let a = c .before .before .before .before .before .before .before .before .args in
     let e = c .chart-from .ensures in
     (ap (λ (r : Drawn). drawnAs r (a .n)) e ∙ drawn-says (a .sizes .now) (a .entries .now) (a .n) (a .labels .now), e)
 
@@ -44,11 +39,10 @@ pub chart-of-spec : {M : Type 1} → statement M
 chart-of-spec =
     tie.close
     (tie.spec
+    is-in-bounds-requires
+    undrawn-requires
+    returns
     starts-of-requires
-    slice-aggregate-fill
-    slice-aggregate-fill-2
-    fill-requires
     slice-aggregate-chart-from
-    slice-aggregate-chart-from-2
     chart-from-requires
-    returns)
+    returns-2)

@@ -1,7 +1,8 @@
 -- turn_labels meets its contract.
-use Rattle.places.proofs.Notes.{filled-zeros}
 use mathlib.Core.Path.{refl, sym, _∙_}
 use borrow.Author.Tests.{not-true, not-false}
+use Rattle.places.proofs.Notes.{filled-zeros}
+use Rattle.labels.proofs.Breaks.{rules-own}
 use Rattle.fit.proofs.Fits.{bounds-say}
 use Rattle.turn.specs.Run.{kept}
 use Rattle.turn.proofs.Answers.{answer-unfit, answer-pair, answer-odd, answer-direction, answer-broken, answer-labelled}
@@ -78,29 +79,31 @@ returns-4 c =
     let b = bounds-say (a .sizes .now) (a .n) (sym (c .before .before .before .before .before .before .before .before .before .before .before .before .before .before .before .is-in-bounds .ensures) ∙ not-false _ (c .before .before .before .before .before .before .before .before .before .before .before .before .before .before .if1 .left)) in
     answer-direction (a .sizes .now) (a .entries .now) (a .n) (a .labels) (a .items .now) (a .direction) (b .0) (b .1) (omega arith) (c .before .before .before .before .before .turn-pairs .ensures .0) refl (omega arith) (omega arith) (omega arith) (c .kept4 .ensures)
 
-slice-aggregate-rules-place : tie.Need-slice-aggregate-rules-place
-slice-aggregate-rules-place c = search needs
+slice-aggregate-place-by : tie.Need-slice-aggregate-place-by
+slice-aggregate-place-by c = search needs
 
-rules-place-requires : tie.Need-rules-place-requires
-rules-place-requires c κs = search needs
+place-by-requires : tie.Need-place-by-requires
+place-by-requires c κs = search needs
 
 kept-requires-5 : tie.Need-kept-requires-5
 kept-requires-5 c κs = search needs
 
 returns-5 : tie.Need-returns-5
 returns-5 c =
-    let a = c .before .before .before .before .before .before .before .before .before .before .before .before .before .before .before .before .before .before .before .before .before .before .before .args in
-    let long = c .before .before .before .before .before .before .before .before .before .before .before .before .before .before .before .before .before .before .before .before .before .before .before .good in
-    let b = bounds-say (a .sizes .now) (a .n) (sym (c .before .before .before .before .before .before .before .before .before .before .before .before .before .before .before .before .before .before .before .is-in-bounds .ensures) ∙ not-false _ (c .before .before .before .before .before .before .before .before .before .before .before .before .before .before .before .before .before .before .if1 .left)) in
-    answer-broken (a .sizes .now) (a .entries .now) (a .n) (a .labels) (a .items .now) (a .direction) (b .0) (b .1) (omega arith) (c .before .before .before .before .before .before .before .before .before .turn-pairs .ensures .0) refl (omega arith) (omega arith) (omega arith) (c .before .before .before .before .before .before .before .before .before .before .before .before .quarters-of .ensures .0) (c .before .before .before .before .before .before .before .before .before .turn-pairs .ensures .1) (c .before .before .rules-place .ensures .0) (omega arith) (c .kept5 .ensures)
+    let a = c .before .before .before .before .before .before .before .before .before .before .before .before .before .before .before .before .before .before .before .before .before .before .before .before .before .args in
+    let long = c .before .before .before .before .before .before .before .before .before .before .before .before .before .before .before .before .before .before .before .before .before .before .before .before .before .good in
+    let b = bounds-say (a .sizes .now) (a .n) (sym (c .before .before .before .before .before .before .before .before .before .before .before .before .before .before .before .before .before .before .before .before .before .is-in-bounds .ensures) ∙ not-false _ (c .before .before .before .before .before .before .before .before .before .before .before .before .before .before .before .before .before .before .before .before .if1 .left)) in
+    let own = rules-own _ (a .sizes .now) (a .entries .now) (a .n) (c .before .before .before .before .before .before .before .before .before .before .before .before .before .before .before .before .before .before .before .starts-of .ensures) (b .0) (c .before .before .before .before .before .before .before .before .before .before .before .before .before .before .before .before .fill .ensures ∙ filled-zeros _ refl) (c .before .before .before .before .before .before .before .before .before .before .before .turn-pairs .result .labels) in
+    answer-broken (a .sizes .now) (a .entries .now) (a .n) (a .labels) (a .items .now) (a .direction) (b .0) (b .1) (omega arith) (c .before .before .before .before .before .before .before .before .before .before .before .turn-pairs .ensures .0) refl (omega arith) (omega arith) (omega arith) (c .before .before .before .before .before .before .before .before .before .before .before .before .before .before .quarters-of .ensures .0) (c .before .before .before .before .before .before .before .before .before .before .before .turn-pairs .ensures .1) (c .before .before .place-by .ensures .0 ∙ own) (omega arith) (c .kept5 .ensures)
 
 returns-6 : tie.Need-returns-6
 unfolding kept
 returns-6 c =
-    let a = c .before .before .before .before .before .before .before .before .before .before .before .before .before .before .before .before .before .before .before .before .before .before .args in
-    let long = c .before .before .before .before .before .before .before .before .before .before .before .before .before .before .before .before .before .before .before .before .before .before .good in
-    let b = bounds-say (a .sizes .now) (a .n) (sym (c .before .before .before .before .before .before .before .before .before .before .before .before .before .before .before .before .before .before .is-in-bounds .ensures) ∙ not-false _ (c .before .before .before .before .before .before .before .before .before .before .before .before .before .before .before .before .before .if1 .left)) in
-    answer-labelled (a .sizes .now) (a .entries .now) (a .n) (a .labels) (a .items .now) (a .direction) (b .0) (b .1) (omega arith) (c .before .before .before .before .before .before .before .before .turn-pairs .ensures .0) refl (omega arith) (omega arith) (omega arith) (c .before .before .before .before .before .before .before .before .before .before .before .quarters-of .ensures .0) (c .before .before .before .before .before .before .before .before .turn-pairs .ensures .1) (c .before .rules-place .ensures .0) (omega arith)
+    let a = c .before .before .before .before .before .before .before .before .before .before .before .before .before .before .before .before .before .before .before .before .before .before .before .before .args in
+    let long = c .before .before .before .before .before .before .before .before .before .before .before .before .before .before .before .before .before .before .before .before .before .before .before .before .good in
+    let b = bounds-say (a .sizes .now) (a .n) (sym (c .before .before .before .before .before .before .before .before .before .before .before .before .before .before .before .before .before .before .before .before .is-in-bounds .ensures) ∙ not-false _ (c .before .before .before .before .before .before .before .before .before .before .before .before .before .before .before .before .before .before .before .if1 .left)) in
+    let own = rules-own _ (a .sizes .now) (a .entries .now) (a .n) (c .before .before .before .before .before .before .before .before .before .before .before .before .before .before .before .before .before .before .starts-of .ensures) (b .0) (c .before .before .before .before .before .before .before .before .before .before .before .before .before .before .before .fill .ensures ∙ filled-zeros _ refl) (c .before .before .before .before .before .before .before .before .before .before .turn-pairs .result .labels) in
+    answer-labelled (a .sizes .now) (a .entries .now) (a .n) (a .labels) (a .items .now) (a .direction) (b .0) (b .1) (omega arith) (c .before .before .before .before .before .before .before .before .before .before .turn-pairs .ensures .0) refl (omega arith) (omega arith) (omega arith) (c .before .before .before .before .before .before .before .before .before .before .before .before .before .quarters-of .ensures .0) (c .before .before .before .before .before .before .before .before .before .before .turn-pairs .ensures .1) (c .before .place-by .ensures .0 ∙ own) (omega arith)
 
 pub turn-labels-spec : {M : Type 1} → statement M
 turn-labels-spec =
@@ -123,8 +126,8 @@ turn-labels-spec =
     returns-3
     kept-requires-4
     returns-4
-    slice-aggregate-rules-place
-    rules-place-requires
+    slice-aggregate-place-by
+    place-by-requires
     kept-requires-5
     returns-5
     returns-6)

@@ -1,6 +1,4 @@
 -- rules::bad_dart meets its contract.
-use Rattle.rings.specs.Tables.{table}
-use Rattle.labels.proofs.Places.{label-told}
 use Rattle.labels.proofs.Breaks.{dart-border, dart-high, dart-inner}
 use native.Mathlib.Omega.{arith}
 use borrow.Author.Needs.{needs}
@@ -14,20 +12,10 @@ both-border-requires : tie.Need-both-border-requires
 both-border-requires c κs = search needs
 
 returns : tie.Need-returns
-returns c =
-    let a = c .before .before .before .before .before .before .before .before .args in
-    let p = table (a .sizes .now) (a .entries .now) (a .n) in
-    let k = c .before .before .before .before .before .before .before .before .pre in
-    let told = label-told (a .starts .now) (a .sizes .now) (a .entries .now) (a .n) (k .0) (k .1 .0) (k .1 .1) (a .labels .now) in
-    dart-border p (a .labels .now) (a .u) (a .v) (c .before .both-border .ensures) (told (a .u) (a .v) _ (c .before .before .label-by .ensures .0)) (c .if1 .taken)
+returns c = dart-border (c .before .before .before .before .args .places .now) (c .before .before .before .before .args .starts .now) (c .before .before .before .before .args .labels .now) (c .before .before .before .before .args .u) (c .before .before .before .before .args .v) (c .before .both-border .ensures) (c .before .before .label-by .ensures .0) (c .if1 .taken)
 
 returns-2 : tie.Need-returns-2
-returns-2 c =
-    let a = c .before .before .before .before .before .before .before .before .before .args in
-    let p = table (a .sizes .now) (a .entries .now) (a .n) in
-    let k = c .before .before .before .before .before .before .before .before .before .pre in
-    let told = label-told (a .starts .now) (a .sizes .now) (a .entries .now) (a .n) (k .0) (k .1 .0) (k .1 .1) (a .labels .now) in
-    dart-high p (a .labels .now) (a .u) (a .v) (c .before .before .both-border .ensures) (told (a .u) (a .v) _ (c .before .before .before .label-by .ensures .0)) (c .before .if1 .left) (omega arith)
+returns-2 c = dart-high (c .before .before .before .before .before .args .places .now) (c .before .before .before .before .before .args .starts .now) (c .before .before .before .before .before .args .labels .now) (c .before .before .before .before .before .args .u) (c .before .before .before .before .before .args .v) (c .before .before .both-border .ensures) (c .before .before .before .label-by .ensures .0) (c .before .if1 .left) (omega arith)
 
 label-by-requires-2 : tie.Need-label-by-requires-2
 label-by-requires-2 c κs = search needs
@@ -36,12 +24,7 @@ add-result : tie.Need-add-result
 add-result c = search needs
 
 returns-3 : tie.Need-returns-3
-returns-3 c =
-    let a = c .before .before .before .before .before .before .before .before .before .before .args in
-    let p = table (a .sizes .now) (a .entries .now) (a .n) in
-    let k = c .before .before .before .before .before .before .before .before .before .before .pre in
-    let told = label-told (a .starts .now) (a .sizes .now) (a .entries .now) (a .n) (k .0) (k .1 .0) (k .1 .1) (a .labels .now) in
-    dart-inner p (a .labels .now) (a .u) (a .v) (c .before .before .before .both-border .ensures) (told (a .u) (a .v) _ (c .before .before .before .before .label-by .ensures .0)) (told (a .v) (a .u) _ (c .label-by2 .ensures .0)) (c .before .before .if1 .left) (omega arith)
+returns-3 c = dart-inner (c .before .before .before .before .before .before .args .places .now) (c .before .before .before .before .before .before .args .starts .now) (c .before .before .before .before .before .before .args .labels .now) (c .before .before .before .before .before .before .args .u) (c .before .before .before .before .before .before .args .v) (c .before .before .before .both-border .ensures) (c .before .before .before .before .label-by .ensures .0) (c .label-by2 .ensures .0) (c .before .before .if1 .left) (omega arith)
 
 pub bad-dart-spec : {M : Type 1} → statement M
 bad-dart-spec =

@@ -1,36 +1,27 @@
 -- rules::not_dues meets its contract.
 use mathlib.Core.Path.{refl, sym, ap, _∙_}
 use Prim.Native.Nat.{ℕ, _-_}
+use Rattle.lists.proofs.Tests.{any-map}
 use Rattle.lists.proofs.Loops.{Sees, sees-start, sees-hit, sees-on, sees-end}
+use Rattle.lists.specs.Spans.{span}
 use Rattle.model.specs.Plan.{neighbour}
-use Rattle.model.specs.Labels.{notDue}
-use Rattle.rings.specs.Tables.{table}
-use Rattle.labels.proofs.Places.{ring-any}
+use Rattle.labels.specs.LabelBy.{notDueBy}
 use native.Mathlib.Omega.{arith}
 use borrow.Author.Needs.{needs}
 use Rattle.labels.proofs.rules.not_dues.Statement.{statement}
 use Rattle.labels.proofs.rules.not_dues.Tie as tie
 
 abbrev Inv-loop : tie.InvT-loop
-Inv-loop places starts sizes entries n labels u i₀ e i = Sees (λ (x : ℕ). notDue (table sizes entries n) labels u (neighbour x)) entries i₀ e i
+Inv-loop places starts entries labels u a e i₀ i = Sees (λ (x : ℕ). notDueBy places starts labels u (neighbour x)) entries a e i
 
 abbrev μ-loop : tie.MeasureT-loop
-μ-loop places starts sizes entries n labels u i₀ e i = e - i
-
-num-requires : tie.Need-num-requires Inv-loop μ-loop
-num-requires c κs = search needs
-
-size-of-requires : tie.Need-size-of-requires Inv-loop μ-loop
-size-of-requires c κs = search needs
-
-add-e : tie.Need-add-e Inv-loop μ-loop
-add-e c = search needs
+μ-loop places starts entries labels u a e i₀ i = e - i
 
 loop-holds : tie.Need-loop-holds Inv-loop μ-loop
 loop-holds c = sees-start
 
-num-requires-2 : tie.Need-num-requires-2 Inv-loop μ-loop
-num-requires-2 c κs = search needs
+num-requires : tie.Need-num-requires Inv-loop μ-loop
+num-requires c κs = search needs
 
 neighbour-of-requires : tie.Need-neighbour-of-requires Inv-loop μ-loop
 neighbour-of-requires c κs = search needs
@@ -40,11 +31,8 @@ not-due-requires c κs = search needs
 
 returns : tie.Need-returns Inv-loop μ-loop
 returns c =
-    let pre = c .before .before .before .before .before .before .before .before .before .before .before .before .before .pre in
-    let a = c .before .before .before .before .before .before .before .before .before .before .before .before .before .args in
-    let p = table (a .sizes .now) (a .entries .now) (a .n) in
-    sees-hit (c .before .before .before .before .before .loop .inv) (omega arith) (ap (notDue p (a .labels .now) (a .u)) (sym (c .before .before .neighbour-of .ensures ∙ ap neighbour (c .before .before .before .num2 .ensures .0))) ∙ sym (c .before .not-due .ensures) ∙ c .if1 .taken)
-    ∙ ring-any (a .starts .now) (a .sizes .now) (a .entries .now) (a .n) (pre .0) (pre .1 .0) (a .u) (c .before .before .before .before .before .before .before .num .ensures .0) (c .before .before .before .before .before .before .size-of .ensures .0) (notDue p (a .labels .now) (a .u))
+    sees-hit (c .before .before .before .before .before .loop .inv) (omega arith) (ap (notDueBy (c .before .before .before .before .before .before .before .before .args .places .now) (c .before .before .before .before .before .before .before .before .args .starts .now) (c .before .before .before .before .before .before .before .before .args .labels .now) (c .before .before .before .before .before .before .before .before .args .u)) (sym (c .before .before .neighbour-of .ensures ∙ ap neighbour (c .before .before .before .num .ensures .0))) ∙ sym (c .before .not-due .ensures) ∙ c .if1 .taken)
+    ∙ any-map (notDueBy (c .before .before .before .before .before .before .before .before .args .places .now) (c .before .before .before .before .before .before .before .before .args .starts .now) (c .before .before .before .before .before .before .before .before .args .labels .now) (c .before .before .before .before .before .before .before .before .args .u)) neighbour (span (c .before .before .before .before .before .before .before .before .args .entries .now) (c .before .before .before .before .before .before .before .before .args .a) (c .before .before .before .before .before .before .before .before .args .e))
 
 add-i : tie.Need-add-i Inv-loop μ-loop
 add-i c = search needs
@@ -53,18 +41,12 @@ loop-less : tie.Need-loop-less Inv-loop μ-loop
 loop-less c = search needs
 
 loop-again : tie.Need-loop-again Inv-loop μ-loop
-loop-again c =
-    let a = c .before .before .before .before .before .before .before .before .before .before .before .before .before .args in
-    let p = table (a .sizes .now) (a .entries .now) (a .n) in
-    sees-on (c .before .before .before .before .before .loop .inv) refl (omega arith) (ap (notDue p (a .labels .now) (a .u)) (sym (c .before .before .neighbour-of .ensures ∙ ap neighbour (c .before .before .before .num2 .ensures .0))) ∙ sym (c .before .not-due .ensures) ∙ c .if1 .left)
+loop-again c = sees-on (c .before .before .before .before .before .loop .inv) refl (omega arith) (ap (notDueBy (c .before .before .before .before .before .before .before .before .args .places .now) (c .before .before .before .before .before .before .before .before .args .starts .now) (c .before .before .before .before .before .before .before .before .args .labels .now) (c .before .before .before .before .before .before .before .before .args .u)) (sym (c .before .before .neighbour-of .ensures ∙ ap neighbour (c .before .before .before .num .ensures .0))) ∙ sym (c .before .not-due .ensures) ∙ c .if1 .left)
 
 returns-2 : tie.Need-returns-2 Inv-loop μ-loop
 returns-2 c =
-    let pre = c .before .before .before .before .before .before .before .before .before .pre in
-    let a = c .before .before .before .before .before .before .before .before .before .args in
-    let p = table (a .sizes .now) (a .entries .now) (a .n) in
     sees-end (c .before .loop .inv) (omega arith)
-    ∙ ring-any (a .starts .now) (a .sizes .now) (a .entries .now) (a .n) (pre .0) (pre .1 .0) (a .u) (c .before .before .before .num .ensures .0) (c .before .before .size-of .ensures .0) (notDue p (a .labels .now) (a .u))
+    ∙ any-map (notDueBy (c .before .before .before .before .args .places .now) (c .before .before .before .before .args .starts .now) (c .before .before .before .before .args .labels .now) (c .before .before .before .before .args .u)) neighbour (span (c .before .before .before .before .args .entries .now) (c .before .before .before .before .args .a) (c .before .before .before .before .args .e))
 
 pub not-dues-spec : {M : Type 1} → statement M
 not-dues-spec =
@@ -72,11 +54,8 @@ not-dues-spec =
     (tie.spec
     Inv-loop
     μ-loop
-    num-requires
-    size-of-requires
-    add-e
     loop-holds
-    num-requires-2
+    num-requires
     neighbour-of-requires
     not-due-requires
     returns

@@ -1,9 +1,10 @@
 -- rules::rules_place meets its contract.
-use Rattle.places.proofs.Notes.{filled-zeros}
 use mathlib.Core.Path.{_∙_, refl}
 use Rattle.lists.specs.Ranges.{lowest}
 use Rattle.model.specs.Labels.{breaks}
 use Rattle.rings.specs.Tables.{table, held}
+use Rattle.places.proofs.Notes.{filled-zeros}
+use Rattle.labels.proofs.Breaks.{rules-own}
 use native.Mathlib.Omega.{arith}
 use borrow.Author.Needs.{needs}
 use Rattle.labels.proofs.rules.rules_place.Statement.{statement}
@@ -24,21 +25,16 @@ slice-aggregate-fill-2 c = search needs
 fill-requires : tie.Need-fill-requires
 fill-requires c κs = search needs
 
-slice-aggregate-place-in : tie.Need-slice-aggregate-place-in
-slice-aggregate-place-in c = search needs
-
-slice-aggregate-place-in-2 : tie.Need-slice-aggregate-place-in-2
-slice-aggregate-place-in-2 c = search needs
-
-place-in-requires : tie.Need-place-in-requires
-place-in-requires c κs = (c .before .before .before .before .before .before .before .starts-of .ensures, ((let m = c .before .before .before .before .before .before .lesser .ensures in omega arith), c .before .before .before .fill .ensures ∙ filled-zeros _ refl))
+place-by-requires : tie.Need-place-by-requires
+place-by-requires c κs = search needs
 
 returns : tie.Need-returns
 unfolding held
 returns c =
     let a = c .before .before .before .before .before .before .before .before .before .before .before .before .args in
     let m = c .before .before .before .before .before .before .before .lesser .ensures in
-    (c .place-in .ensures .0 ∙ (λ i. lowest (breaks (table (a .sizes .now) (a .entries .now) (m i)) (a .labels .now)) (m i)), omega arith)
+    let own = rules-own (c .before .before .before .before .before .before .before .before .starts-of .result) (a .sizes .now) (a .entries .now) (c .before .before .before .before .before .before .before .lesser .result) (c .before .before .before .before .before .before .before .before .starts-of .ensures) (omega arith) (c .before .before .before .before .fill .ensures ∙ filled-zeros _ refl) (a .labels .now) in
+    (c .place-by .ensures .0 ∙ own ∙ (λ i. lowest (breaks (table (a .sizes .now) (a .entries .now) (m i)) (a .labels .now)) (m i)), omega arith)
 
 pub rules-place-spec : {M : Type 1} → statement M
 rules-place-spec =
@@ -49,7 +45,5 @@ rules-place-spec =
     slice-aggregate-fill
     slice-aggregate-fill-2
     fill-requires
-    slice-aggregate-place-in
-    slice-aggregate-place-in-2
-    place-in-requires
+    place-by-requires
     returns)

@@ -1,11 +1,7 @@
-// An order for the first pass over the constraints. Any order is right; in this one each constraint comes after those on its lower number, so that where constraints make no circle one pass settles all numbers.
+// The first pass: numbers raised from 0 in an order in which each constraint comes after those on its lower number, so that where constraints make no circle one pass settles all numbers. Any order is right.
 ghost use Prim.Native.Nat.{_+_, _<_, _≤_, _^_};
-
-// The constraints in order, as many as len says; those that wait for a circle are not among them.
-pub(crate) struct Order {
-    pub len: usize,
-    pub list: [u16; 1188],
-}
+ghost use Rattle.solver.specs.Constraints.{listed};
+ghost use Rattle.solver.specs.Relaxing.{Raised};
 
 // Chains the first count constraints by their lower numbers: `first` gets one more than the first constraint from each number, `next` one more than the constraint after each, `waits` how many constraints are on each number.
 fn chain<'a>(
@@ -41,14 +37,12 @@ fn line_up(queue: &mut [u16], waits: &[u16], n: usize) -> usize
     queued
 }
 
-// Puts constraint k at a place of the order: its higher number waits for one less, and joins the queue where that was the last. How many are queued then.
-fn take<'a>(
-    list: &mut [u16],
+// Lets the higher number of constraint k wait for one less: it joins the queue where that was the last. How many are queued then.
+fn release<'a>(
     waits: &mut [u16],
     queue: &mut [u16],
     highs: &'a [u16],
     k: usize,
-    at: usize,
     queued: usize,
 ) -> usize
     requires { ⌜ queued < 2 ^ 32 ⌝ }
@@ -56,67 +50,86 @@ fn take<'a>(
 {
     let high = lists::num(highs, k);
     let wait = lists::minus(lists::num(waits, high), 1);
-    lists::set_word(list, at, (k % 65536) as u16);
     lists::set_word(waits, high, wait as u16);
     lists::set_word(queue, queued, (high % 65536) as u16);
     queued + lists::minus(1, wait)
 }
 
-// Puts constraints in order, in so many steps at most: a number is taken from the queue, its constraints come next, and a number that no constraint waits for any more joins the queue. How many constraints are in order then.
+// Takes constraints in so many steps at most: a number comes from the queue, its constraints are taken, and a number that no constraint waits for any more joins the queue.
 fn follow<'a>(
-    list: &mut [u16],
+    at: &mut [u16],
     waits: &mut [u16],
     queue: &mut [u16],
     first: &'a [u16],
     next: &'a [u16],
+    n: usize,
+    count: usize,
+    lows: &'a [u16],
     highs: &'a [u16],
+    gaps: &'a [u8],
     ready: usize,
     steps: usize,
-) -> usize
+)
+    requires { ⌜ n ≤ 200 ⌝ }
     requires { ⌜ ready ≤ 200 ⌝ }
     requires { ⌜ steps ≤ 1388 ⌝ }
+    requires { ⌜ Raised n (listed (now lows) (now highs) (now gaps) count) (now at) ⌝ }
+    ensures { λ r. ⌜ Raised n (listed (now (lows .entry)) (now (highs .entry)) (now (gaps .entry)) count) (now (at .exit)) ⌝ }
 {
     let mut queued = ready;
-    let mut len = 0;
     let mut done = 0;
     let mut k = 0;
     let mut left = steps;
     while left > 0 {
         left -= 1;
         if k > 0 {
-            queued = take(list, waits, queue, highs, k - 1, len, queued);
-            len += 1;
+            crate::raise(at, n, count, lows, highs, gaps, k - 1);
+            queued = release(waits, queue, highs, k - 1, queued);
             k = lists::num(next, k - 1);
         } else {
             if done >= queued {
-                return len;
+                return;
             }
             k = lists::num(first, lists::num(queue, done));
             done += 1;
         }
     }
-    len
 }
 
-// The order of the first constraints, at most 1,188.
-pub(crate) fn order_of<'a>(n: usize, count: usize, lows: &'a [u16], highs: &'a [u16]) -> Order {
+// The numbers that the first pass raises. The first two constraints, a tie, wait for each other, and are taken last.
+pub(crate) fn first_pass<'a>(
+    n: usize,
+    count: usize,
+    lows: &'a [u16],
+    highs: &'a [u16],
+    gaps: &'a [u8],
+) -> [u16; 200]
+    requires { ⌜ n ≤ 200 ⌝ }
+    ensures { λ r. ⌜ Raised n (listed (now (lows .entry)) (now (highs .entry)) (now (gaps .entry)) count) r ⌝ }
+{
     let m = lists::lesser(count, 1188);
     let mut first = [0u16; 200];
     let mut next = [0u16; 1188];
     let mut waits = [0u16; 200];
     chain(&mut first, &mut next, &mut waits, m, lows, highs);
     let mut queue = [0u16; 200];
-    let queued = line_up(&mut queue, &waits, lists::lesser(n, 200));
-    let mut list = [0u16; 1188];
-    let len = follow(
-        &mut list,
+    let ready = line_up(&mut queue, &waits, n);
+    let mut at = [0u16; 200];
+    follow(
+        &mut at,
         &mut waits,
         &mut queue,
         &first,
         &next,
+        n,
+        count,
+        lows,
         highs,
-        queued,
+        gaps,
+        ready,
         m + 200,
     );
-    Order { len, list }
+    crate::raise(&mut at, n, count, lows, highs, gaps, 0);
+    crate::raise(&mut at, n, count, lows, highs, gaps, 1);
+    at
 }

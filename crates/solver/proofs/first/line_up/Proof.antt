@@ -1,11 +1,11 @@
--- order::line_up is safe and ends.
+-- first::line_up is safe and ends.
 use mathlib.Core.Path.{_≡_}
 use Prim.Native.Nat.{_-_, _≤_}
 use lib.ListN.{length}
 use native.Mathlib.Omega.{arith}
 use borrow.Author.Needs.{needs}
-use Rattle.solver.proofs.order.line_up.Statement.{statement}
-use Rattle.solver.proofs.order.line_up.Tie as tie
+use Rattle.solver.proofs.first.line_up.Statement.{statement}
+use Rattle.solver.proofs.first.line_up.Tie as tie
 
 abbrev Inv-loop : tie.InvT-loop
 Inv-loop queue₀ waits n queued₀ u₀ queue queued u = (u ≤ n) × (queued ≤ u) × (length queue ≡ length queue₀)

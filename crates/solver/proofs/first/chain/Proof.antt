@@ -1,10 +1,10 @@
--- order::chain is safe and ends.
+-- first::chain is safe and ends.
 use mathlib.Core.Path.{_≡_}
 use lib.ListN.{length}
 use native.Mathlib.Omega.{arith}
 use borrow.Author.Needs.{needs}
-use Rattle.solver.proofs.order.chain.Statement.{statement}
-use Rattle.solver.proofs.order.chain.Tie as tie
+use Rattle.solver.proofs.first.chain.Statement.{statement}
+use Rattle.solver.proofs.first.chain.Tie as tie
 
 abbrev Inv-loop : tie.InvT-loop
 Inv-loop first₀ next₀ waits₀ count lows highs k₀ first next waits k = (length first ≡ length first₀) × (length next ≡ length next₀) × (length waits ≡ length waits₀)
