@@ -2,20 +2,22 @@
 use Prim.Native.Nat.{ℕ, zero, suc, _+_, _-_, _≤_, _<_}
 use mathlib.Core.Path.{_≡_, refl, sym, ap, _∙_, subst}
 use mathlib.Core.List.{List, [], _∷_, _++_, map, List·Memᴰ}
-use mathlib.Core.Bool.{Bool, true, false, cond, not, _&&_, _||_, and-true}
+use mathlib.Core.Bool.{Bool, true, false, cond, not, _&&_, _||_, and-true, or-true, true≢false}
 use mathlib.Core.Option.{Option, none, some}
 use native.Mathlib.Omega.{arith}
 use lib.Dec.{eqb, ltb}
-use borrow.Author.Tests.{ltb-true, ltb-false, lt-ltb, le-ltb, eq-eqb, ne-eqb}
+use borrow.Author.Tests.{ltb-true, ltb-false, lt-ltb, le-ltb, eqb-true, eq-eqb, ne-eqb, not-true}
 use Rattle.lists.proofs.Bools.{and-yes}
 use Rattle.lists.specs.Ranges.{from, firstFrom, lowest}
 use Rattle.lists.specs.Parts.{concat}
 use Rattle.lists.proofs.Ranges.{FirstOf, first-found, none-first}
 use Rattle.model.proofs.Plans.{adjacent-mem}
-use Rattle.model.specs.Plan.{Plan, count, ring, adjacent, step, outer, closes, walk, onInnerFace}
+use Rattle.model.specs.Plan.{Plan, count, ring, adjacent, next, step, outer, closes, walk, onInnerFace}
 use Rattle.model.specs.Scan.{Triple, after, triples, innerFace, enclosing, firstEnclosing, scan}
 use Rattle.faces.proofs.Flags.{flag-yes, flag-no, not-flag-yes, not-flag-no}
-use Rattle.faces.specs.Scanned.{thirdFor, secondFor, firstFor}
+use Rattle.faces.specs.Scanned.{apartBy, faceBy, harmless, thirdFor, secondFor, firstFor}
+use Rattle.followers.specs.Followers.{tabled, followersOf, told, closesBy}
+use Rattle.followers.proofs.Tells.{told-none, told-next, told-closes, closes-byte}
 
 abbrev triple : ℕ → ℕ → ℕ → Triple
 triple a b c = (a, b, c)
@@ -86,6 +88,91 @@ module _ (p : Plan) (a b c : ℕ) where
     pub face-acb : {s t : Bool} → s ≡ innerFace p a b c → s ≡ false → t ≡ innerFace p a c b → not t ≡ enclosing p (a, b, c)
     unfolding enclosing
     face-acb e h f = rw (not-flag-no ab ab-yes, not-flag-no ac ac-yes, not-flag-no bc bc-yes, flag-no e h) (ap not f)
+
+-- ---- by a table of followers, test by test
+module _ (t : List ℕ) where
+  -- there is no cell for the ring, none for the entry; the cell
+  pub apart-high : (a c : ℕ) → 200 ≤ a → false ≡ apartBy t a c
+  unfolding apartBy
+  apart-high a c h = sym (rw (le-ltb a 200 h))
+
+  pub apart-wide : (a c : ℕ) → a < 200 → 200 ≤ c → false ≡ apartBy t a c
+  unfolding apartBy
+  apart-wide a c h k = sym (rw (lt-ltb a 200 h, le-ltb c 200 k))
+
+  pub apart-cell : (a c : ℕ) {x : ℕ} → a < 200 → c < 200 → x ≡ told t a c → eqb x 0 ≡ apartBy t a c
+  unfolding apartBy
+  apart-cell a c h k e = ap (λ (x : ℕ). eqb x 0) e ∙ sym (rw (lt-ltb a 200 h, lt-ltb c 200 k))
+
+  -- the third context is another, the dart is outer, the dart comes back or not
+  module _ (a b c : ℕ) {x : ℕ} (third-is : x ≡ told t b a - 1) where
+    pub face-other : (x ≡ c → ⊥) → false ≡ faceBy t a b c
+    unfolding faceBy
+    face-other h = sym (rw (ne-eqb (told t b a - 1) c (λ q. h (third-is ∙ q))))
+
+    pub face-outer : {o : Bool} → x ≡ c → o ≡ outer (a, b) → o ≡ true → false ≡ faceBy t a b c
+    unfolding faceBy
+    face-outer h e q = sym (rw (eq-eqb (told t b a - 1) c (sym third-is ∙ h), flag-yes e q))
+
+    pub face-closes : {o r : Bool} → x ≡ c → o ≡ outer (a, b) → o ≡ false → r ≡ closesBy t a b → r ≡ faceBy t a b c
+    unfolding faceBy
+    face-closes h e q f = f ∙ sym (rw (eq-eqb (told t b a - 1) c (sym third-is ∙ h), flag-no e q))
+
+  -- the first of the three that holds, or the last
+  module _ (a b c : ℕ) {x : Bool} (first : x ≡ apartBy t a c) where
+    pub harmless-apart : x ≡ true → true ≡ harmless t a b c
+    unfolding harmless
+    harmless-apart h = sym (rw (flag-yes first h))
+
+    module _ (no : x ≡ false) {y : Bool} (second : y ≡ faceBy t a b c) where
+      pub harmless-face : y ≡ true → true ≡ harmless t a b c
+      unfolding harmless
+      harmless-face h = sym (rw (flag-no first no, flag-yes second h))
+
+      pub harmless-back : {z : Bool} → y ≡ false → z ≡ faceBy t a c b → z ≡ harmless t a b c
+      unfolding harmless
+      harmless-back h e = e ∙ sym (rw (flag-no first no, flag-no second h))
+
+-- ---- what the plan's own table tells of a triple holds
+no-face : (ab ac bc f g : Bool) → (f || g) ≡ true → Encloses ab ac bc f g ≡ false
+no-face true true true f g e = ap not e
+no-face true true false f g e = refl
+no-face true false bc f g e = refl
+no-face false ac bc f g e = refl
+
+module _ (p : Plan) {t : List ℕ} (own : t ≡ followersOf p) where
+  -- the walk is an inner face, where a lists b
+  face-so : (a b c : ℕ) → faceBy t a b c ≡ true → adjacent p a b ≡ true → innerFace p a b c ≡ true
+  unfolding faceBy step
+  face-so a b c e near =
+      let w = told t b a in
+      let (xy, back) = and-yes (eqb (w - 1) c && not (outer (a, b))) (closesBy t a b) e in
+      let (x, y) = and-yes (eqb (w - 1) c) (not (outer (a, b))) xy in
+      let (marked, room) = closes-byte t a b back in
+      let one : w ≡ suc (w - 1) = omega arith in
+      let third-is : next a (ring p b) ≡ c = told-next p own b a (w - 1) one (λ q. room (one ∙ q)) ∙ eqb-true (w - 1) c x in
+      sym (inner-closes p a b c {w = next a (ring p b)} {j = true} refl third-is refl (not-true (outer (a, b)) y) (sym near) refl (sym (told-closes p own a b back)))
+
+  -- so a harmless triple does not enclose
+  pub harmless-so : (a b c : ℕ) → harmless t a b c ≡ true → enclosing p (a, b, c) ≡ false
+  unfolding harmless enclosing apartBy
+  harmless-so a b c e = go (apartBy t a c) (faceBy t a b c) (adjacent p a b) (adjacent p a c) refl refl refl refl e
+    where
+      f : Bool
+      f = innerFace p a b c
+
+      g : Bool
+      g = innerFace p a c b
+
+      go : (x y j k : Bool) → apartBy t a c ≡ x → faceBy t a b c ≡ y → adjacent p a b ≡ j → adjacent p a c ≡ k → (x || y || faceBy t a c b) ≡ true → Encloses (adjacent p a b) (adjacent p a c) (adjacent p b c) f g ≡ false
+      go x y false k ex ey ej ek e = rw ej
+      go x y true false ex ey ej ek e = rw (ej, ek)
+      go true y true true ex ey ej ek e =
+          let (cells, z) = and-yes (tabled a c) (eqb (told t a c) 0) ex in
+          let (l, m) = and-yes (ltb a 200) (ltb c 200) cells in
+          absurd (true≢false (sym ek ∙ told-none p own a c (ltb-true a 200 l) (ltb-true c 200 m) (eqb-true (told t a c) 0 z)))
+      go false true true true ex ey ej ek e = no-face (adjacent p a b) (adjacent p a c) (adjacent p b c) f g (rw (face-so a b c ey ej))
+      go false false true true ex ey ej ek e = no-face (adjacent p a b) (adjacent p a c) (adjacent p b c) f g (rw (face-so a c b e ek) (or-true f))
 
 -- what encloses with a and b is a neighbour of b
 pub enclosing-near : (p : Plan) (a b c : ℕ) → enclosing p (a, b, c) ≡ true → adjacent p b c ≡ true

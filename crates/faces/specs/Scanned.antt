@@ -1,12 +1,14 @@
 -- What a scan says in 01's words, and the search for the smallest triple context by context.
 use Prim.Native.Nat.{ℕ, suc, _-_}
-use mathlib.Core.Bool.{Bool, cond, _&&_}
+use mathlib.Core.List.{List}
+use mathlib.Core.Bool.{Bool, cond, not, _&&_, _||_}
 use mathlib.Core.Option.{Option, none, some}
-use lib.Dec.{ltb}
+use lib.Dec.{eqb, ltb}
 use Rattle.lists.specs.Ranges.{firstFrom, lowest}
-use Rattle.model.specs.Plan.{Plan}
+use Rattle.model.specs.Plan.{Plan, outer}
 use Rattle.model.specs.Scan.{enclosing}
 use Rattle.model.specs.Scan as model
+use Rattle.followers.specs.Followers.{tabled, told, closesBy}
 use Rattle.faces.specs.declared.Scanned.{Scanned}
 use Rattle.faces.specs.declared.Scanned.the-variants.{Triple, Nothing}
 
@@ -14,6 +16,18 @@ use Rattle.faces.specs.declared.Scanned.the-variants.{Triple, Nothing}
 unfoldable pub scannedAs : Scanned → Option model.Triple
 scannedAs (Triple a b c) = some (a, b, c)
 scannedAs Nothing = none
+
+-- by a table of followers, a does not list c
+unfoldable pub apartBy : List ℕ → ℕ → ℕ → Bool
+apartBy t a c = tabled a c && eqb (told t a c) 0
+
+-- by a table of followers, the walk a, b, c is an inner face
+unfoldable pub faceBy : List ℕ → ℕ → ℕ → ℕ → Bool
+faceBy t a b c = eqb (told t b a - 1) c && not (outer (a, b)) && closesBy t a b
+
+-- by a table of followers, a, b, c do not enclose: a does not list c, or they are an inner face, walked either way
+unfoldable pub harmless : List ℕ → ℕ → ℕ → ℕ → Bool
+harmless t a b c = apartBy t a c || faceBy t a b c || faceBy t a c b
 
 -- c, if it lies above b and below the best so far and passes; else the best so far
 unfoldable pub nearer : (ℕ → Bool) → ℕ → ℕ → ℕ → ℕ

@@ -1,11 +1,10 @@
-// Faces over flat arrays: the face step, the outer darts, the places of plan rules 8 and 9, and the scan. Entries are found by a table of positions.
+// Faces over flat arrays: the face step, the outer darts, the places of plan rules 8 and 9, and the scan.
 ghost use mathlib.Core.Path.{_≡_};
 ghost use mathlib.Core.Bool.{not, _||_};
 ghost use Prim.Native.Nat.{_<_};
 ghost use Rattle.lists.specs.Ranges.{lowest};
 ghost use Rattle.model.specs.Plan.{step, outer, closes, badBorder, badFace};
 ghost use Rattle.rings.specs.Tables.{rows};
-ghost use Rattle.places.specs.Places.{placesOf};
 
 pub mod scan;
 
@@ -27,7 +26,6 @@ pub fn is_outer(u: usize, v: usize) -> bool
 
 // The context after v on the face of the dart from u to v.
 fn third_of<'a>(
-    places: &'a [u8],
     starts: &'a [u16],
     sizes: &'a [u8],
     entries: &'a [u16],
@@ -35,15 +33,13 @@ fn third_of<'a>(
     u: usize,
     v: usize,
 ) -> usize
-    requires { ⌜ now places ≡ placesOf (rows (now starts) (now sizes) (now entries) n) ⌝ }
     ensures { λ r. ⌜ r ≡ step (rows (now (starts .entry)) (now (sizes .entry)) (now (entries .entry)) n) (u, v) .1 ⌝ }
 {
-    places::next_by(places, starts, sizes, entries, n, v, u)
+    rings::next_of(starts, sizes, entries, n, v, u)
 }
 
 // Does the dart from u to v come back to itself after three face steps?
 fn closes<'a>(
-    places: &'a [u8],
     starts: &'a [u16],
     sizes: &'a [u8],
     entries: &'a [u16],
@@ -51,13 +47,12 @@ fn closes<'a>(
     u: usize,
     v: usize,
 ) -> bool
-    requires { ⌜ now places ≡ placesOf (rows (now starts) (now sizes) (now entries) n) ⌝ }
     ensures { λ r. ⌜ r ≡ closes (rows (now (starts .entry)) (now (sizes .entry)) (now (entries .entry)) n) (u, v) ⌝ }
 {
-    let w = third_of(places, starts, sizes, entries, n, u, v);
-    let x = third_of(places, starts, sizes, entries, n, v, w);
+    let w = third_of(starts, sizes, entries, n, u, v);
+    let x = third_of(starts, sizes, entries, n, v, w);
     if x == u {
-        return third_of(places, starts, sizes, entries, n, w, x) == v;
+        return third_of(starts, sizes, entries, n, w, x) == v;
     }
     false
 }
@@ -102,7 +97,6 @@ pub fn rule8_place<'a>(starts: &'a [u16], sizes: &'a [u8], entries: &'a [u16], n
 
 // Does the dart from u to v break rule 9: it is not outer and does not come back to itself?
 fn bad_dart<'a>(
-    places: &'a [u8],
     starts: &'a [u16],
     sizes: &'a [u8],
     entries: &'a [u16],
@@ -110,32 +104,23 @@ fn bad_dart<'a>(
     u: usize,
     v: usize,
 ) -> bool
-    requires { ⌜ now places ≡ placesOf (rows (now starts) (now sizes) (now entries) n) ⌝ }
     ensures { λ r. ⌜ r ≡ not (outer (u, v) || closes (rows (now (starts .entry)) (now (sizes .entry)) (now (entries .entry)) n) (u, v)) ⌝ }
 {
     if is_outer(u, v) {
         return false;
     }
-    !closes(places, starts, sizes, entries, n, u, v)
+    !closes(starts, sizes, entries, n, u, v)
 }
 
 // Does a dart that leaves u break rule 9?
-fn bad_face<'a>(
-    places: &'a [u8],
-    starts: &'a [u16],
-    sizes: &'a [u8],
-    entries: &'a [u16],
-    n: usize,
-    u: usize,
-) -> bool
-    requires { ⌜ now places ≡ placesOf (rows (now starts) (now sizes) (now entries) n) ⌝ }
+fn bad_face<'a>(starts: &'a [u16], sizes: &'a [u8], entries: &'a [u16], n: usize, u: usize) -> bool
     ensures { λ r. ⌜ r ≡ badFace (rows (now (starts .entry)) (now (sizes .entry)) (now (entries .entry)) n) u ⌝ }
 {
     let k = rings::size_of(sizes, n, u);
     let mut i = 0;
     while i < k {
         let v = rings::neighbour_at(starts, sizes, entries, n, u, i);
-        if bad_dart(places, starts, sizes, entries, n, u, v) {
+        if bad_dart(starts, sizes, entries, n, u, v) {
             return true;
         }
         i += 1;
@@ -147,11 +132,9 @@ fn bad_face<'a>(
 pub fn rule9_place<'a>(starts: &'a [u16], sizes: &'a [u8], entries: &'a [u16], n: usize) -> usize
     ensures { λ r. ⌜ r ≡ lowest (badFace (rows (now (starts .entry)) (now (sizes .entry)) (now (entries .entry)) n)) n ⌝ }
 {
-    let mut places = [0u8; 40000];
-    places::fill(&mut places, starts, sizes, entries, n);
     let mut u = 0;
     while u < n {
-        if bad_face(&places, starts, sizes, entries, n, u) {
+        if bad_face(starts, sizes, entries, n, u) {
             return u;
         }
         u += 1;

@@ -1,3 +1,4 @@
 pub mod Judging
 pub mod Copies
 pub mod Opened
+pub mod Quick

@@ -268,7 +268,7 @@ unfolding stretch
 sizes-from f sizes h a zero = refl
 sizes-from f sizes h a (suc n) = λ i. h a i ∷ sizes-from f sizes h (suc a) n i
 
-sizes-lent : (b sizes : List ℕ) (n : ℕ) → map length (planIn b sizes n .rings) ≡ stretch sizes 0 n
+pub sizes-lent : (b sizes : List ℕ) (n : ℕ) → map length (planIn b sizes n .rings) ≡ stretch sizes 0 n
 unfolding lent
 sizes-lent b sizes n = sizes-from (λ (u : ℕ). wordsAt b (bodyAt (startsOf sizes) u) (getD sizes u 0)) sizes (λ u. length-words-at b (bodyAt (startsOf sizes) u) (getD sizes u 0)) 0 n
 

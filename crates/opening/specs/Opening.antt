@@ -1,8 +1,8 @@
 -- Opening a file: the rules in the parts in which they are judged, first where the rings stand in the file, then on the sheet that is copied from it.
-use Prim.Native.Nat.{ℕ, _+_, _*_, _^_, _≤_, _<_}
+use Prim.Native.Nat.{ℕ, _+_, _*_, _^_, _≤_, _<_, min}
 use mathlib.Core.Path.{_≡_}
 use mathlib.Core.List.{List, _++_, map}
-use mathlib.Core.Bool.{Bool}
+use mathlib.Core.Bool.{Bool, _&&_}
 use lib.ListN.{length, getD, drop}
 use lib.Dec.{eqb, ltb, leb}
 use Rattle.lists.specs.Ranges.{from}
@@ -13,7 +13,7 @@ use Rattle.model.specs.Labels.{labelRules}
 use Rattle.model.specs.Chart.{Chart, chart, sameChart}
 use Rattle.model.specs.File as file
 use Rattle.model.specs.Calls.{openCall}
-use Rattle.rings.specs.Tables.{startsOf}
+use Rattle.rings.specs.Tables.{startOf, startsOf}
 use Rattle.framing.specs.Offsets.{wordAt}
 use Rattle.framing.specs.Layouts.{tidied, Enough}
 use Rattle.framing.specs.declared.Layout.{Layout}
@@ -72,6 +72,10 @@ drawnRules Charted t = labelChartRules t
 -- 8 to 12 of a struct at a stage
 unfoldable pub heldRules : Stage → Sheet → model.Outcome (Unit {0})
 heldRules g t = flatRules (t .n) (heldPlan t) >> drawnRules g t
+
+-- 5 contexts or more, with as many entries as 7 asks for
+unfoldable pub due : List ℕ → ℕ → Bool
+due sizes n = leb 5 n && eqb (startOf sizes (min n 200)) (dartCount n)
 
 -- a struct whose parts fit into its arrays
 pub record Roomy (t : Sheet) : Type 0 where

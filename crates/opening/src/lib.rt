@@ -3,18 +3,20 @@ use sheet::Outcome;
 use sheet::Sheet;
 use sheet::Stage;
 ghost use mathlib.Core.Path.{_≡_};
+ghost use mathlib.Core.Bool.{true};
 ghost use Prim.Native.Nat.{_<_, _≤_, _^_};
 ghost use Rattle.lists.specs.Parts.{concat};
 ghost use Rattle.lists.specs.Spans.{stretch, padded};
 ghost use Rattle.model.specs.Labels.{labelRules};
 ghost use Rattle.placement.specs.Drawing.{chartOn};
-ghost use Rattle.model.specs.File.{fresh, opened, labelled, charted};
+ghost use Rattle.model.specs.File.{fresh, opened, labelled, charted, decode};
 ghost use Rattle.model.specs.Calls.{openCall};
 ghost use Rattle.rings.specs.Tables.{startOf, startsOf, table};
+ghost use Rattle.sound.specs.Sound.{sound};
 ghost use Rattle.framing.specs.Layouts.{planIn, labelsIn, chartFrom, sheetIn};
 ghost use Rattle.sheet.specs.Sheets.{heldPlan, heldLabels, heldChart, packed};
 ghost use Rattle.sheet.specs.Answers.{answerAs, answerOf, after};
-ghost use Rattle.opening.specs.Opening.{judgedAs, lentRules, flatRules, chartRules, lentIn, labelChartRules, drawnRules, heldRules, Roomy, LaidOut, replaced, everyFour};
+ghost use Rattle.opening.specs.Opening.{judgedAs, lentRules, flatRules, chartRules, lentIn, labelChartRules, drawnRules, heldRules, due, Roomy, LaidOut, replaced, everyFour};
 
 // What rules say: they are kept, or the refusal's number and place.
 enum Judged {
@@ -357,17 +359,67 @@ fn lent_part(file: &[u8], layout: framing::Layout) -> Judged
     }
 }
 
-// The new sheet in place of the old one, if it keeps 8 to 12.
-fn replace(old: Sheet, new: Sheet) -> Outcome
-    requires { ⌜ Roomy new ⌝ }
-    ensures { λ r. ⌜ answerAs (r .answer) ≡ heldRules (new .stage) new ⌝ }
-    ensures { λ r. ⌜ r .sheet ≡ replaced (heldRules (new .stage) new) old new ⌝ }
+// The new sheet in place of the old one, if it was judged to keep the rules.
+fn replace(old: Sheet, new: Sheet, judged: Judged) -> Outcome
+    ensures { λ r. ⌜ answerAs (r .answer) ≡ judgedAs judged ⌝ }
+    ensures { λ r. ⌜ r .sheet ≡ replaced (judgedAs judged) old new ⌝ }
 {
-    let judged = held_rules(new);
     match judged {
         Judged::Refused(number, place) => sheet::refuse(old, number, place),
         Judged::Passed => sheet::accept(new),
     }
+}
+
+// Are there 5 contexts or more, and as many entries as 7 asks for?
+fn is_due(sizes: &[u8], n: usize) -> bool
+    requires { ⌜ n ≤ 200 ⌝ }
+    ensures { λ r. ⌜ r ≡ due (now (sizes .entry)) n ⌝ }
+{
+    if n < 5 {
+        return false;
+    }
+    fit::total_of(sizes, n) == 6 * n - 14
+}
+
+// Is the plan of a sheet sound, so that it keeps 4, 5, 6, 8 and 9?
+fn is_sound(sheet: Sheet) -> bool
+    ensures { λ r. ⌜ r ≡ sound (heldPlan sheet) ⌝ }
+{
+    let sizes = sheet.sizes;
+    let entries = sheet.entries;
+    sound::is_sound(&sizes, &entries, sheet.n as usize)
+}
+
+// Open by a layout: each rule is judged in its turn.
+fn open_by_rules(sheet: Sheet, file: &[u8], layout: framing::Layout) -> Outcome
+    requires { ⌜ LaidOut layout ⌝ }
+    requires { ⌜ sheetIn (now file) layout ≡ decode (now file) ⌝ }
+    ensures { λ r. ⌜ answerAs (r .answer) ≡ answerOf (openCall (now (file .entry))) ⌝ }
+    ensures { λ r. ⌜ r .sheet ≡ after sheet (openCall (now (file .entry))) ⌝ }
+{
+    let judged = lent_part(file, layout);
+    match judged {
+        Judged::Refused(number, place) => sheet::refuse(sheet, number, place),
+        Judged::Passed => {
+            let new = copy_sheet(file, layout);
+            replace(sheet, new, held_rules(new))
+        }
+    }
+}
+
+// Open by a layout with as many entries as 7 asks for: 4 to 9 at once, where the plan is sound.
+fn open_at_once(sheet: Sheet, file: &[u8], layout: framing::Layout) -> Outcome
+    requires { ⌜ LaidOut layout ⌝ }
+    requires { ⌜ sheetIn (now file) layout ≡ decode (now file) ⌝ }
+    requires { ⌜ due (layout .sizes) (layout .n) ≡ true ⌝ }
+    ensures { λ r. ⌜ answerAs (r .answer) ≡ answerOf (openCall (now (file .entry))) ⌝ }
+    ensures { λ r. ⌜ r .sheet ≡ after sheet (openCall (now (file .entry))) ⌝ }
+{
+    let new = copy_sheet(file, layout);
+    if is_sound(new) {
+        return replace(sheet, new, drawn_part(new));
+    }
+    open_by_rules(sheet, file, layout)
 }
 
 // Open, at any stage: the file's contents replace everything; a refusal leaves the sheet as it is.
@@ -376,9 +428,10 @@ pub fn open_file(sheet: Sheet, file: &[u8]) -> Outcome
     ensures { λ r. ⌜ r .sheet ≡ after sheet (openCall (now (file .entry))) ⌝ }
 {
     let layout = framing::frame_file(file);
-    let judged = lent_part(file, layout);
-    match judged {
-        Judged::Refused(number, place) => sheet::refuse(sheet, number, place),
-        Judged::Passed => replace(sheet, copy_sheet(file, layout)),
+    let n = layout.n;
+    let sizes = layout.sizes;
+    if is_due(&sizes, n) {
+        return open_at_once(sheet, file, layout);
     }
+    open_by_rules(sheet, file, layout)
 }

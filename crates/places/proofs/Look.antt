@@ -1,5 +1,5 @@
 -- Look-ups by a table of positions, case by case as the code makes them; by the plan's own table they are the look-ups in its rings.
-use Prim.Native.Nat.{ℕ, suc, _+_, _-_, _≤_, _<_}
+use Prim.Native.Nat.{ℕ, suc, _-_, _≤_, _<_}
 use mathlib.Core.Path.{_≡_, refl, sym, ap, _∙_}
 use mathlib.Core.List.{List}
 use mathlib.Core.Bool.{Bool, true, false, cond, not}
@@ -9,9 +9,9 @@ use lib.Dec.{eqb, ltb}
 use borrow.Author.Tests.{ltb-true, ltb-false, lt-ltb, le-ltb, eq-eqb, ne-eqb}
 use Rattle.lists.specs.Tests.{member}
 use Rattle.lists.specs.Parts.{indexOf}
-use Rattle.model.specs.Plan.{Plan, ring, adjacent, next}
-use Rattle.rings.proofs.Rows.{index-le, member-index, next-after, next-round, next-alone}
-use Rattle.places.specs.Places.{place, cell, tabled, placesOf, placed, indexBy, adjacentBy, nextAt, nextBy}
+use Rattle.model.specs.Plan.{Plan, ring, adjacent}
+use Rattle.rings.proofs.Rows.{index-le, member-index}
+use Rattle.places.specs.Places.{place, cell, tabled, placesOf, placed, indexBy, adjacentBy}
 use Rattle.places.proofs.Notes.{places-cell, place-absent, place-present}
 
 module _ (t : List ℕ) (p : Plan) (u v : ℕ) where
@@ -84,37 +84,6 @@ adjacent-places p u v = by-cell u v (λ h. sym (adjacent-high (placesOf p) p u v
     inside true e = ap (λ (y : ℕ). not (eqb y 0)) (place-present v (ring p u) e) ∙ ap not (ne-eqb (suc (indexOf v (ring p u))) 0 (λ z. omega arith)) ∙ sym e
     inside false e = ap (λ (y : ℕ). not (eqb y 0)) (place-absent v (ring p u) e) ∙ sym e
 
--- ---- the entry after the i-th of a ring of k
-module _ (a : ℕ) (r : List ℕ) {i k : ℕ} (j : ℕ) (at : i ≡ j) (long : k ≡ length r) where
-  -- there is one
-  pub after-more : i + 1 < k → getD r (i + 1) 0 ≡ nextAt a r j
-  unfolding nextAt
-  after-more h = ap (λ (x : ℕ). getD r (x + 1) 0) at ∙ sym (rw (lt-ltb (j + 1) (length r) (omega arith)))
-
-  -- the i-th is the last: the first
-  pub after-round : k ≤ i + 1 → 0 < i → getD r 0 0 ≡ nextAt a r j
-  unfolding nextAt
-  after-round h q = sym (rw (le-ltb (j + 1) (length r) (omega arith), lt-ltb 0 j (omega arith)))
-
-  -- the ring has no other
-  pub after-alone : k ≤ i + 1 → i ≤ 0 → a ≡ nextAt a r j
-  unfolding nextAt
-  after-alone h q = sym (rw (le-ltb (j + 1) (length r) (omega arith), le-ltb 0 j (omega arith)))
-
--- the entry after a is the one after a's index
-next-at : (a : ℕ) (r : List ℕ) → nextAt a r (indexOf a r) ≡ next a r
-next-at a r = go (ltb (indexOf a r + 1) (length r)) (ltb 0 (indexOf a r)) refl refl
-  where
-    go : (x y : Bool) → ltb (indexOf a r + 1) (length r) ≡ x → ltb 0 (indexOf a r) ≡ y → nextAt a r (indexOf a r) ≡ next a r
-    go true y e f = let h = ltb-true (indexOf a r + 1) (length r) e in sym (after-more a r (indexOf a r) refl refl h) ∙ next-after a r (indexOf a r) (length r) refl refl h
-    go false true e f = let h = ltb-false (indexOf a r + 1) (length r) e in let k = ltb-true 0 (indexOf a r) f in sym (after-round a r (indexOf a r) refl refl h k) ∙ next-round a r (indexOf a r) (length r) refl refl h k
-    go false false e f = let h = ltb-false (indexOf a r + 1) (length r) e in let k = ltb-false 0 (indexOf a r) f in sym (after-alone a r (indexOf a r) refl refl h k) ∙ next-alone a r (indexOf a r) (length r) refl refl h k
-
--- By the plan's own table the entry after a is the next one
-pub next-places : (p : Plan) (a u : ℕ) → nextBy (placesOf p) p a u ≡ next a (ring p u)
-unfolding nextBy
-next-places p a u = ap (nextAt a (ring p u)) (index-places p u a) ∙ next-at a (ring p u)
-
 -- ---- what a look-up says, where the table is the plan's own
 module _ (p : Plan) {t : List ℕ} (own : t ≡ placesOf p) where
   -- where v stands in u's ring
@@ -124,7 +93,3 @@ module _ (p : Plan) {t : List ℕ} (own : t ≡ placesOf p) where
   -- whether u lists v
   pub adjacent-told : (u v : ℕ) {r : Bool} → r ≡ adjacentBy t p u v → r ≡ adjacent p u v
   adjacent-told u v e = e ∙ ap (λ (s : List ℕ). adjacentBy s p u v) own ∙ adjacent-places p u v
-
-  -- the entry after a in u's ring
-  pub next-told : (a u : ℕ) {r : ℕ} → r ≡ nextBy t p a u → r ≡ next a (ring p u)
-  next-told a u e = e ∙ ap (λ (s : List ℕ). nextBy s p a u) own ∙ next-places p a u

@@ -48,11 +48,3 @@ indexBy t p u v = cond (tabled u v) (placed (length (ring p u)) (getD t (cell u 
 -- u lists v, by a table
 unfoldable pub adjacentBy : List ℕ → Plan → ℕ → ℕ → Bool
 adjacentBy t p u v = cond (tabled u v) (not (eqb (getD t (cell u v) 0) 0)) (adjacent p u v)
-
--- the entry after the i-th, the ring closing on itself; a where there is none
-unfoldable pub nextAt : ℕ → List ℕ → ℕ → ℕ
-nextAt a r i = cond (ltb (i + 1) (length r)) (getD r (i + 1) 0) (cond (ltb 0 i) (getD r 0 0) a)
-
--- the entry after a in u's ring, by a table
-unfoldable pub nextBy : List ℕ → Plan → ℕ → ℕ → ℕ
-nextBy t p a u = nextAt a (ring p u) (indexBy t p u a)

@@ -2,7 +2,7 @@
 ghost use mathlib.Core.Path.{_≡_};
 ghost use Prim.Native.Nat.{_<_, _^_};
 ghost use Rattle.rings.specs.Tables.{rows};
-ghost use Rattle.places.specs.Places.{noted, placesOf, filled, indexBy, nextBy, adjacentBy};
+ghost use Rattle.places.specs.Places.{noted, placesOf, filled, indexBy, adjacentBy};
 
 // A number noted for the entry v of u's ring, where none is noted yet; rings and entries from 200 on are passed over.
 pub fn note(table: &mut [u8], u: usize, v: usize, x: u8)
@@ -87,26 +87,4 @@ pub fn is_adjacent_by<'a>(
         return rings::is_adjacent(starts, sizes, entries, n, u, v);
     }
     lists::byte(places, 200 * u + v) != 0
-}
-
-// The neighbour after a in u's ring by a table of positions, the ring closing on itself.
-pub fn next_by<'a>(
-    places: &'a [u8],
-    starts: &'a [u16],
-    sizes: &'a [u8],
-    entries: &'a [u16],
-    n: usize,
-    u: usize,
-    a: usize,
-) -> usize
-    ensures { λ r. ⌜ r ≡ nextBy (now (places .entry)) (rows (now (starts .entry)) (now (sizes .entry)) (now (entries .entry)) n) a u ⌝ }
-{
-    let i = index_by(places, starts, sizes, entries, n, u, a);
-    if i + 1 < rings::size_of(sizes, n, u) {
-        return rings::neighbour_at(starts, sizes, entries, n, u, i + 1);
-    }
-    if 0 < i {
-        return rings::neighbour_at(starts, sizes, entries, n, u, 0);
-    }
-    a
 }

@@ -15,7 +15,7 @@ is-outer-requires c κs = search needs
 
 returns : tie.Need-returns
 returns c =
-    let a = c .before .before .before .before .before .before .args in
+    let a = c .before .before .before .before .before .args in
     let p = rows (a .starts .now) (a .sizes .now) (a .entries .now) (a .n) in
     dart-outer p (a .u) (a .v) (c .before .is-outer .ensures) (c .if1 .taken)
 
@@ -24,7 +24,7 @@ closes-requires c κs = search needs
 
 returns-2 : tie.Need-returns-2
 returns-2 c =
-    let a = c .before .before .before .before .before .before .before .args in
+    let a = c .before .before .before .before .before .before .args in
     let p = rows (a .starts .now) (a .sizes .now) (a .entries .now) (a .n) in
     dart-inner p (a .u) (a .v) (c .before .before .is-outer .ensures) (c .before .if1 .left) (c .closes .ensures)
 

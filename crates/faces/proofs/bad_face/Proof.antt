@@ -16,10 +16,10 @@ use Rattle.rings.proofs.neighbour_at.Reads as neighbour-at-reads
 use Rattle.rings.proofs.size_of.Reads as size-of-reads
 
 abbrev Inv-loop : tie.InvT-loop
-Inv-loop places starts sizes entries n u k i₀ i = Sees (badDart (rows starts sizes entries n) u) (ring (rows starts sizes entries n) u) 0 k i
+Inv-loop starts sizes entries n u k i₀ i = Sees (badDart (rows starts sizes entries n) u) (ring (rows starts sizes entries n) u) 0 k i
 
 abbrev μ-loop : tie.MeasureT-loop
-μ-loop places starts sizes entries n u k i₀ i = k - i
+μ-loop starts sizes entries n u k i₀ i = k - i
 
 size-of-requires : tie.Need-size-of-requires Inv-loop μ-loop
 size-of-requires c κs = search needs
@@ -35,7 +35,7 @@ bad-dart-requires c κs = search needs
 
 returns : tie.Need-returns Inv-loop μ-loop
 returns c =
-    let a = c .before .before .before .before .before .before .before .before .before .before .args in
+    let a = c .before .before .before .before .before .before .before .before .before .args in
     let p = rows (a .starts .now) (a .sizes .now) (a .entries .now) (a .n) in
     let long = ring-long (a .starts .now) (a .sizes .now) (a .entries .now) (a .n) (a .u) (c .before .before .before .before .before .size-of .ensures .0) in
     sees-hit (c .before .before .before .before .loop .inv) (omega arith) (dart-bad p (a .u) (c .before .before .neighbour-at .ensures) (c .before .bad-dart .ensures) (c .if1 .taken)) ∙ face-darts p (a .u) _ long
@@ -48,13 +48,13 @@ loop-less c = search needs
 
 loop-again : tie.Need-loop-again Inv-loop μ-loop
 loop-again c =
-    let a = c .before .before .before .before .before .before .before .before .before .before .args in
+    let a = c .before .before .before .before .before .before .before .before .before .args in
     let p = rows (a .starts .now) (a .sizes .now) (a .entries .now) (a .n) in
     sees-on (c .before .before .before .before .loop .inv) refl (omega arith) (dart-good p (a .u) (c .before .before .neighbour-at .ensures) (c .before .bad-dart .ensures) (c .if1 .left))
 
 returns-2 : tie.Need-returns-2 Inv-loop μ-loop
 returns-2 c =
-    let a = c .before .before .before .before .before .before .before .args in
+    let a = c .before .before .before .before .before .before .args in
     let p = rows (a .starts .now) (a .sizes .now) (a .entries .now) (a .n) in
     let long = ring-long (a .starts .now) (a .sizes .now) (a .entries .now) (a .n) (a .u) (c .before .before .size-of .ensures .0) in
     sees-end (c .before .loop .inv) (omega arith) ∙ face-darts p (a .u) _ long

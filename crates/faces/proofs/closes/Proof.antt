@@ -20,13 +20,13 @@ third-of-requires-3 c κs = search needs
 
 returns : tie.Need-returns
 returns c =
-    let a = c .before .before .before .before .before .before .before .before .args in
+    let a = c .before .before .before .before .before .before .before .args in
     let p = rows (a .starts .now) (a .sizes .now) (a .entries .now) (a .n) in
     closes-last p (a .u) (a .v) _ _ (c .before .before .before .third-of .ensures) (c .before .before .third-of2 .ensures) _ (c .third-of3 .ensures) (c .before .if1 .taken)
 
 returns-2 : tie.Need-returns-2
 returns-2 c =
-    let a = c .before .before .before .before .before .before .before .args in
+    let a = c .before .before .before .before .before .before .args in
     let p = rows (a .starts .now) (a .sizes .now) (a .entries .now) (a .n) in
     closes-never p (a .u) (a .v) _ _ (c .before .before .third-of .ensures) (c .before .third-of2 .ensures) (c .if1 .left)
 

@@ -1,11 +1,6 @@
 -- open_file meets its contract.
-use Rattle.model.specs.File.{fresh}
-use Rattle.sheet.specs.Answers.{answerOf, after}
-use mathlib.Core.Path.{_≡_, refl, sym, ap, _∙_}
-use Rattle.framing.specs.Layouts.{sheetIn}
-use Rattle.sheet.specs.Sheets.{packed}
-use Rattle.opening.specs.Opening.{judgedAs}
-use Rattle.opening.proofs.Opened.{open-early, open-late, copy-roomy, room-in}
+use mathlib.Core.Path.{sym, _∙_}
+use Rattle.opening.specs.Opening.{LaidOut}
 use native.Mathlib.Omega.{arith}
 use borrow.Author.Needs.{needs}
 use Rattle.opening.proofs.open_file.Statement.{statement}
@@ -13,70 +8,45 @@ use Rattle.opening.proofs.open_file.Tie as tie
 use Rattle.opening.proofs.open_file.Reads as reads
 use Rattle.opening.proofs.open_file.Lts as lts
 use Rattle.framing.proofs.frame_file.Reads as frame-file-reads
-use Rattle.opening.proofs.copy_sheet.Reads as copy-sheet-reads
-use Rattle.opening.proofs.lent_part.Reads as lent-part-reads
-use Rattle.sheet.proofs.refuse.Reads as refuse-reads
-use Rattle.opening.proofs.replace.Reads as replace-reads
+use Rattle.opening.proofs.is_due.Reads as is-due-reads
+use Rattle.opening.proofs.open_at_once.Reads as open-at-once-reads
+use Rattle.opening.proofs.open_by_rules.Reads as open-by-rules-reads
 
 frame-file-requires : tie.Need-frame-file-requires
 frame-file-requires c κs = search needs
 
-lent-part-requires : tie.Need-lent-part-requires
-lent-part-requires c κs =
-    let e = c .frame-file .ensures in
-    record { tidy = e .1 .0; enough = e .1 .1 .0; few = e .1 .1 .1 .0; labels-near = e .1 .1 .1 .1 .0; chart-near = e .1 .1 .1 .1 .1 }
+slice-aggregate-is-due : tie.Need-slice-aggregate-is-due
+slice-aggregate-is-due c = search needs
 
-enum-known-judged : tie.Need-enum-known-judged
-enum-known-judged c = search needs
+is-due-requires : tie.Need-is-due-requires
+is-due-requires c κs = c .before .before .frame-file .ensures .1 .1 .1 .0
 
-refuse-requires : tie.Need-refuse-requires
-refuse-requires c κs = search needs
-
-enum-told : tie.Need-enum-told
-enum-told c = search needs
-
-copy-sheet-requires : tie.Need-copy-sheet-requires
-unfolding judgedAs
-copy-sheet-requires c κs =
-    let e = c .before .before .before .frame-file .ensures in
-    let f = c .before .before .before .before .before .args .file .now in (
-      record { tidy = e .1 .0; enough = e .1 .1 .0; few = e .1 .1 .1 .0; labels-near = e .1 .1 .1 .1 .0; chart-near = e .1 .1 .1 .1 .1 },
-      room-in f (c .before .before .before .frame-file .result) (e .1 .1 .1 .0) (sym (ap judgedAs (c .enum-told .given .1)) ∙ c .before .before .lent-part .ensures),
-    )
-
-replace-requires : tie.Need-replace-requires
-unfolding judgedAs
-replace-requires c κs =
-    let f = c .before .before .before .before .before .before .args .file .now in
-    let l = c .before .before .before .before .frame-file in
-    copy-roomy f (sheetIn f (l .result)) (l .ensures .0) (sym (ap judgedAs (c .before .enum-told .given .1)) ∙ c .before .before .before .lent-part .ensures) (packed fresh) (c .copy-sheet .result) (c .copy-sheet .ensures)
+open-at-once-requires : tie.Need-open-at-once-requires
+open-at-once-requires c κs =
+    let e = c .before .before .before .before .frame-file .ensures in
+    let laid : LaidOut (c .before .before .before .before .frame-file .result) = record { tidy = e .1 .0; enough = e .1 .1 .0; few = e .1 .1 .1 .0; labels-near = e .1 .1 .1 .1 .0; chart-near = e .1 .1 .1 .1 .1 } in
+    (laid, (e .0, sym (c .before .is-due .ensures) ∙ c .if1 .taken))
 
 returns : tie.Need-returns
-unfolding judgedAs answerOf after
-returns c =
-    let f = c .before .before .before .before .before .before .before .args .file .now in
-    let l = c .before .before .before .before .before .frame-file in
-    let e = open-early f (sheetIn f (l .result)) (l .ensures .0) _ _ (sym (ap judgedAs (c .before .before .judged .given .1)) ∙ c .before .before .before .before .lent-part .ensures) in
-    (c .refuse .ensures .0 ∙ ap answerOf (sym e), c .refuse .ensures .1 ∙ ap (after (c .before .before .before .before .before .before .before .args .sheet)) (sym e))
+returns c = c .open-at-once .ensures
+
+open-by-rules-requires : tie.Need-open-by-rules-requires
+open-by-rules-requires c κs =
+    let e = c .before .before .before .before .frame-file .ensures in
+    let laid : LaidOut (c .before .before .before .before .frame-file .result) = record { tidy = e .1 .0; enough = e .1 .1 .0; few = e .1 .1 .1 .0; labels-near = e .1 .1 .1 .1 .0; chart-near = e .1 .1 .1 .1 .1 } in
+    (laid, e .0)
 
 returns-2 : tie.Need-returns-2
-unfolding judgedAs answerOf after
-returns-2 c =
-    let f = c .before .before .before .before .before .before .before .args .file .now in
-    let l = c .before .before .before .before .before .frame-file in
-    let e = open-late f (sheetIn f (l .result)) (l .ensures .0) (sym (ap judgedAs (c .before .before .enum-told .given .1)) ∙ c .before .before .before .before .lent-part .ensures) (packed fresh) (c .before .copy-sheet .result) (c .before .copy-sheet .ensures) in
-    (c .replace .ensures .0 ∙ e .0, c .replace .ensures .1 ∙ e .1 (c .before .before .before .before .before .before .before .args .sheet))
+returns-2 c = c .open-by-rules .ensures
 
 pub open-file-spec : {M : Type 1} → statement M
 open-file-spec =
     tie.close
     (tie.spec
     frame-file-requires
-    lent-part-requires
-    enum-known-judged
-    refuse-requires
-    enum-told
-    copy-sheet-requires
-    replace-requires
+    slice-aggregate-is-due
+    is-due-requires
+    open-at-once-requires
     returns
+    open-by-rules-requires
     returns-2)

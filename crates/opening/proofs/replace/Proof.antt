@@ -1,7 +1,6 @@
 -- replace meets its contract.
-use mathlib.Core.Path.{_≡_, refl, sym, ap, _∙_}
+use mathlib.Core.Path.{sym, ap, _∙_}
 use Rattle.model.specs.Outcome.{Outcome}
-use Rattle.sheet.specs.Answers.{answerAs}
 use Rattle.opening.specs.Opening.{judgedAs, replaced}
 use native.Mathlib.Omega.{arith}
 use borrow.Author.Needs.{needs}
@@ -9,11 +8,8 @@ use Rattle.opening.proofs.replace.Statement.{statement}
 use Rattle.opening.proofs.replace.Tie as tie
 use Rattle.opening.proofs.replace.Reads as reads
 use Rattle.opening.proofs.replace.Lts as lts
-use Rattle.opening.proofs.held_rules.Reads as held-rules-reads
+use Rattle.sheet.proofs.accept.Reads as accept-reads
 use Rattle.sheet.proofs.refuse.Reads as refuse-reads
-
-held-rules-requires : tie.Need-held-rules-requires
-held-rules-requires c κs = search needs
 
 enum-known-judged : tie.Need-enum-known-judged
 enum-known-judged c = search needs
@@ -28,20 +24,20 @@ accept-requires : tie.Need-accept-requires
 accept-requires c κs = search needs
 
 returns : tie.Need-returns
-unfolding judgedAs answerAs replaced
+unfolding judgedAs replaced
 returns c =
-    let a = c .before .before .before .before .before .args in
-    let e = sym (ap judgedAs (c .before .before .judged .given .1)) ∙ c .before .before .before .before .held-rules .ensures in
+    let a = c .before .before .before .before .args in
+    let e = sym (ap judgedAs (c .before .before .judged .given .1)) in
     (c .refuse .ensures .0 ∙ e, c .refuse .ensures .1 ∙ ap (λ (o : Outcome (Unit {0})). replaced o (a .old) (a .new)) e)
 
 returns-2 : tie.Need-returns-2
-unfolding judgedAs answerAs replaced
+unfolding judgedAs replaced
 returns-2 c =
-    let a = c .before .before .before .before .args in
-    let e = sym (ap judgedAs (c .before .enum-told .given .1)) ∙ c .before .before .before .held-rules .ensures in
+    let a = c .before .before .before .args in
+    let e = sym (ap judgedAs (c .before .enum-told .given .1)) in
     (c .accept .ensures .0 ∙ e, c .accept .ensures .1 ∙ ap (λ (o : Outcome (Unit {0})). replaced o (a .old) (a .new)) e)
 
 pub replace-spec : {M : Type 1} → statement M
 replace-spec =
     tie.close
-    (tie.spec held-rules-requires enum-known-judged refuse-requires enum-told accept-requires returns returns-2)
+    (tie.spec enum-known-judged refuse-requires enum-told accept-requires returns returns-2)

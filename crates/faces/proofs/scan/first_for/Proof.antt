@@ -14,10 +14,10 @@ use Rattle.faces.proofs.scan.first_for.Lts as lts
 use Rattle.faces.proofs.scan.second_for.Reads as second-for-reads
 
 abbrev Inv-loop : tie.InvT-loop
-Inv-loop places starts sizes entries n a₀ a = Looks (λ (k : ℕ). ltb (secondFor (rows starts sizes entries n) n k) n) n a
+Inv-loop table starts sizes entries n a₀ a = Looks (λ (k : ℕ). ltb (secondFor (rows starts sizes entries n) n k) n) n a
 
 abbrev μ-loop : tie.MeasureT-loop
-μ-loop places starts sizes entries n a₀ a = n - a
+μ-loop table starts sizes entries n a₀ a = n - a
 
 loop-holds : tie.Need-loop-holds Inv-loop μ-loop
 loop-holds c = looks-start

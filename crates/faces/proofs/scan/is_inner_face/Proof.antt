@@ -10,14 +10,14 @@ use Rattle.faces.proofs.scan.is_inner_face.Lts as lts
 use Rattle.faces.proofs.closes.Reads as closes-reads
 use Rattle.faces.proofs.is_outer.Reads as is-outer-reads
 use Rattle.faces.proofs.third_of.Reads as third-of-reads
-use Rattle.faces.proofs.scan.is_adjacent.Reads as is-adjacent-reads
+use Rattle.rings.proofs.is_adjacent.Reads as is-adjacent-reads
 
 third-of-requires : tie.Need-third-of-requires
 third-of-requires c κs = search needs
 
 returns : tie.Need-returns
 returns c =
-    let a = c .before .before .before .before .before .before .args in
+    let a = c .before .before .before .before .before .args in
     let p = rows (a .starts .now) (a .sizes .now) (a .entries .now) (a .n) in
     inner-third p (a .a) (a .b) (a .c) (c .before .third-of .ensures) (c .if1 .taken)
 
@@ -26,7 +26,7 @@ is-outer-requires c κs = search needs
 
 returns-2 : tie.Need-returns-2
 returns-2 c =
-    let a = c .before .before .before .before .before .before .before .before .args in
+    let a = c .before .before .before .before .before .before .before .args in
     let p = rows (a .starts .now) (a .sizes .now) (a .entries .now) (a .n) in
     inner-outer p (a .a) (a .b) (a .c) (c .before .is-outer .ensures) (c .if2 .taken)
 
@@ -35,7 +35,7 @@ is-adjacent-requires c κs = search needs
 
 returns-3 : tie.Need-returns-3
 returns-3 c =
-    let a = c .before .before .before .before .before .before .before .before .before .before .args in
+    let a = c .before .before .before .before .before .before .before .before .before .args in
     let p = rows (a .starts .now) (a .sizes .now) (a .entries .now) (a .n) in
     inner-apart p (a .a) (a .b) (a .c) (c .before .is-adjacent .ensures) (c .if3 .taken)
 
@@ -44,7 +44,7 @@ closes-requires c κs = search needs
 
 returns-4 : tie.Need-returns-4
 returns-4 c =
-    let a = c .before .before .before .before .before .before .before .before .before .before .before .args in
+    let a = c .before .before .before .before .before .before .before .before .before .before .args in
     let p = rows (a .starts .now) (a .sizes .now) (a .entries .now) (a .n) in
     inner-closes p (a .a) (a .b) (a .c) (c .before .before .before .before .before .before .third-of .ensures) (c .before .before .before .before .before .if1 .left) (c .before .before .before .before .is-outer .ensures) (c .before .before .before .if2 .left) (c .before .before .is-adjacent .ensures) (c .before .if3 .left) (c .closes .ensures)
 

@@ -1,6 +1,6 @@
 -- scan::scan meets its contract.
-use mathlib.Core.Path.{refl, _∙_}
-use Rattle.places.proofs.Notes.{filled-zeros}
+use mathlib.Core.Path.{refl}
+use Rattle.followers.proofs.Notes.{followers-made}
 use Rattle.rings.specs.Tables.{rows}
 use Rattle.faces.specs.Scanned.{scannedAs}
 use Rattle.rings.proofs.Rows.{count-rows}
@@ -11,7 +11,7 @@ use Rattle.faces.proofs.scan.scan.Statement.{statement}
 use Rattle.faces.proofs.scan.scan.Tie as tie
 use Rattle.faces.proofs.scan.scan.Reads as reads
 use Rattle.faces.proofs.scan.scan.Lts as lts
-use Rattle.places.proofs.fill.Reads as fill-reads
+use Rattle.followers.proofs.fill.Reads as fill-reads
 use Rattle.faces.proofs.scan.first_for.Reads as first-for-reads
 use Rattle.faces.proofs.scan.second_for.Reads as second-for-reads
 use Rattle.faces.proofs.scan.third_for.Reads as third-for-reads
@@ -26,7 +26,7 @@ slice-aggregate-first-for : tie.Need-slice-aggregate-first-for
 slice-aggregate-first-for c = search needs
 
 first-for-requires : tie.Need-first-for-requires
-first-for-requires c κs = let a = c .before .before .before .before .before .before .before .args in c .before .before .fill .ensures ∙ filled-zeros (rows (a .starts .now) (a .sizes .now) (a .entries .now) (a .n)) refl
+first-for-requires c κs = let a = c .before .before .before .before .before .before .before .args in followers-made (rows (a .starts .now) (a .sizes .now) (a .entries .now) (a .n)) refl (c .before .before .fill .ensures .0)
 
 returns : tie.Need-returns
 unfolding scannedAs
@@ -39,7 +39,7 @@ slice-aggregate-second-for : tie.Need-slice-aggregate-second-for
 slice-aggregate-second-for c = search needs
 
 second-for-requires : tie.Need-second-for-requires
-second-for-requires c κs = let a = c .before .before .before .before .before .before .before .before .before .before .args in (c .before .before .before .before .before .fill .ensures ∙ filled-zeros (rows (a .starts .now) (a .sizes .now) (a .entries .now) (a .n)) refl, omega arith)
+second-for-requires c κs = let a = c .before .before .before .before .before .before .before .before .before .before .args in (followers-made (rows (a .starts .now) (a .sizes .now) (a .entries .now) (a .n)) refl (c .before .before .before .before .before .fill .ensures .0), omega arith)
 
 slice-aggregate-third-for : tie.Need-slice-aggregate-third-for
 slice-aggregate-third-for c = search needs
@@ -50,7 +50,7 @@ third-for-requires c κs =
     let p = rows (a .starts .now) (a .sizes .now) (a .entries .now) (a .n) in
     let below = second-below p (a .n) _ (count-rows (a .starts .now) (a .sizes .now) (a .entries .now) (a .n)) (c .before .before .before .before .first-for .ensures) (c .before .before .before .if1 .left) in
     let second = c .before .second-for .ensures in
-    (c .before .before .before .before .before .before .before .fill .ensures ∙ filled-zeros p refl, omega arith)
+    (followers-made p refl (c .before .before .before .before .before .before .before .fill .ensures .0), omega arith)
 
 returns-2 : tie.Need-returns-2
 unfolding scannedAs

@@ -1,0 +1,2 @@
+pub mod Doubts
+pub mod Sound
