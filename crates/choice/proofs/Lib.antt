@@ -1,3 +1,3 @@
-pub mod Moves
+pub mod Takes
 pub mod Trails
 pub mod Searches
