@@ -7,33 +7,34 @@ use mathlib.Core.Bool.{Bool, true, false, cond, not, false≢true, true≢false}
 use native.Mathlib.Omega.{arith}
 use lib.ListN.{length, getD, set, length-append}
 use lib.Seq.{getD-append-add, getD-append-seam}
-use lib.Dec.{eqb, leb}
-use borrow.Author.Tests.{eqb-true, eqb-false, ne-eqb, lt-ltb, leb-true, leb-false}
+use lib.Dec.{eqb, ltb, leb}
+use borrow.Author.Tests.{eqb-true, eqb-false, ne-eqb, lt-ltb, ltb-true, ltb-false, leb-true, leb-false}
 use Rattle.lists.specs.Tests.{any, empty, member, repeats}
 use Rattle.lists.specs.Ranges.{from}
 use Rattle.lists.specs.Parts.{squeeze, squeezeAfter}
 use Rattle.lists.specs.Spans.{zeros, padded}
 use Rattle.lists.proofs.Bools.{both}
 use Rattle.lists.proofs.Tests.{mem-member}
-use Rattle.lists.proofs.Ranges.{mem-from}
-use Rattle.lists.proofs.Joins.{mem-join}
+use Rattle.lists.proofs.Ranges.{mem-from, from-mem}
+use Rattle.lists.proofs.Joins.{mem-join, join-mem}
 use Rattle.model.specs.Plan.{Plan, ring, adjacent, between, border}
 use Rattle.model.specs.Sweep.{State, below, listed, replaced, chordless, eligible, choose, choices}
 use Rattle.model.proofs.Plans.{mem-adjacent}
-use Rattle.model.proofs.Eligible.{getD-mem, mem-getD, squeeze-mem, chordless-apart, replaced-left, replaced-list, replaced-right, replaced-length, something-below, eligible-clear, Clear}
+use Rattle.model.proofs.Eligible.{getD-mem, mem-getD, squeeze-mem, chordless-apart, replaced-left, replaced-list, replaced-right, replaced-length, something-below, below-listed, eligible-clear, Clear}
 use Rattle.model.proofs.Choices.{Positions, chosen-taken, none-taken}
 use Rattle.frontier.specs.declared.Line.{Line}
 use Rattle.choice.specs.declared.Found.the-variants.{At, Nothing}
 use Rattle.frontier.specs.Front.{Sane, Front}
 use Rattle.pairs.specs.Run.{fits}
 use Rattle.choice.specs.Run.{Trail, placed, same, startTrail}
-use Rattle.choice.specs.Search.{foundAs, Trails, Reason, edge, old, twice, right, beside, later, Stops, bare, barred, Extends, Best}
+use Rattle.choice.specs.Search.{foundAs, Trails, Reason, edge, old, twice, right, beside, later, split, Stops, bare, barred, Extends, Best}
 use Rattle.pairs.proofs.Dirt.{repeats-right, or-left, squeeze-before, clean-once}
 use Rattle.frontier.proofs.Lines.{getD-padded, getD-none}
 use Rattle.pairs.proofs.Gather.{raw}
 use Rattle.frontier.proofs.Under.{below-mem}
 use Rattle.pairs.proofs.Pairs.{fits-is, gathered, unchorded}
 use Rattle.choice.proofs.Trails.{placed-real, trails-start}
+use Rattle.choice.proofs.Pockets.{apart}
 
 -- ---- what is below a range of positions, in two parts
 -- the positions from a on, cut after x of them
@@ -113,6 +114,74 @@ module _ (p : Plan) (sane : Sane p) (s : State) (v : Line) (fr : Front s v) (pla
       -- what holds of a context of an eligible list
       clear : Clear p s i j k c
       clear = eligible-clear p s i j positions e k c low high-k c-below
+
+      -- the position after a has something below, and not c
+      module _ (a : ℕ) (h : suc a < k) (far : adjacent p (getD f (suc a) 0) c ≡ false) (ai : i ≤ a) where
+        -- what is below it is another context and more
+        other-below : (d : ℕ) × (more : List ℕ) × (below p f (suc a) ≡ d ∷ more) × (d ≡ c → ⊥)
+        other-below = go (below p f (suc a)) refl
+          where
+            go : (l : List ℕ) → below p f (suc a) ≡ l → (d : ℕ) × (more : List ℕ) × (below p f (suc a) ≡ d ∷ more) × (d ≡ c → ⊥)
+            go [] q = both (empty (below p f (suc a))) (ap empty q) (something-below p s i j positions e (suc a) (omega arith) (omega arith))
+            go (d ∷ more) q =
+                let near = mem-adjacent p (getD f (suc a) 0) d (below-mem p f (suc a) d (subst (List·Memᴰ d) (sym q) (List·Memᴰ·head refl))) in
+                (d, more, q, λ z. both (adjacent p (getD f (suc a) 0) c) (ap (adjacent p (getD f (suc a) 0)) (sym z) ∙ near) far)
+
+        -- what is below from there on
+        rest : raw p f (suc a) (j - suc a) ≡ below p f (suc a) ++ raw p f (suc (suc a)) (j - suc (suc a))
+        rest = raw-more p f (suc a) j (omega arith)
+
+        -- c stands further on
+        c-later : List·Memᴰ c (raw p f (suc (suc a)) (j - suc (suc a)))
+        c-later = join-mem (below p f) (from (suc (suc a)) (j - suc (suc a))) k c (from-mem (suc (suc a)) (j - suc (suc a)) k (omega arith) (omega arith)) c-below
+
+        -- so c does not stand before as well
+        not-before : List·Memᴰ c (raw p f (suc i) (suc a - suc i)) → ⊥
+        unfolding listed
+        not-before m =
+            let (d, more, q, n) = other-below in
+            let x : j - suc i ≡ (suc a - suc i) + (j - suc a) = omega arith in
+            let y : suc i + (suc a - suc i) ≡ suc a = omega arith in
+            let A = raw p f (suc i) (suc a - suc i) in
+            let whole : raw p f (suc i) (j - suc i) ≡ A ++ (d ∷ more ++ raw p f (suc (suc a)) (j - suc (suc a))) =
+            ap (raw p f (suc i)) x ∙ raw-split p f (suc i) (suc a - suc i) (j - suc a) ∙ ap (λ (w : ℕ). A ++ raw p f w (j - suc a)) y ∙ ap (λ (w : List ℕ). A ++ w) (rest ∙ ap (λ (w : List ℕ). w ++ raw p f (suc (suc a)) (j - suc (suc a))) q) in
+            apart A d (more ++ raw p f (suc (suc a)) (j - suc (suc a))) c (ap (λ (w : List ℕ). repeats (squeeze w)) (sym whole) ∙ once) m n (Memᴰ·append-right more c-later)
+
+        -- nor is c next to position i
+        not-next : i ≡ a → adjacent p (getD f i 0) c ≡ true → ⊥
+        unfolding listed
+        not-next same near = go (mem-getD l c (below-listed p s i j positions e k c low high-k c-below))
+          where
+            front : (x : ℕ) → getD l x 0 ≡ c → 1 ≤ x
+            front zero z =
+                let (d, more, q, n) = other-below in
+                let w : raw p f (suc i) (j - suc i) ≡ d ∷ more ++ raw p f (suc (suc a)) (j - suc (suc a)) = ap (λ (x : ℕ). raw p f (suc x) (j - suc x)) same ∙ rest ∙ ap (λ (w : List ℕ). w ++ raw p f (suc (suc a)) (j - suc (suc a))) q in
+                absurd (n (sym (ap (λ (b : List ℕ). getD (squeeze b) 0 0) w) ∙ z))
+            front (suc x) z = omega arith
+
+            go : (x : ℕ) × (x < length l) × (getD l x 0 ≡ c) → ⊥
+            go (x, x-in, x-is) =
+                let one = front x x-is in
+                let long = replaced-length f l i j two within in
+                let here = replaced-left f l i j two within i (omega arith) in
+                let there = replaced-list f l i j two within x x-in ∙ x-is in
+                both (adjacent p (getD f i 0) c) near (sym (λ d. adjacent p (here d) (there d)) ∙ no-chord i (suc i + x) (omega arith) (omega arith))
+
+      -- c is not in a pocket
+      not-split : (a : ℕ) → suc a < k → List·Memᴰ c (below p f a) → adjacent p (getD f (suc a) 0) c ≡ false → ⊥
+      not-split a h m far = go (ltb a i) refl (ltb i a) refl
+        where
+          near : adjacent p (getD f a 0) c ≡ true
+          near = mem-adjacent p (getD f a 0) c (below-mem p f a c m)
+
+          go : (x : Bool) → ltb a i ≡ x → (y : Bool) → ltb i a ≡ y → ⊥
+          go true x y y′ = both (adjacent p (getD f a 0) c) near (clear .left-clear a (ltb-true a i x))
+          go false x true y = let z = ltb-true i a y in not-before a h far (omega arith) (join-mem (below p f) (from (suc i) (suc a - suc i)) a c (from-mem (suc i) (suc a - suc i) a (omega arith) (omega arith)) m)
+          go false x false y =
+              let z = ltb-false a i x in
+              let w = ltb-false i a y in
+              let same : i ≡ a = omega arith in
+              not-next a h far (omega arith) same (ap (λ (n : ℕ). adjacent p (getD f n 0) c) same ∙ near)
 
       -- the list ends with what is squeezed from c on
       ends : (r : List ℕ) × (l ≡ r ++ squeeze (c ∷ Q))
@@ -196,13 +265,14 @@ module _ (p : Plan) (sane : Sane p) (s : State) (v : Line) (fr : Front s v) (pla
             both (eqb (getD (v .marks) c 0) 0) (fr .marks .mark c (omega arith) ∙ ap not (clear .new)) (ne-eqb (getD (v .marks) c 0) 0 b)
 
         -- so there is no reason
-        no-reason : Reason p (t .on) (v .marks) place (t .some) (t .first) c (getD (v .at) j 0) j → ⊥
+        no-reason : Reason p (v .at) (t .on) (v .marks) place (t .some) (t .first) c (getD (v .at) j 0) j k → ⊥
         no-reason (edge b) = both (border c) (lt-ltb c 4 b) (clear .inner)
         no-reason (old b) = not-old b
         no-reason (twice b) = not-twice (tr .marks c b)
         no-reason (right w a b) = not-right w a b
         no-reason (beside some a) = not-beside some (ap (adjacent p c) (sym (at-same j)) ∙ a)
         no-reason (later some w a n m) = not-later some w (tr .marks w m) n a
+        no-reason (split h) = not-split (h .at) (h .before) (subst (List·Memᴰ c) (below-same (h .at)) (h .under)) (ap (λ (u : ℕ). adjacent p u c) (sym (at-same (suc (h .at)))) ∙ h .apart)
 
   -- where a search stops, no lower i is eligible
   pub dead : (k : ℕ) → k < j → Stops p (v .at) (v .len) (v .marks) place j k (raw p f (suc k) (j - suc k)) → (i : ℕ) → i < k → eligible p s i j ≡ false

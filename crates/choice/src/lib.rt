@@ -1,15 +1,15 @@
 // The pair of positions that a step of the sweep takes: the largest j, then the largest i, that are eligible.
 ghost use mathlib.Core.Path.{_≡_};
 ghost use mathlib.Core.Bool.{true, false};
-ghost use mathlib.Core.List.{List, []};
+ghost use mathlib.Core.List.{List, [], List·Memᴰ};
 ghost use Prim.Native.Nat.{ℕ, suc, _+_, _-_, _<_, _≤_};
 ghost use lib.ListN.{getD, length};
-ghost use Rattle.model.specs.Sweep.{State, choose, choices};
+ghost use Rattle.model.specs.Sweep.{State, below, choose, choices};
 ghost use Rattle.rings.specs.Tables.{rows};
 ghost use Rattle.places.specs.Places.{placesOf};
 ghost use Rattle.frontier.specs.Run.{line};
 ghost use Rattle.choice.specs.Run as run;
-ghost use Rattle.choice.specs.Search.{foundAs, Ready, Lowest, Takes, Extends, Stops, Best};
+ghost use Rattle.choice.specs.Search.{foundAs, Ready, Lowest, Pocket, Takes, Extends, Stops, Best};
 ghost use Rattle.choice.specs.Run.{trailOf};
 
 // What a search knows of the list so far, beside a mark for each context of it: whether there is one, its first context, the lowest frontier position that lists some context of it. It is not ok where the list is good for no pair.
@@ -103,7 +103,7 @@ fn lower<'a>(
     w: usize,
     c: usize,
 ) -> usize
-    ensures { λ r. ⌜ ((place : List ℕ) → x ≡ getD place w 0 → Lowest (now (places .entry)) (rows (now (starts .entry)) (now (sizes .entry)) (now (entries .entry)) n) place c lo r) ⌝ }
+    ensures { λ r. ⌜ ((place : List ℕ) → (m : ℕ) → x ≡ getD place w 0 → Lowest (now (places .entry)) (rows (now (starts .entry)) (now (sizes .entry)) (now (entries .entry)) n) place m c lo r) ⌝ }
 {
     if x == 0 {
         return lo;
@@ -131,7 +131,7 @@ fn look<'a>(
     fj: usize,
     j: usize,
 ) -> Lead
-    ensures { λ r. ⌜ ((seen : List ℕ) → run.same (lead .some) (lead .first) c ≡ false → Takes (now (places .entry)) (rows (now (starts .entry)) (now (sizes .entry)) (now (entries .entry)) n) (now (on .entry)) seen (now (place .entry)) c fj j lead r) ⌝ }
+    ensures { λ r. ⌜ ((f seen : List ℕ) → (m k : ℕ) → run.same (lead .some) (lead .first) c ≡ false → Takes (now (places .entry)) (rows (now (starts .entry)) (now (sizes .entry)) (now (entries .entry)) n) f (now (on .entry)) seen (now (place .entry)) m c fj j k lead r) ⌝ }
 {
     let some = lead.some;
     let first = lead.first;
@@ -153,6 +153,58 @@ fn look<'a>(
     made(true, true, c, lo)
 }
 
+// Is c below position a?
+fn is_below<'a>(
+    places: &'a [u8],
+    starts: &'a [u16],
+    sizes: &'a [u8],
+    entries: &'a [u16],
+    n: usize,
+    f: &'a [u16],
+    a: usize,
+    c: usize,
+) -> bool
+    ensures { λ r. ⌜ (now (places .entry) ≡ placesOf (rows (now (starts .entry)) (now (sizes .entry)) (now (entries .entry)) n) → r ≡ true → List·Memᴰ c (below (rows (now (starts .entry)) (now (sizes .entry)) (now (entries .entry)) n) (now (f .entry)) a)) ⌝ }
+{
+    let x = frontier::below::turn_by(places, starts, sizes, entries, n, f, a);
+    let q = frontier::below::depth(starts, sizes, entries, n, f, a, x);
+    let u = lists::num(f, a);
+    let mut t = 0;
+    while t < q {
+        if c == lists::wide_word(frontier::onward_at(starts, sizes, entries, n, u, x, t)) {
+            return true;
+        }
+        t += 1;
+    }
+    false
+}
+
+// Is c below a position from lo on, and not listed by the next, which is before k?
+fn pocket<'a>(
+    places: &'a [u8],
+    starts: &'a [u16],
+    sizes: &'a [u8],
+    entries: &'a [u16],
+    n: usize,
+    f: &'a [u16],
+    lo: usize,
+    k: usize,
+    c: usize,
+) -> bool
+    ensures { λ r. ⌜ (now (places .entry) ≡ placesOf (rows (now (starts .entry)) (now (sizes .entry)) (now (entries .entry)) n) → r ≡ true → Pocket (rows (now (starts .entry)) (now (sizes .entry)) (now (entries .entry)) n) (now (f .entry)) c k) ⌝ }
+{
+    let e = lists::minus(k, 1);
+    let mut a = lo;
+    while a < e {
+        let w = lists::num(f, a + 1);
+        if !places::is_adjacent_by(places, starts, sizes, entries, n, w, c) {
+            return is_below(places, starts, sizes, entries, n, f, a, c);
+        }
+        a += 1;
+    }
+    false
+}
+
 // The lead of the list with c put before it. It is not ok where c may not come before the list.
 fn take<'a>(
     places: &'a [u8],
@@ -160,6 +212,8 @@ fn take<'a>(
     sizes: &'a [u8],
     entries: &'a [u16],
     n: usize,
+    f: &'a [u16],
+    m: usize,
     on: &'a [u8],
     seen: &'a [u8],
     place: &'a [u16],
@@ -167,8 +221,9 @@ fn take<'a>(
     c: usize,
     fj: usize,
     j: usize,
+    k: usize,
 ) -> Lead
-    ensures { λ r. ⌜ Takes (now (places .entry)) (rows (now (starts .entry)) (now (sizes .entry)) (now (entries .entry)) n) (now (on .entry)) (now (seen .entry)) (now (place .entry)) c fj j lead r ⌝ }
+    ensures { λ r. ⌜ (now (places .entry) ≡ placesOf (rows (now (starts .entry)) (now (sizes .entry)) (now (entries .entry)) n) → Takes (now (places .entry)) (rows (now (starts .entry)) (now (sizes .entry)) (now (entries .entry)) n) (now (f .entry)) (now (on .entry)) (now (seen .entry)) (now (place .entry)) m c fj j k lead r) ⌝ }
 {
     if same(lead.some, lead.first, c) {
         return made(true, lead.some, lead.first, lead.lo);
@@ -176,7 +231,15 @@ fn take<'a>(
     if barred(on, seen, c) {
         return made(false, lead.some, lead.first, lead.lo);
     }
-    look(places, starts, sizes, entries, n, on, place, lead, c, fj, j)
+    let own = made(true, lead.some, lead.first, m);
+    let r = look(places, starts, sizes, entries, n, on, place, own, c, fj, j);
+    if !r.ok {
+        return r;
+    }
+    if pocket(places, starts, sizes, entries, n, f, r.lo, k, c) {
+        return made(false, lead.some, lead.first, lead.lo);
+    }
+    made(true, true, c, lists::lesser(lead.lo, r.lo))
 }
 
 // The lead of the list with what is below position k put before it; each context that is put is marked.
@@ -188,6 +251,7 @@ fn extend<'a>(
     entries: &'a [u16],
     n: usize,
     f: &'a [u16],
+    m: usize,
     seen: &'a [u8],
     place: &'a [u16],
     old: Lead,
@@ -195,7 +259,7 @@ fn extend<'a>(
     j: usize,
 ) -> Lead
     requires { ⌜ old .ok ≡ true ⌝ }
-    ensures { λ r. ⌜ ((m : ℕ) → now (places .entry) ≡ placesOf (rows (now (starts .entry)) (now (sizes .entry)) (now (entries .entry)) n) → now (place .entry) ≡ run.placed (now (f .entry)) m → Extends (rows (now (starts .entry)) (now (sizes .entry)) (now (entries .entry)) n) (now (f .entry)) m (now (seen .entry)) (now (place .entry)) j k (trailOf old (now (on .entry))) (trailOf r (now (on .exit)))) ⌝ }
+    ensures { λ r. ⌜ (now (places .entry) ≡ placesOf (rows (now (starts .entry)) (now (sizes .entry)) (now (entries .entry)) n) → now (place .entry) ≡ run.placed (now (f .entry)) m → Extends (rows (now (starts .entry)) (now (sizes .entry)) (now (entries .entry)) n) (now (f .entry)) m (now (seen .entry)) (now (place .entry)) j k (trailOf old (now (on .entry))) (trailOf r (now (on .exit)))) ⌝ }
 {
     let x = frontier::below::turn_by(places, starts, sizes, entries, n, f, k);
     let q = frontier::below::depth(starts, sizes, entries, n, f, k, x);
@@ -214,6 +278,8 @@ fn extend<'a>(
             sizes,
             entries,
             n,
+            f,
+            m,
             on,
             seen,
             place,
@@ -221,6 +287,7 @@ fn extend<'a>(
             c,
             fj,
             j,
+            k,
         );
         if !lead.ok {
             return lead;
@@ -263,6 +330,8 @@ fn shut<'a>(
         sizes,
         entries,
         n,
+        f,
+        m,
         seen,
         seen,
         place,
@@ -270,6 +339,7 @@ fn shut<'a>(
         c,
         lists::num(f, j),
         j,
+        k,
     );
     !lead.ok
 }
@@ -304,6 +374,7 @@ fn search<'a>(
             entries,
             n,
             f,
+            m,
             &marks,
             place,
             lead,
@@ -315,20 +386,9 @@ fn search<'a>(
         }
         lead = t;
         k -= 1;
-        if k - 1 <= t.lo {
-            if pairs::chords::fits(
-                places,
-                starts,
-                sizes,
-                entries,
-                n,
-                f,
-                m,
-                marks,
-                clean,
-                k - 1,
-                j,
-            ) {
+        let i = k - 1;
+        if i <= t.lo {
+            if pairs::chords::fits(places, starts, sizes, entries, n, f, m, marks, clean, i, j) {
                 return k;
             }
         }

@@ -18,10 +18,10 @@ use Rattle.choice.proofs.extend.Statement.{statement}
 use Rattle.choice.proofs.extend.Tie as tie
 
 abbrev Inv-loop : tie.InvT-loop
-Inv-loop on₀ places starts sizes entries n f seen place k j x q u fj lead₀ t₀ on lead t = (t ≤ q) × (length on ≡ length on₀) × (lead .ok ≡ true) × ((m : ℕ) → places ≡ placesOf (rows starts sizes entries n) → place ≡ run.placed f m → Grows (rows starts sizes entries n) f m k (run.trailOf lead₀ on₀) t (run.trailOf lead on))
+Inv-loop on₀ places starts sizes entries n f m seen place k j x q u fj lead₀ t₀ on lead t = (t ≤ q) × (length on ≡ length on₀) × (lead .ok ≡ true) × (places ≡ placesOf (rows starts sizes entries n) → place ≡ run.placed f m → Grows (rows starts sizes entries n) f m k (run.trailOf lead₀ on₀) t (run.trailOf lead on))
 
 abbrev μ-loop : tie.MeasureT-loop
-μ-loop on₀ places starts sizes entries n f seen place k j x q u fj lead₀ t₀ on lead t = q - t
+μ-loop on₀ places starts sizes entries n f m seen place k j x q u fj lead₀ t₀ on lead t = q - t
 
 turn-by-requires : tie.Need-turn-by-requires Inv-loop μ-loop
 turn-by-requires c κs = search needs
@@ -35,7 +35,7 @@ made-requires c κs = search needs
 returns : tie.Need-returns Inv-loop μ-loop
 returns c =
     let a = c .before .before .before .before .before .before .before .before .before .before .before .before .args in
-    λ m own hi. extends-bare (sym (depth-told (rows (a .starts .now) (a .sizes .now) (a .entries .now) (a .n)) own (a .f .now) (a .k) (c .before .before .before .turn-by .ensures .0) (c .before .before .depth .ensures .0)) ∙ c .before .if1 .taken) (ap (λ (l : Lead). l .ok) (c .made .ensures))
+    λ own hi. extends-bare (sym (depth-told (rows (a .starts .now) (a .sizes .now) (a .entries .now) (a .n)) own (a .f .now) (a .k) (c .before .before .before .turn-by .ensures .0) (c .before .before .depth .ensures .0)) ∙ c .before .if1 .taken) (ap (λ (l : Lead). l .ok) (c .made .ensures))
 
 num-requires : tie.Need-num-requires Inv-loop μ-loop
 num-requires c κs = search needs
@@ -44,7 +44,7 @@ num-requires-2 : tie.Need-num-requires-2 Inv-loop μ-loop
 num-requires-2 c κs = search needs
 
 loop-holds : tie.Need-loop-holds Inv-loop μ-loop
-loop-holds c = (omega arith, refl, c .before .before .before .before .before .before .before .before .before .before .before .before .before .pre, λ m own hi. grows-start)
+loop-holds c = (omega arith, refl, c .before .before .before .before .before .before .before .before .before .before .before .before .before .pre, λ own hi. grows-start)
 
 onward-at-requires : tie.Need-onward-at-requires Inv-loop μ-loop
 onward-at-requires c κs = search needs
@@ -64,13 +64,13 @@ returns-2 c =
     let p = rows (a .starts .now) (a .sizes .now) (a .entries .now) (a .n) in
     let cur = c .before .before .before .before .before .before .before .loop in
     let ok = not-true (c .before .before .take .result .ok) (c .if2 .taken) in
-    let no = c .before .before .take .ensures .no ok in
-    let why = subst (λ (w : ℕ). Reason p (cur .on) (a .seen .now) (a .place .now) (cur .lead .some) (cur .lead .first) (c .before .before .before .before .wide-word .result) w (a .j)) (c .before .before .before .before .before .before .before .before .num2 .ensures .0) (no .1) in
-    λ m own hi.
+    λ own hi.
     let at = turn-told p own (a .f .now) (a .k) (c .before .before .before .before .before .before .before .before .before .before .before .before .turn-by .ensures .0) in
     let size = depth-told p own (a .f .now) (a .k) (c .before .before .before .before .before .before .before .before .before .before .before .before .turn-by .ensures .0) (c .before .before .before .before .before .before .before .before .before .before .before .depth .ensures .0) in
     let c-is = c .before .before .before .before .wide-word .ensures .0 ∙ c .before .before .before .before .before .onward-at .ensures ∙ ap (λ (l : List ℕ). getD l (cur .t) 0) (under-turned p (a .f .now) (a .k) (c .before .before .before .before .before .before .before .before .before .num .ensures .0) at) in
-    grows-stop (cur .inv .3 m own hi) (omega arith) c-is (no .0) why ok
+    let no = c .before .before .take .ensures own .no ok in
+    let why = subst (λ (w : ℕ). Reason p (a .f .now) (cur .on) (a .seen .now) (a .place .now) (cur .lead .some) (cur .lead .first) (c .before .before .before .before .wide-word .result) w (a .j) (a .k)) (c .before .before .before .before .before .before .before .before .num2 .ensures .0) (no .1) in
+    grows-stop (cur .inv .3 own hi) (omega arith) c-is (no .0) why ok
 
 set-byte-requires : tie.Need-set-byte-requires Inv-loop μ-loop
 set-byte-requires c κs = search needs
@@ -90,11 +90,11 @@ loop-again c =
       omega arith,
       search needs,
       ok,
-      λ m own hi.
+      λ own hi.
           let at = turn-told p own (a .f .now) (a .k) (c .before .before .before .before .before .before .before .before .before .before .before .before .before .before .before .before .turn-by .ensures .0) in
           let size = depth-told p own (a .f .now) (a .k) (c .before .before .before .before .before .before .before .before .before .before .before .before .before .before .before .before .turn-by .ensures .0) (c .before .before .before .before .before .before .before .before .before .before .before .before .before .before .before .depth .ensures .0) in
           let c-is = c .before .before .before .before .before .before .before .before .wide-word .ensures .0 ∙ c .before .before .before .before .before .before .before .before .before .onward-at .ensures ∙ ap (λ (l : List ℕ). getD l (cur .t) 0) (under-turned p (a .f .now) (a .k) (c .before .before .before .before .before .before .before .before .before .before .before .before .before .num .ensures .0) at) in
-          grows-on (cur .inv .3 m own hi) refl refl (omega arith) c-is (c .before .before .before .before .before .before .take .ensures) own hi ok (c .before .before .set-byte .ensures),
+          grows-on (cur .inv .3 own hi) refl refl (omega arith) c-is (c .before .before .before .before .before .before .take .ensures own) own hi ok (c .before .before .set-byte .ensures),
     )
 
 same-length-2 : tie.Need-same-length-2 Inv-loop μ-loop
@@ -103,10 +103,10 @@ same-length-2 c = search needs
 returns-3 : tie.Need-returns-3 Inv-loop μ-loop
 returns-3 c =
     let a = c .before .before .before .before .before .before .before .before .before .before .before .before .before .before .before .args in
-    λ m own hi.
+    λ own hi.
     let size = depth-told (rows (a .starts .now) (a .sizes .now) (a .entries .now) (a .n)) own (a .f .now) (a .k) (c .before .before .before .before .before .before .turn-by .ensures .0) (c .before .before .before .before .before .depth .ensures .0) in
     let reached = c .before .loop .inv .0 in
-    grows-end (c .before .loop .inv .3 m own hi) (c .before .loop .inv .2) (omega arith) (omega arith)
+    grows-end (c .before .loop .inv .3 own hi) (c .before .loop .inv .2) (omega arith) (omega arith)
 
 pub extend-spec : {M : Type 1} → statement M
 extend-spec = tie.close (tie.spec Inv-loop μ-loop turn-by-requires depth-requires made-requires returns num-requires num-requires-2 loop-holds onward-at-requires wide-word-requires take-requires same-length returns-2 set-byte-requires add-t loop-less loop-again same-length-2 returns-3)

@@ -51,16 +51,13 @@ returns c =
     let a = c .before .before .before .before .before .before .before .before .before .before .before .before .before .before .before .args in
     let hi = c .before .before .before .before .before .before .before .before .before .before .before .before .before .before .before .pre .0 in
     let inj = c .before .before .before .before .before .before .before .before .before .before .before .before .before .before .before .pre .1 in
-    λ s rd. seeking-stop (rows (a .starts .now) (a .sizes .now) (a .entries .now) (a .n)) (rd .sane) s (lines.line true (a .m) (a .f .now) (a .t8)) (rd .front) (a .place .now) hi (a .j) inj (c .before .before .before .before .before .before .before .loop .inv .2 hi inj s rd) (omega arith) (omega arith) (c .before .before .before .extend .ensures (a .m) (rd .own) hi) (not-true (c .before .before .before .extend .result .ok) (c .if1 .taken))
+    λ s rd. seeking-stop (rows (a .starts .now) (a .sizes .now) (a .entries .now) (a .n)) (rd .sane) s (lines.line true (a .m) (a .f .now) (a .t8)) (rd .front) (a .place .now) hi (a .j) inj (c .before .before .before .before .before .before .before .loop .inv .2 hi inj s rd) (omega arith) (omega arith) (c .before .before .before .extend .ensures (rd .own) hi) (not-true (c .before .before .before .extend .result .ok) (c .if1 .taken))
 
 sub-k : tie.Need-sub-k Inv-loop μ-loop
 sub-k c = search needs
 
-sub-if2 : tie.Need-sub-if2 Inv-loop μ-loop
-sub-if2 c = search needs
-
-sub-fits : tie.Need-sub-fits Inv-loop μ-loop
-sub-fits c = search needs
+sub-i : tie.Need-sub-i Inv-loop μ-loop
+sub-i c = search needs
 
 fits-requires : tie.Need-fits-requires Inv-loop μ-loop
 fits-requires c κs = search needs
@@ -70,7 +67,7 @@ returns-2 c =
     let a = c .before .before .before .before .before .before .before .before .before .before .before .before .before .before .before .before .before .before .before .args in
     let hi = c .before .before .before .before .before .before .before .before .before .before .before .before .before .before .before .before .before .before .before .pre .0 in
     let inj = c .before .before .before .before .before .before .before .before .before .before .before .before .before .before .before .before .before .before .before .pre .1 in
-    λ s rd. seeking-hit (rows (a .starts .now) (a .sizes .now) (a .entries .now) (a .n)) (rd .sane) s (lines.line true (a .m) (a .f .now) (a .t8)) (rd .front) (a .place .now) hi (a .j) inj (c .before .before .before .before .before .before .before .before .before .before .before .loop .inv .2 hi inj s rd) (omega arith) (omega arith) (c .before .before .before .before .before .before .before .extend .ensures (a .m) (rd .own) hi) (not-false (c .before .before .before .before .before .before .before .extend .result .ok) (c .before .before .before .before .if1 .left)) (a .clean) (rd .chords) (sym (c .before .fits2 .ensures (rd .own)) ∙ c .if3 .taken)
+    λ s rd. seeking-hit (rows (a .starts .now) (a .sizes .now) (a .entries .now) (a .n)) (rd .sane) s (lines.line true (a .m) (a .f .now) (a .t8)) (rd .front) (a .place .now) hi (a .j) inj (c .before .before .before .before .before .before .before .before .before .before .before .loop .inv .2 hi inj s rd) (omega arith) (omega arith) (c .before .before .before .before .before .before .before .extend .ensures (rd .own) hi) (not-false (c .before .before .before .before .before .before .before .extend .result .ok) (c .before .before .before .before .if1 .left)) (a .clean) (rd .chords) (sym (c .before .fits2 .ensures (rd .own)) ∙ c .if3 .taken)
 
 loop-less : tie.Need-loop-less Inv-loop μ-loop
 loop-less c = search needs
@@ -79,7 +76,7 @@ loop-again : tie.Need-loop-again Inv-loop μ-loop
 loop-again c =
     let a = c .before .before .before .before .before .before .before .before .before .before .before .before .before .before .before .before .before .before .before .args in
     let ok = not-false (c .before .before .before .before .before .before .before .extend .result .ok) (c .before .before .before .before .if1 .left) in
-    (search needs, ok, λ hi inj s rd. seeking-on (rows (a .starts .now) (a .sizes .now) (a .entries .now) (a .n)) (rd .sane) s (lines.line true (a .m) (a .f .now) (a .t8)) (rd .front) (a .place .now) hi (a .j) inj (c .before .before .before .before .before .before .before .before .before .before .before .loop .inv .2 hi inj s rd) (omega arith) (omega arith) (c .before .before .before .before .before .before .before .extend .ensures (a .m) (rd .own) hi) ok (a .clean) (rd .chords) (sym (c .before .fits2 .ensures (rd .own)) ∙ c .if3 .left))
+    (search needs, ok, λ hi inj s rd. seeking-on (rows (a .starts .now) (a .sizes .now) (a .entries .now) (a .n)) (rd .sane) s (lines.line true (a .m) (a .f .now) (a .t8)) (rd .front) (a .place .now) hi (a .j) inj (c .before .before .before .before .before .before .before .before .before .before .before .loop .inv .2 hi inj s rd) (omega arith) (omega arith) (c .before .before .before .before .before .before .before .extend .ensures (rd .own) hi) ok (a .clean) (rd .chords) (sym (c .before .fits2 .ensures (rd .own)) ∙ c .if3 .left))
 
 loop-less-2 : tie.Need-loop-less-2 Inv-loop μ-loop
 loop-less-2 c = search needs
@@ -88,7 +85,7 @@ loop-again-2 : tie.Need-loop-again-2 Inv-loop μ-loop
 loop-again-2 c =
     let a = c .before .before .before .before .before .before .before .before .before .before .before .before .before .before .before .before .before .args in
     let ok = not-false (c .before .before .before .before .before .extend .result .ok) (c .before .before .if1 .left) in
-    (search needs, ok, λ hi inj s rd. seeking-over (rows (a .starts .now) (a .sizes .now) (a .entries .now) (a .n)) (rd .sane) s (lines.line true (a .m) (a .f .now) (a .t8)) (rd .front) (a .place .now) hi (a .j) inj (c .before .before .before .before .before .before .before .before .before .loop .inv .2 hi inj s rd) (omega arith) (omega arith) (c .before .before .before .before .before .extend .ensures (a .m) (rd .own) hi) ok (omega arith))
+    (search needs, ok, λ hi inj s rd. seeking-over (rows (a .starts .now) (a .sizes .now) (a .entries .now) (a .n)) (rd .sane) s (lines.line true (a .m) (a .f .now) (a .t8)) (rd .front) (a .place .now) hi (a .j) inj (c .before .before .before .before .before .before .before .before .before .loop .inv .2 hi inj s rd) (omega arith) (omega arith) (c .before .before .before .before .before .extend .ensures (rd .own) hi) ok (omega arith))
 
 returns-3 : tie.Need-returns-3 Inv-loop μ-loop
 returns-3 c =
@@ -98,4 +95,4 @@ returns-3 c =
     λ s rd. seeking-end (rows (a .starts .now) (a .sizes .now) (a .entries .now) (a .n)) (rd .sane) s (lines.line true (a .m) (a .f .now) (a .t8)) (rd .front) (a .place .now) hi (a .j) inj (c .before .loop .inv .2 hi inj s rd) (omega arith)
 
 pub search-spec : {M : Type 1} → statement M
-search-spec = tie.close (tie.spec Inv-loop μ-loop start-requires loop-holds slice-aggregate-extend slice-aggregate-extend-2 sub-extend extend-requires returns sub-k sub-if2 sub-fits fits-requires returns-2 loop-less loop-again loop-less-2 loop-again-2 returns-3)
+search-spec = tie.close (tie.spec Inv-loop μ-loop start-requires loop-holds slice-aggregate-extend slice-aggregate-extend-2 sub-extend extend-requires returns sub-k sub-i fits-requires returns-2 loop-less loop-again loop-less-2 loop-again-2 returns-3)

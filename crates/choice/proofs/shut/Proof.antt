@@ -43,7 +43,7 @@ returns c =
     let k = c .before .before .before .before .before .before .before .before .minus .result in
     λ yes own.
     let c-is = c .before .before .before .before .wide-word .ensures .0 ∙ c .before .before .before .before .before .onward-at .ensures ∙ ap (λ (l : List ℕ). getD l 0 0) (under-turned p (a .f .now) k (c .before .before .before .before .before .before .num .ensures .0) (turn-told p own (a .f .now) k (c .before .before .before .before .before .before .before .turn-by .ensures .0))) in
-    subst (λ (w : ℕ). Stops p (a .f .now) (a .m) (a .seen .now) (a .place .now) (a .j) w []) (c .before .before .before .before .before .before .before .before .minus .ensures) (shut-stops c-is (c .before .before .num2 .ensures .0) (c .before .before .before .start .ensures) (c .before .take .ensures) (not-true (c .before .take .result .ok) yes))
+    subst (λ (w : ℕ). Stops p (a .f .now) (a .m) (a .seen .now) (a .place .now) (a .j) w []) (c .before .before .before .before .before .before .before .before .minus .ensures) (shut-stops c-is (c .before .before .num2 .ensures .0) (c .before .before .before .start .ensures) (c .before .take .ensures own) (not-true (c .before .take .result .ok) yes))
 
 pub shut-spec : {M : Type 1} → statement M
 shut-spec = tie.close (tie.spec minus-requires turn-by-requires num-requires onward-at-requires wide-word-requires start-requires num-requires-2 take-requires returns)
