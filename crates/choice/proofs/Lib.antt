@@ -1,3 +1,4 @@
-pub mod Moves
+pub mod Takes
 pub mod Trails
+pub mod Pockets
 pub mod Searches

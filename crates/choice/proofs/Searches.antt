@@ -8,56 +8,33 @@ use native.Mathlib.Omega.{arith}
 use lib.ListN.{length, getD, set, length-append}
 use lib.Seq.{getD-append-add, getD-append-seam}
 use lib.Dec.{eqb, ltb, leb}
-use borrow.Author.Tests.{eqb-true, eqb-false, ltb-true, leb-true, leb-false}
+use borrow.Author.Tests.{eqb-true, eqb-false, ne-eqb, lt-ltb, ltb-true, ltb-false, leb-true, leb-false}
 use Rattle.lists.specs.Tests.{any, empty, member, repeats}
 use Rattle.lists.specs.Ranges.{from}
 use Rattle.lists.specs.Parts.{squeeze, squeezeAfter}
 use Rattle.lists.specs.Spans.{zeros, padded}
 use Rattle.lists.proofs.Bools.{both}
 use Rattle.lists.proofs.Tests.{mem-member}
-use Rattle.lists.proofs.Ranges.{mem-from}
-use Rattle.lists.proofs.Joins.{mem-join}
+use Rattle.lists.proofs.Ranges.{mem-from, from-mem}
+use Rattle.lists.proofs.Joins.{mem-join, join-mem}
 use Rattle.model.specs.Plan.{Plan, ring, adjacent, between, border}
-use Rattle.model.specs.Sweep.{State, below, listed, replaced, eligible, choose, choices}
+use Rattle.model.specs.Sweep.{State, below, listed, replaced, chordless, eligible, choose, choices}
 use Rattle.model.proofs.Plans.{mem-adjacent}
-use Rattle.model.proofs.Eligible.{getD-mem, mem-getD, squeeze-mem, chordless-apart, replaced-left, replaced-list, replaced-right, replaced-length, something-below, eligible-clear, Clear}
+use Rattle.model.proofs.Eligible.{getD-mem, mem-getD, squeeze-mem, chordless-apart, replaced-left, replaced-list, replaced-right, replaced-length, something-below, below-listed, eligible-clear, Clear}
 use Rattle.model.proofs.Choices.{Positions, chosen-taken, none-taken}
-use Rattle.lists.specs.Folds.{each}
 use Rattle.frontier.specs.declared.Line.{Line}
 use Rattle.choice.specs.declared.Found.the-variants.{At, Nothing}
 use Rattle.frontier.specs.Front.{Sane, Front}
-use Rattle.frontier.specs.Run.{line}
-use Rattle.pairs.specs.Run.{placed, fits}
-use Rattle.choice.specs.Run.{Trail, beyond, knot, tangled, blocked, same, promising, startTrail}
-use Rattle.choice.specs.Search.{foundAs, Trails, Stops, bare, barred, Extends, Best}
+use Rattle.pairs.specs.Run.{fits}
+use Rattle.choice.specs.Run.{Trail, placed, same, startTrail}
+use Rattle.choice.specs.Search.{foundAs, Trails, Reason, edge, old, twice, right, beside, later, split, Stops, bare, barred, Extends, Best}
 use Rattle.pairs.proofs.Dirt.{repeats-right, or-left, squeeze-before, clean-once}
 use Rattle.frontier.proofs.Lines.{getD-padded, getD-none}
 use Rattle.pairs.proofs.Gather.{raw}
 use Rattle.frontier.proofs.Under.{below-mem}
-use Rattle.lists.proofs.Folds.{some-one}
 use Rattle.pairs.proofs.Pairs.{fits-is, gathered, unchorded}
-use Rattle.choice.proofs.Trails.{set-cases, trails-start}
-
--- ---- a number in the table of positions is a position of its context
--- positions put into the table one after the other
-place-real : (f : List ℕ) (a k : ℕ) (place : List ℕ) → ((c t : ℕ) → getD place c 0 ≡ suc t → (t < a) × (getD f t 0 ≡ c))
-    → (c t : ℕ) → getD (each (λ (i : ℕ) l. set l (getD f i 0) (suc i)) a k place) c 0 ≡ suc t → (t < a + k) × (getD f t 0 ≡ c)
-unfolding each
-place-real f a zero place h c t e = let (x, y) = h c t e in (omega arith, y)
-place-real f a (suc k) place h c t e =
-    let (x, y) = place-real f (suc a) k (set place (getD f a 0) (suc a)) (λ d u q. go d u (set-cases place (getD f a 0) (suc a) d u q)) c t e in
-    (omega arith, y)
-  where
-    go : (d u : ℕ) → ((d ≡ getD f a 0) × (suc a ≡ suc u)) ⊎ (getD place d 0 ≡ suc u) → (u < suc a) × (getD f u 0 ≡ d)
-    go d u (inl (s, z)) = let w : u ≡ a = omega arith in (omega arith, ap (λ (i : ℕ). getD f i 0) w ∙ sym s)
-    go d u (inr q) = let (x, y) = h d u q in (omega arith, y)
-
--- of the whole table
-placed-real : (f : List ℕ) (m c t : ℕ) → getD (placed f m) c 0 ≡ suc t → (t < m) × (getD f t 0 ≡ c)
-unfolding placed
-placed-real f m c t e =
-    let (x, y) = place-real f 0 (m - 0) (zeros 256) (λ d u q. let z = getD-none 256 d in absurd (omega arith)) c t e in
-    (omega arith, y)
+use Rattle.choice.proofs.Trails.{placed-real, trails-start}
+use Rattle.choice.proofs.Pockets.{apart}
 
 -- ---- what is below a range of positions, in two parts
 -- the positions from a on, cut after x of them
@@ -82,53 +59,6 @@ squeeze-cons : (c : ℕ) (l : List ℕ) (any : Bool) (first : ℕ) → (any ≡ 
 unfolding same
 squeeze-cons c l false first h k e = ap (λ (m : List ℕ). squeeze (c ∷ m)) (h refl) ∙ ap (λ (m : List ℕ). c ∷ squeeze m) (sym (h refl))
 squeeze-cons c l true first h k e = let (rest, q) = k refl in ap (λ (m : List ℕ). squeeze (c ∷ m)) q ∙ ap (λ (b : Bool). c ∷ cond b (squeezeAfter c rest) (first ∷ squeezeAfter first rest)) e ∙ ap (λ (m : List ℕ). c ∷ squeeze m) (sym q)
-
--- why a context may not come before the list
-data Reason (p : Plan) (on seen place : List ℕ) (any : Bool) (first c fj j : ℕ) : Type 0 where
-  edge : ltb c 4 ≡ true → Reason p on seen place any first c fj j
-  old : eqb (getD seen c 0) 0 ≡ false → Reason p on seen place any first c fj j
-  twice : eqb (getD on c 0) 0 ≡ false → Reason p on seen place any first c fj j
-  right : beyond p place c j ≡ true → Reason p on seen place any first c fj j
-  knotted : any ≡ true → tangled p on c first fj ≡ true → Reason p on seen place any first c fj j
-
--- a test that does not fail passes
-not-false′ : (t : Bool) → not t ≡ true → t ≡ false
-not-false′ true e = absurd (false≢true e)
-not-false′ false e = refl
-
--- a context that may not come before the list has a reason
-reason : (p : Plan) (on seen place : List ℕ) (any : Bool) (first c fj j : ℕ) → blocked p on seen place any first c fj j ≡ true → (same any first c ≡ false) × Reason p on seen place any first c fj j
-unfolding blocked
-reason p on seen place any first c fj j e = go (same any first c) refl (ltb c 4) refl (not (eqb (getD seen c 0) 0)) refl (not (eqb (getD on c 0) 0)) refl (beyond p place c j) refl any refl e
-  where
-    go : (a : Bool) → same any first c ≡ a → (b : Bool) → ltb c 4 ≡ b → (d : Bool) → not (eqb (getD seen c 0) 0) ≡ d → (k : Bool) → not (eqb (getD on c 0) 0) ≡ k → (g : Bool) → beyond p place c j ≡ g → (h : Bool) → any ≡ h
-        → cond a false (cond b true (cond d true (cond k true (cond g true (cond h (tangled p on c first fj) false))))) ≡ true → (same any first c ≡ false) × Reason p on seen place any first c fj j
-    go true x b y d z k w g u h v e = absurd (false≢true e)
-    go false x true y d z k w g u h v e = (x, edge y)
-    go false x false y true z k w g u h v e = (x, old (not-false′ (eqb (getD seen c 0) 0) z))
-    go false x false y false z true w g u h v e = (x, twice (not-false′ (eqb (getD on c 0) 0) w))
-    go false x false y false z false w true u h v e = (x, right u)
-    go false x false y false z false w false u true v e = (x, knotted v e)
-    go false x false y false z false w false u false v e = absurd (false≢true e)
-
--- a neighbour that would not be adjacent to the context
-knot-says : (on : List ℕ) (first fj w : ℕ) → knot on first fj w ≡ true → (w ≡ fj) ⊎ ((w ≡ first → ⊥) × (getD on w 0 ≡ 0 → ⊥))
-unfolding knot
-knot-says on first fj w e = go (eqb w fj) refl (eqb w first) refl (eqb (getD on w 0) 0) refl e
-  where
-    go : (a : Bool) → eqb w fj ≡ a → (b : Bool) → eqb w first ≡ b → (d : Bool) → eqb (getD on w 0) 0 ≡ d → cond a true (cond b false (not d)) ≡ true → (w ≡ fj) ⊎ ((w ≡ first → ⊥) × (getD on w 0 ≡ 0 → ⊥))
-    go true x b y d z e = inl (eqb-true w fj x)
-    go false x true y d z e = absurd (false≢true e)
-    go false x false y true z e = absurd (false≢true e)
-    go false x false y false z e = inr (eqb-false w first y, eqb-false (getD on w 0) 0 z)
-
--- a neighbour of the context that would not be adjacent to it
-tangled-says : (p : Plan) (on : List ℕ) (c first fj : ℕ) → tangled p on c first fj ≡ true → (w : ℕ) × (adjacent p c w ≡ true) × ((w ≡ fj) ⊎ ((w ≡ first → ⊥) × (getD on w 0 ≡ 0 → ⊥)))
-unfolding tangled
-tangled-says p on c first fj e =
-    let r = ring p c in
-    let (t, _, h, k) = some-one (λ (i : ℕ). knot on first fj (getD r i 0)) 0 (length r - 0) e in
-    (getD r t 0, mem-adjacent p c (getD r t 0) (getD-mem r t (omega arith)), knot-says on first fj (getD r t 0) k)
 
 -- what is below, on the array that holds the frontier
 below-padded : (p : Plan) (f : List ℕ) (k : ℕ) → below p (padded 512 f) k ≡ below p f k
@@ -184,6 +114,74 @@ module _ (p : Plan) (sane : Sane p) (s : State) (v : Line) (fr : Front s v) (pla
       -- what holds of a context of an eligible list
       clear : Clear p s i j k c
       clear = eligible-clear p s i j positions e k c low high-k c-below
+
+      -- the position after a has something below, and not c
+      module _ (a : ℕ) (h : suc a < k) (far : adjacent p (getD f (suc a) 0) c ≡ false) (ai : i ≤ a) where
+        -- what is below it is another context and more
+        other-below : (d : ℕ) × (more : List ℕ) × (below p f (suc a) ≡ d ∷ more) × (d ≡ c → ⊥)
+        other-below = go (below p f (suc a)) refl
+          where
+            go : (l : List ℕ) → below p f (suc a) ≡ l → (d : ℕ) × (more : List ℕ) × (below p f (suc a) ≡ d ∷ more) × (d ≡ c → ⊥)
+            go [] q = both (empty (below p f (suc a))) (ap empty q) (something-below p s i j positions e (suc a) (omega arith) (omega arith))
+            go (d ∷ more) q =
+                let near = mem-adjacent p (getD f (suc a) 0) d (below-mem p f (suc a) d (subst (List·Memᴰ d) (sym q) (List·Memᴰ·head refl))) in
+                (d, more, q, λ z. both (adjacent p (getD f (suc a) 0) c) (ap (adjacent p (getD f (suc a) 0)) (sym z) ∙ near) far)
+
+        -- what is below from there on
+        rest : raw p f (suc a) (j - suc a) ≡ below p f (suc a) ++ raw p f (suc (suc a)) (j - suc (suc a))
+        rest = raw-more p f (suc a) j (omega arith)
+
+        -- c stands further on
+        c-later : List·Memᴰ c (raw p f (suc (suc a)) (j - suc (suc a)))
+        c-later = join-mem (below p f) (from (suc (suc a)) (j - suc (suc a))) k c (from-mem (suc (suc a)) (j - suc (suc a)) k (omega arith) (omega arith)) c-below
+
+        -- so c does not stand before as well
+        not-before : List·Memᴰ c (raw p f (suc i) (suc a - suc i)) → ⊥
+        unfolding listed
+        not-before m =
+            let (d, more, q, n) = other-below in
+            let x : j - suc i ≡ (suc a - suc i) + (j - suc a) = omega arith in
+            let y : suc i + (suc a - suc i) ≡ suc a = omega arith in
+            let A = raw p f (suc i) (suc a - suc i) in
+            let whole : raw p f (suc i) (j - suc i) ≡ A ++ (d ∷ more ++ raw p f (suc (suc a)) (j - suc (suc a))) =
+            ap (raw p f (suc i)) x ∙ raw-split p f (suc i) (suc a - suc i) (j - suc a) ∙ ap (λ (w : ℕ). A ++ raw p f w (j - suc a)) y ∙ ap (λ (w : List ℕ). A ++ w) (rest ∙ ap (λ (w : List ℕ). w ++ raw p f (suc (suc a)) (j - suc (suc a))) q) in
+            apart A d (more ++ raw p f (suc (suc a)) (j - suc (suc a))) c (ap (λ (w : List ℕ). repeats (squeeze w)) (sym whole) ∙ once) m n (Memᴰ·append-right more c-later)
+
+        -- nor is c next to position i
+        not-next : i ≡ a → adjacent p (getD f i 0) c ≡ true → ⊥
+        unfolding listed
+        not-next same near = go (mem-getD l c (below-listed p s i j positions e k c low high-k c-below))
+          where
+            front : (x : ℕ) → getD l x 0 ≡ c → 1 ≤ x
+            front zero z =
+                let (d, more, q, n) = other-below in
+                let w : raw p f (suc i) (j - suc i) ≡ d ∷ more ++ raw p f (suc (suc a)) (j - suc (suc a)) = ap (λ (x : ℕ). raw p f (suc x) (j - suc x)) same ∙ rest ∙ ap (λ (w : List ℕ). w ++ raw p f (suc (suc a)) (j - suc (suc a))) q in
+                absurd (n (sym (ap (λ (b : List ℕ). getD (squeeze b) 0 0) w) ∙ z))
+            front (suc x) z = omega arith
+
+            go : (x : ℕ) × (x < length l) × (getD l x 0 ≡ c) → ⊥
+            go (x, x-in, x-is) =
+                let one = front x x-is in
+                let long = replaced-length f l i j two within in
+                let here = replaced-left f l i j two within i (omega arith) in
+                let there = replaced-list f l i j two within x x-in ∙ x-is in
+                both (adjacent p (getD f i 0) c) near (sym (λ d. adjacent p (here d) (there d)) ∙ no-chord i (suc i + x) (omega arith) (omega arith))
+
+      -- c is not in a pocket
+      not-split : (a : ℕ) → suc a < k → List·Memᴰ c (below p f a) → adjacent p (getD f (suc a) 0) c ≡ false → ⊥
+      not-split a h m far = go (ltb a i) refl (ltb i a) refl
+        where
+          near : adjacent p (getD f a 0) c ≡ true
+          near = mem-adjacent p (getD f a 0) c (below-mem p f a c m)
+
+          go : (x : Bool) → ltb a i ≡ x → (y : Bool) → ltb i a ≡ y → ⊥
+          go true x y y′ = both (adjacent p (getD f a 0) c) near (clear .left-clear a (ltb-true a i x))
+          go false x true y = let z = ltb-true i a y in not-before a h far (omega arith) (join-mem (below p f) (from (suc i) (suc a - suc i)) a c (from-mem (suc i) (suc a - suc i) a (omega arith) (omega arith)) m)
+          go false x false y =
+              let z = ltb-false a i x in
+              let w = ltb-false i a y in
+              let same : i ≡ a = omega arith in
+              not-next a h far (omega arith) same (ap (λ (n : ℕ). adjacent p (getD f n 0) c) same ∙ near)
 
       -- the list ends with what is squeezed from c on
       ends : (r : List ℕ) × (l ≡ r ++ squeeze (c ∷ Q))
@@ -251,41 +249,30 @@ module _ (p : Plan) (sane : Sane p) (s : State) (v : Line) (fr : Front s v) (pla
             let there = replaced-right f l i j two within 0 ∙ ap (λ (b : ℕ). getD f b 0) z in
             both (adjacent p c (getD f j 0)) a (sym (λ d. adjacent p (c-at r q d) (there d)) ∙ no-chord (suc i + length r) (suc i + length l + 0) (omega arith) (omega arith))
 
-        -- c has no neighbour that would not be adjacent to it
-        not-knotted : t .some ≡ true → tangled p (t .on) c (t .first) (getD (v .at) j 0) ≡ true → ⊥
-        not-knotted some b = go (tangled-says p (t .on) c (t .first) (getD (v .at) j 0) b)
-          where
-            go : (w : ℕ) × (adjacent p c w ≡ true) × ((w ≡ getD (v .at) j 0) ⊎ ((w ≡ t .first → ⊥) × (getD (t .on) w 0 ≡ 0 → ⊥))) → ⊥
-            go (w, a, inl z) = not-beside some (ap (adjacent p c) (sym (z ∙ at-same j)) ∙ a)
-            go (w, a, inr (n, m)) = not-later some w (tr .marks w m) n a
-
-        -- nor one beyond j
-        not-right : beyond p place c j ≡ true → ⊥
-        unfolding beyond
-        not-right b =
-            let r = ring p c in
-            let (y, _, y-in, q) = some-one (λ (i : ℕ). ltb 1 (getD place (getD r i 0) 0 - j)) 0 (length r - 0) b in
-            let w = getD r y 0 in
-            let far = ltb-true 1 (getD place w 0 - j) q in
+        -- nor has it one beyond j
+        not-right : (w : ℕ) → adjacent p c w ≡ true → suc j < getD place w 0 → ⊥
+        not-right w a far =
             let x : ℕ = getD place w 0 - 1 in
             let z : getD place w 0 ≡ suc x = omega arith in
             let (x-in, x-is) = placed-real (v .at) (v .len) w x (ap (λ (l : List ℕ). getD l w 0) (sym hi) ∙ z) in
             let len = fr .rep .len in
-            both (adjacent p c (getD f x 0)) (ap (adjacent p c) (sym (at-same x) ∙ x-is) ∙ mem-adjacent p c w (getD-mem r y (omega arith))) (clear .right-clear x (omega arith) (omega arith))
+            both (adjacent p c (getD f x 0)) (ap (adjacent p c) (sym (at-same x) ∙ x-is) ∙ a) (clear .right-clear x (omega arith) (omega arith))
 
         -- nor was c on the frontier
-        not-old : eqb (getD (v .marks) c 0) 0 ≡ false → ⊥
+        not-old : (getD (v .marks) c 0 ≡ 0 → ⊥) → ⊥
         not-old b =
             let small = sane .entry (getD f k 0) c (below-mem p f k c c-below) in
-            both (eqb (getD (v .marks) c 0) 0) (fr .marks .mark c (omega arith) ∙ ap not (clear .new)) b
+            both (eqb (getD (v .marks) c 0) 0) (fr .marks .mark c (omega arith) ∙ ap not (clear .new)) (ne-eqb (getD (v .marks) c 0) 0 b)
 
         -- so there is no reason
-        no-reason : Reason p (t .on) (v .marks) place (t .some) (t .first) c (getD (v .at) j 0) j → ⊥
-        no-reason (edge b) = both (border c) b (clear .inner)
+        no-reason : Reason p (v .at) (t .on) (v .marks) place (t .some) (t .first) c (getD (v .at) j 0) j k → ⊥
+        no-reason (edge b) = both (border c) (lt-ltb c 4 b) (clear .inner)
         no-reason (old b) = not-old b
-        no-reason (twice b) = not-twice (tr .marks c (eqb-false (getD (t .on) c 0) 0 b))
-        no-reason (right b) = not-right b
-        no-reason (knotted a b) = not-knotted a b
+        no-reason (twice b) = not-twice (tr .marks c b)
+        no-reason (right w a b) = not-right w a b
+        no-reason (beside some a) = not-beside some (ap (adjacent p c) (sym (at-same j)) ∙ a)
+        no-reason (later some w a n m) = not-later some w (tr .marks w m) n a
+        no-reason (split h) = not-split (h .at) (h .before) (subst (List·Memᴰ c) (below-same (h .at)) (h .under)) (ap (λ (u : ℕ). adjacent p u c) (sym (at-same (suc (h .at)))) ∙ h .apart)
 
   -- where a search stops, no lower i is eligible
   pub dead : (k : ℕ) → k < j → Stops p (v .at) (v .len) (v .marks) place j k (raw p f (suc k) (j - suc k)) → (i : ℕ) → i < k → eligible p s i j ≡ false
@@ -295,9 +282,7 @@ module _ (p : Plan) (sane : Sane p) (s : State) (v : Line) (fr : Front s v) (pla
       go false e st = refl
       go true e (bare z) =
           both (empty (below p f k)) (ap empty (sym (below-same k) ∙ z)) (something-below p s i j (record { apart = omega arith; inside = within }) e k q h)
-      go true e (barred pre post c t z tr b) =
-          let (other, why) = reason p (t .on) (v .marks) place (t .some) (t .first) c (getD (v .at) j 0) j b in
-          absurd (no-reason i (omega arith) e k q h pre post c (sym (below-same k) ∙ z) t tr other why)
+      go true e (barred pre post c t z tr other why) = absurd (no-reason i (omega arith) e k q h pre post c (sym (below-same k) ∙ z) t tr other why)
 
   -- a context of the list is listed left of i: i is not eligible
   pub passed : (i : ℕ) → i + 2 ≤ j → (t : Trail) → Trails p (v .at) (v .len) (raw p f (suc i) (j - suc i)) t → t .lo < i → eligible p s i j ≡ false
@@ -312,62 +297,12 @@ module _ (p : Plan) (sane : Sane p) (s : State) (v : Line) (fr : Front s v) (pla
           let clear = eligible-clear p s i j (record { apart = two; inside = within }) e k c (omega arith) (omega arith) c-in in
           both (adjacent p (getD f (t .lo) 0) c) (ap (λ (u : ℕ). adjacent p u c) (sym (at-same (t .lo))) ∙ a) (clear .left-clear (t .lo) h)
 
-  -- the context at i lists one of the list but the first, or that at j: i is not eligible
-  module _ (i : ℕ) (two : i + 2 ≤ j) (t : Trail) (tr : Trails p (v .at) (v .len) (raw p f (suc i) (j - suc i)) t) (e : eligible p s i j ≡ true) where
-    -- where the context at i stands on the new frontier
-    i-at : getD (replaced f i j (listed p f i j)) i 0 ≡ getD (v .at) i 0
-    i-at = replaced-left f (listed p f i j) i j two within i (omega arith) ∙ sym (at-same i)
-
-    -- the list is not empty
-    some-listed : (b : Bool) → t .some ≡ b → (rest : List ℕ) × (raw p f (suc i) (j - suc i) ≡ t .first ∷ rest)
-    some-listed true q = tr .first q
-    some-listed false q =
-        let none = sym (raw-more p f (suc i) j (omega arith)) ∙ tr .none q in
-        absurd (true≢false (sym (front-empty (below p f (suc i)) (raw p f (suc (suc i)) (j - suc (suc i))) none) ∙ something-below p s i j (record { apart = two; inside = within }) e (suc i) (omega arith) (omega arith)))
-
-    -- the context at i lists none of the list but the first
-    not-stray : (w : ℕ) → List·Memᴰ w (raw p f (suc i) (j - suc i)) → (w ≡ t .first → ⊥) → adjacent p (getD (v .at) i 0) w ≡ true → ⊥
-    unfolding listed
-    not-stray w m n a = go (mem-getD (listed p f i j) w (squeeze-mem (raw p f (suc i) (j - suc i)) w m))
-      where
-        front : (x : ℕ) → getD (squeeze (raw p f (suc i) (j - suc i))) x 0 ≡ w → 1 ≤ x
-        front zero z = absurd (n (sym z ∙ (let (rest, y) = some-listed (t .some) refl in ap (λ (b : List ℕ). getD (squeeze b) 0 0) y)))
-        front (suc x) z = omega arith
-
-        go : (x : ℕ) × (x < length (squeeze (raw p f (suc i) (j - suc i)))) × (getD (squeeze (raw p f (suc i) (j - suc i))) x 0 ≡ w) → ⊥
-        go (x, x-in, x-is) =
-            let long = replaced-length f (squeeze (raw p f (suc i) (j - suc i))) i j two within in
-            let one = front x x-is in
-            let there = replaced-list f (squeeze (raw p f (suc i) (j - suc i))) i j two within x x-in ∙ x-is in
-            both (adjacent p (getD (v .at) i 0) w) a (sym (λ d. adjacent p (i-at d) (there d)) ∙ no-chord i two e i (suc i + x) (omega arith) (omega arith))
-
-    -- nor the context at j
-    not-across : adjacent p (getD (v .at) i 0) (getD f j 0) ≡ true → ⊥
-    unfolding listed
-    not-across a =
-        let l = squeeze (raw p f (suc i) (j - suc i)) in
-        let (rest, y) = some-listed (t .some) refl in
-        let more : length l ≡ suc (length (squeezeAfter (t .first) rest)) = ap (λ (b : List ℕ). length (squeeze b)) y in
-        let long = replaced-length f l i j two within in
-        let z : j + 0 ≡ j = omega arith in
-        let there = replaced-right f l i j two within 0 ∙ ap (λ (b : ℕ). getD f b 0) z in
-        both (adjacent p (getD (v .at) i 0) (getD f j 0)) a (sym (λ d. adjacent p (i-at d) (there d)) ∙ no-chord i two e i (suc i + length l + 0) (omega arith) (omega arith))
-
-    -- so the test does not pass
-    not-strayed : tangled p (t .on) (getD (v .at) i 0) (t .first) (getD (v .at) j 0) ≡ true → ⊥
-    not-strayed b = go (tangled-says p (t .on) (getD (v .at) i 0) (t .first) (getD (v .at) j 0) b)
-      where
-        go : (w : ℕ) × (adjacent p (getD (v .at) i 0) w ≡ true) × ((w ≡ getD (v .at) j 0) ⊎ ((w ≡ t .first → ⊥) × (getD (t .on) w 0 ≡ 0 → ⊥))) → ⊥
-        go (w, a, inl z) = not-across (ap (adjacent p (getD (v .at) i 0)) (sym (z ∙ at-same j)) ∙ a)
-        go (w, a, inr (n, m)) = not-stray w (tr .marks w m) n a
-
-  -- Where the test passes, the pair is not eligible
-  pub strayed : (i : ℕ) → i + 2 ≤ j → (t : Trail) → Trails p (v .at) (v .len) (raw p f (suc i) (j - suc i)) t → tangled p (t .on) (getD (v .at) i 0) (t .first) (getD (v .at) j 0) ≡ true → eligible p s i j ≡ false
-  strayed i two t tr b = go (eligible p s i j) refl
+  -- the search need not begin
+  pub shut-best : Stops p (v .at) (v .len) (v .marks) place j (j - 1) [] → Best p s j 0
+  shut-best stop = record { none = λ e i b. go i b; some = λ i e. absurd (omega arith) }
     where
-      go : (x : Bool) → eligible p s i j ≡ x → x ≡ false
-      go false e = refl
-      go true e = absurd (not-strayed i two t tr e b)
+      go : (i : ℕ) → i + 2 ≤ j → eligible p s i j ≡ false
+      go i b = let z : j - suc (j - 1) ≡ 0 = omega arith in dead (j - 1) (omega arith) (subst (λ (n : ℕ). Stops p (v .at) (v .len) (v .marks) place j (j - 1) (raw p f (suc (j - 1)) n)) (sym z) stop) i (omega arith)
 
   -- ---- the search for i: positions from k on are on the list, and no i from k − 1 on is eligible
   pub record Seeking (k : ℕ) (t : Trail) : Type 0 where
@@ -413,49 +348,29 @@ module _ (p : Plan) (sane : Sane p) (s : State) (v : Line) (fr : Front s v) (pla
           go i a b true e = inv .none i (leb-true k (suc i) e) b
           go i a b false e = let l = leb-false k (suc i) e in let z : k′ - 1 ≡ i = omega arith in subst (λ (x : ℕ). eligible p s x j ≡ false) z n
 
-      -- the pair is not promising
-      pub seeking-over : promising p (v .at) r k′ j ≡ false → Seeking k′ r
-      unfolding promising
-      seeking-over b = step (go (ltb (r .lo) (k′ - 1)) refl (tangled p (r .on) (getD (v .at) (k′ - 1) 0) (r .first) (getD (v .at) j 0)) refl b)
-        where
-          here : Trails p (v .at) (v .len) (raw p f (suc (k′ - 1)) (j - suc (k′ - 1))) r
-          here = let z : suc (k′ - 1) ≡ k′ = omega arith in subst (λ (n : ℕ). Trails p (v .at) (v .len) (raw p f n (j - n)) r) (sym z) after
-
-          go : (x : Bool) → ltb (r .lo) (k′ - 1) ≡ x → (y : Bool) → tangled p (r .on) (getD (v .at) (k′ - 1) 0) (r .first) (getD (v .at) j 0) ≡ y → cond x false (not y) ≡ false → eligible p s (k′ - 1) j ≡ false
-          go true x y z c = let m = inv .reached in passed (k′ - 1) (omega arith) r here (ltb-true (r .lo) (k′ - 1) x)
-          go false x true z c = let m = inv .reached in strayed (k′ - 1) (omega arith) r here z
-          go false x false z c = absurd (true≢false c)
-
-      -- it is tested, and is not eligible
-      pub seeking-on : fits p v (k′ - 1) j ≡ false → Seeking k′ r
-      seeking-on b = let m = inv .reached in step (sym (fits-is p sane s v fr (k′ - 1) j (omega arith) within) ∙ b)
-
-      -- it is eligible
-      pub seeking-hit : fits p v (k′ - 1) j ≡ true → Best p s j k′
-      seeking-hit b =
+      -- a position before lists a context of the list: the pair is not eligible
+      pub seeking-over : r .lo < k′ - 1 → Seeking k′ r
+      seeking-over b =
+          let z : suc (k′ - 1) ≡ k′ = omega arith in
           let m = inv .reached in
-          let yes = sym (fits-is p sane s v fr (k′ - 1) j (omega arith) within) ∙ b in
-          record {
-            none = λ e. absurd (omega arith);
-            some = λ i e.
-                let z : k′ - 1 ≡ i = omega arith in
-                (omega arith, subst (λ (x : ℕ). eligible p s x j ≡ true) z yes, λ x a c. inv .none x (omega arith) c);
-          }
+          step (passed (k′ - 1) (omega arith) r (subst (λ (n : ℕ). Trails p (v .at) (v .len) (raw p f n (j - n)) r) (sym z) after) b)
 
--- the line of a frontier, made anew of its parts
-pub front-plain : {s : State} {v : Line} → Front s v → Front s (line true (v .len) (v .at) (v .marks))
-front-plain fr =
-    record {
-      rep = record { ok = refl; len = fr .rep .len; at = fr .rep .at; short = fr .rep .short };
-      marks = fr .marks;
-      small = fr .small;
-      news = fr .news;
-      olds = fr .olds;
-      parts = fr .parts;
-      once = fr .once;
-      few = fr .few;
-      room = fr .room;
-    }
+      module _ (clean : Bool) (chords : clean ≡ true → chordless p f ≡ true) where
+        -- it is tested, and is not eligible
+        pub seeking-on : fits p clean v (k′ - 1) j ≡ false → Seeking k′ r
+        seeking-on b = let m = inv .reached in step (sym (fits-is p sane s v fr (k′ - 1) j (omega arith) within clean chords) ∙ b)
+
+        -- it is eligible
+        pub seeking-hit : fits p clean v (k′ - 1) j ≡ true → Best p s j k′
+        seeking-hit b =
+            let m = inv .reached in
+            let yes = sym (fits-is p sane s v fr (k′ - 1) j (omega arith) within clean chords) ∙ b in
+            record {
+              none = λ e. absurd (omega arith);
+              some = λ i e.
+                  let z : k′ - 1 ≡ i = omega arith in
+                  (omega arith, subst (λ (x : ℕ). eligible p s x j ≡ true) z yes, λ x a c. inv .none x (omega arith) c);
+            }
 
 -- ---- the search for j: no pair with j or above is eligible
 pub record Choosing (p : Plan) (s : State) (j : ℕ) : Type 0 where

@@ -1,21 +1,24 @@
--- What the search for a pair learns as it goes through the frontier from right to left: the tables of neighbours, and the trail of the list.
-use Prim.Native.Nat.{ℕ, zero, suc, _+_, _-_, _≤_, _<_}
+-- What the search for a pair learns as it goes through the frontier from right to left: the table of positions, and the trail of the list.
+use Prim.Native.Nat.{ℕ, zero, suc, _+_, _-_, _≤_, _<_, min}
 use mathlib.Core.Path.{_≡_, refl, ap, sym, _∙_, subst}
 use mathlib.Core.Logic.{_⊎_, inl, inr, _≢_}
-use mathlib.Core.List.{List, [], _∷_, _++_, reverse, List·Memᴰ, List·Memᴰ·head, List·Memᴰ·tail}
+use mathlib.Core.List.{List, [], _∷_, _++_, reverse, List·Memᴰ, List·Memᴰ·head, List·Memᴰ·tail, Memᴰ·append-right}
 use mathlib.Core.Bool.{Bool, true, false, false≢true, true≢false}
 use native.Mathlib.Omega.{arith}
 use lib.ListN.{length, getD, set, take}
 use lib.Seq.{getD-set-same, getD-set-other, set-out}
 use lib.Dec.{eqb, ltb}
 use borrow.Author.Tests.{eqb-true, eqb-false, ltb-true, ltb-false}
+use Rattle.lists.specs.Folds.{each}
 use Rattle.lists.specs.Spans.{zeros}
-use Rattle.model.specs.Plan.{Plan, ring, adjacent}
+use Rattle.places.specs.Places.{placesOf, adjacentBy}
+use Rattle.places.proofs.Look.{adjacent-told}
+use Rattle.model.specs.Plan.{Plan, adjacent}
 use Rattle.model.specs.Sweep.{below}
-use Rattle.model.proofs.Plans.{mem-adjacent}
 use Rattle.frontier.specs.Run.{depth, under}
-use Rattle.choice.specs.Run.{Trail, trail, startTrail, blocked}
-use Rattle.choice.specs.Search.{Lows, Trails, bare, barred, Extends}
+use Rattle.choice.specs.declared.Lead.{Lead}
+use Rattle.choice.specs.Run.{Trail, lead, trail, trailOf, startTrail, placed, same}
+use Rattle.choice.specs.Search.{Trails, Reason, edge, old, twice, right, beside, later, split, Takes, Stops, bare, barred, Extends}
 use Rattle.frontier.proofs.Lines.{getD-none}
 use Rattle.frontier.proofs.Under.{below-is, depth-le, back-suc}
 
@@ -39,46 +42,52 @@ some-number : (n : ℕ) → (n ≡ 0 → ⊥) → (t : ℕ) × (n ≡ suc t)
 some-number zero h = absurd (h refl)
 some-number (suc t) h = (t, refl)
 
+-- ---- a number in the table of positions is a position of its context
+-- positions put into the table one after the other
+place-real : (f : List ℕ) (a k : ℕ) (place : List ℕ) → ((c t : ℕ) → getD place c 0 ≡ suc t → (t < a) × (getD f t 0 ≡ c))
+    → (c t : ℕ) → getD (each (λ (i : ℕ) l. set l (getD f i 0) (suc i)) a k place) c 0 ≡ suc t → (t < a + k) × (getD f t 0 ≡ c)
+unfolding each
+place-real f a zero place h c t e = let (x, y) = h c t e in (omega arith, y)
+place-real f a (suc k) place h c t e =
+    let (x, y) = place-real f (suc a) k (set place (getD f a 0) (suc a)) (λ d u q. go d u (set-cases place (getD f a 0) (suc a) d u q)) c t e in
+    (omega arith, y)
+  where
+    go : (d u : ℕ) → ((d ≡ getD f a 0) × (suc a ≡ suc u)) ⊎ (getD place d 0 ≡ suc u) → (u < suc a) × (getD f u 0 ≡ d)
+    go d u (inl (s, z)) = let w : u ≡ a = omega arith in (omega arith, ap (λ (i : ℕ). getD f i 0) w ∙ sym s)
+    go d u (inr q) = let (x, y) = h d u q in (omega arith, y)
+
+-- of the whole table
+pub placed-real : (f : List ℕ) (m c t : ℕ) → getD (placed f m) c 0 ≡ suc t → (t < m) × (getD f t 0 ≡ c)
+unfolding placed
+placed-real f m c t e =
+    let (x, y) = place-real f 0 (min m 512 - 0) (zeros 256) (λ d u q. let z = getD-none 256 d in absurd (omega arith)) c t e in
+    (omega arith, y)
+
 module _ {p : Plan} where
-  -- ---- the lowest positions
-  -- a table of zeros
-  pub lows-start : {f : List ℕ} {m : ℕ} {low : List ℕ} → low ≡ zeros 256 → Lows p f m low
-  lows-start e = record { real = λ c t q. no-zero t (sym (getD-none 256 c) ∙ ap (λ (l : List ℕ). getD l c 0) (sym e) ∙ q) }
-
-  -- the table with k at a neighbour of position k − 1
-  pub lows-put : {f : List ℕ} {m k c u : ℕ} {low : List ℕ} → Lows p f m low → 0 < k → k ≤ m → u ≡ getD f (k - 1) 0 → List·Memᴰ c (ring p u) → Lows p f m (set low c k)
-  lows-put {f} {m} {k} {c} {u} {low} h a b e n = record { real = λ d t q. go d t (set-cases low c k d t q) }
-    where
-      go : (d t : ℕ) → ((d ≡ c) × (k ≡ suc t)) ⊎ (getD low d 0 ≡ suc t) → (t < m) × (adjacent p (getD f t 0) d ≡ true)
-      go d t (inl (same, at)) =
-          let z : k - 1 ≡ t = omega arith in
-          (omega arith, (λ i. adjacent p (getD f (sym z i) 0) (same i)) ∙ ap (λ (w : ℕ). adjacent p w c) (sym e) ∙ mem-adjacent p u c n)
-      go d t (inr q) = h .real d t q
-
   -- ---- the trail of a list
   -- the trail of no list
   pub trails-start : {f : List ℕ} (m : ℕ) → Trails p f m [] (startTrail m)
   unfolding startTrail
   trails-start m = record { none = λ e. refl; first = λ e. absurd (false≢true e); marks = λ c h. absurd (h (getD-none 256 c)); lo = λ h. absurd (omega arith) }
 
-  -- a trail knows the same, ok or not
-  pub trails-ok : {f : List ℕ} {m : ℕ} {l : List ℕ} {a b s : Bool} {first lo : ℕ} {on : List ℕ} → Trails p f m l (trail a s first lo on) → Trails p f m l (trail b s first lo on)
-  trails-ok h = record { none = h .none; first = h .first; marks = h .marks; lo = h .lo }
-
   -- one context put before the list
-  pub trails-push : {f low : List ℕ} {m c lo : ℕ} {l on : List ℕ} {ok : Bool} (t : Trail) → Trails p f m l t → Lows p f m low → (lo ≡ t .lo) ⊎ (getD low c 0 ≡ suc lo) → on ≡ set (t .on) c 1 → Trails p f m (c ∷ l) (trail ok true c lo on)
-  trails-push {f} {low} {m} {c} {lo} {l} {on} t h k q e = record { none = λ e. absurd (true≢false e); first = λ e. (l, refl); marks = λ d n. mark d (some-number (getD on d 0) n); lo = λ n. least n q }
+  pub trails-push : {f on seen place tab : List ℕ} {m c fj j k : ℕ} {l : List ℕ} {before r : Lead} → Trails p f m l (trailOf before on) → Takes tab p f on seen place m c fj j k before r → tab ≡ placesOf p → place ≡ placed f m → r .ok ≡ true → Trails p f m (c ∷ l) (trailOf r (set on c 1))
+  trails-push {f} {on} {seen} {place} {tab} {m} {c} {l = l} {before = before} {r = r} h did own hi o =
+      let (some, first, low) = did .yes o in
+      record { none = λ e. absurd (true≢false (sym some ∙ e)); first = λ e. (l, ap {B = List ℕ} (λ w. w ∷ l) (sym first)); marks = λ d n. mark d (some-number (getD (set on c 1) d 0) n); lo = λ n. least n (low .is n) }
     where
-      put : (d t′ : ℕ) → ((d ≡ c) × (1 ≡ suc t′)) ⊎ (getD (t .on) d 0 ≡ suc t′) → List·Memᴰ d (c ∷ l)
+      put : (d t′ : ℕ) → ((d ≡ c) × (1 ≡ suc t′)) ⊎ (getD on d 0 ≡ suc t′) → List·Memᴰ d (c ∷ l)
       put d t′ (inl (same, at)) = List·Memᴰ·head same
       put d t′ (inr q) = List·Memᴰ·tail (h .marks d (λ z. no-zero t′ (sym z ∙ q)))
 
-      mark : (d : ℕ) → (t′ : ℕ) × (getD on d 0 ≡ suc t′) → List·Memᴰ d (c ∷ l)
-      mark d (t′, z) = put d t′ (set-cases (t .on) c 1 d t′ (ap (λ (b : List ℕ). getD b d 0) (sym e) ∙ z))
+      mark : (d : ℕ) → (t′ : ℕ) × (getD (set on c 1) d 0 ≡ suc t′) → List·Memᴰ d (c ∷ l)
+      mark d (t′, z) = put d t′ (set-cases on c 1 d t′ z)
 
-      least : lo < m → (lo ≡ t .lo) ⊎ (getD low c 0 ≡ suc lo) → (d : ℕ) × List·Memᴰ d (c ∷ l) × (adjacent p (getD f lo 0) d ≡ true)
+      least : r .lo < m → (r .lo ≡ before .lo) ⊎ ((w : ℕ) × (getD place w 0 ≡ suc (r .lo)) × (adjacentBy tab p w c ≡ true)) → (d : ℕ) × List·Memᴰ d (c ∷ l) × (adjacent p (getD f (r .lo) 0) d ≡ true)
       least n (inl z) = let (d, w, a) = h .lo (omega arith) in (d, List·Memᴰ·tail w, ap (λ (i : ℕ). adjacent p (getD f i 0) d) z ∙ a)
-      least n (inr z) = (c, List·Memᴰ·head refl, k .real c lo z .1)
+      least n (inr (w, z, a)) =
+          let (_, at) = placed-real f m w (r .lo) (ap (λ (b : List ℕ). getD b w 0) (sym hi) ∙ z) in
+          (c, List·Memᴰ·head refl, ap (λ (u : ℕ). adjacent p u c) at ∙ sym (adjacent-told p own w c refl) ∙ a)
 
 -- ---- what is below a position, put before the list from right to left
 -- what is taken of a ring, reversed, in two parts around an entry
@@ -88,6 +97,15 @@ back-split l t (suc k) h =
     let (pre, e) = back-split l t k (omega arith) in
     let z : t + suc (suc k) ≡ suc (t + suc k) = omega arith in
     (getD l (t + suc k) 0 ∷ pre, ap (λ (n : ℕ). reverse (take n l)) z ∙ back-suc l (t + suc k) (omega arith) ∙ ap {B = List ℕ} (λ m. getD l (t + suc k) 0 ∷ m) e)
+
+-- an entry that is read before the left frontier neighbour is below
+pub under-below : (p : Plan) (f : List ℕ) (k t : ℕ) → t < depth p f k → List·Memᴰ (getD (under p f k) t 0) (below p f k)
+under-below p f k t h =
+    let long = depth-le p f k in
+    let d = depth p f k - suc t in
+    let (pre, q) = back-split (under p f k) t d (omega arith) in
+    let z : depth p f k ≡ t + suc d = omega arith in
+    subst (List·Memᴰ (getD (under p f k) t 0)) (sym (below-is p f k ∙ ap (λ (i : ℕ). reverse (take i (under p f k))) z ∙ q)) (Memᴰ·append-right pre (List·Memᴰ·head refl))
 
 -- the loop: t contexts below position k are put before the list
 pub record Grows (p : Plan) (f : List ℕ) (m k : ℕ) (old : Trail) (t : ℕ) (now : Trail) : Type 0 where
@@ -99,50 +117,65 @@ grows-start = record { holds = λ l h. h }
 
 module _ {p : Plan} {f : List ℕ} {m k : ℕ} {old : Trail} {t : ℕ} {cur : Trail} (inv : Grows p f m k old t cur) where
   -- after a turn of the loop
-  pub grows-on : {low on : List ℕ} {c lo t′ : ℕ} {ok : Bool} → t′ ≡ t + 1 → t < depth p f k → c ≡ getD (under p f k) t 0 → Lows p f m low → (lo ≡ cur .lo) ⊎ (getD low c 0 ≡ suc lo) → on ≡ set (cur .on) c 1
-      → Grows p f m k old t′ (trail ok true c lo on)
-  grows-on {low} {on} {c} {lo} {t′} {ok} s h e w q n =
+  pub grows-on : {on seen place tab : List ℕ} {c fj j t′ : ℕ} {before r : Lead} → cur ≡ trailOf before on → t′ ≡ t + 1 → t < depth p f k → c ≡ getD (under p f k) t 0 → Takes tab p f on seen place m c fj j k before r → tab ≡ placesOf p → place ≡ placed f m → r .ok ≡ true
+      → {on′ : List ℕ} → on′ ≡ set on c 1 → Grows p f m k old t′ (trailOf r on′)
+  grows-on {on} {c = c} {t′ = t′} {r = r} z s h e did own hi o {on′} n =
       let long = depth-le p f k in
-      let z : suc t ≡ t′ = omega arith in
+      let w : suc t ≡ t′ = omega arith in
       record {
         holds = λ l a.
-            subst (λ (b : List ℕ). Trails p f m (b ++ l) (trail ok true c lo on)) (ap {B = List ℕ} (λ i. i ∷ reverse (take t (under p f k))) e ∙ sym (back-suc (under p f k) t (omega arith)) ∙ ap (λ (i : ℕ). reverse (take i (under p f k))) z)
-            (trails-push cur (inv .holds l a) w q n);
+            subst (λ (d : List ℕ). Trails p f m (reverse (take t′ (under p f k)) ++ l) (trailOf r d)) (sym n)
+            (subst (λ (b : List ℕ). Trails p f m (b ++ l) (trailOf r (set on c 1))) (ap {B = List ℕ} (λ i. i ∷ reverse (take t (under p f k))) e ∙ sym (back-suc (under p f k) t (omega arith)) ∙ ap (λ (i : ℕ). reverse (take i (under p f k))) w)
+            (trails-push (subst (Trails p f m (reverse (take t (under p f k)) ++ l)) z (inv .holds l a)) did own hi o));
       }
 
   -- after the loop
-  pub grows-end : {s : Bool} {first lo : ℕ} {on : List ℕ} → cur ≡ trail true s first lo on → depth p f k ≤ t → t ≤ depth p f k → {seen place : List ℕ} {j : ℕ} → Extends p f m seen place j k old (trail true s first lo on)
-  grows-end {s} {first} {lo} {on} e h q =
+  pub grows-end : cur .ok ≡ true → depth p f k ≤ t → t ≤ depth p f k → {seen place : List ℕ} {j : ℕ} → Extends p f m seen place j k old cur
+  grows-end o h q =
       let z : t ≡ depth p f k = omega arith in
       record {
-        on = λ l a _. subst (λ (b : List ℕ). Trails p f m (b ++ l) (trail true s first lo on)) (ap (λ (i : ℕ). reverse (take i (under p f k))) z ∙ sym (below-is p f k)) (subst (Trails p f m (reverse (take t (under p f k)) ++ l)) e (inv .holds l a));
-        off = λ l a n. absurd (true≢false n);
+        on = λ l a _. subst (λ (b : List ℕ). Trails p f m (b ++ l) cur) (ap (λ (i : ℕ). reverse (take i (under p f k))) z ∙ sym (below-is p f k)) (inv .holds l a);
+        off = λ l a n. absurd (true≢false (sym o ∙ n));
       }
 
   -- a context may not come before the list
-  pub grows-stop : {s : Bool} {c first lo : ℕ} {on seen place : List ℕ} {j : ℕ} → t < depth p f k → c ≡ getD (under p f k) t 0
-      → blocked p (cur .on) seen place (cur .some) (cur .first) c (getD f j 0) j ≡ true → Extends p f m seen place j k old (trail false s first lo on)
-  grows-stop {s} {c} {seen = seen} {place = place} {j = j} h e b =
+  pub grows-stop : {seen place : List ℕ} {c j : ℕ} → t < depth p f k → c ≡ getD (under p f k) t 0 → same (cur .some) (cur .first) c ≡ false → Reason p f (cur .on) seen place (cur .some) (cur .first) c (getD f j 0) j k → {r : Trail} → r .ok ≡ false → Extends p f m seen place j k old r
+  grows-stop {c = c} h e other why o =
       let long = depth-le p f k in
       let d = depth p f k - suc t in
       let (pre, q) = back-split (under p f k) t d (omega arith) in
       let z : depth p f k ≡ t + suc d = omega arith in
       record {
-        on = λ l a n. absurd (false≢true n);
+        on = λ l a n. absurd (false≢true (sym o ∙ n));
         off = λ l a _.
             barred pre (reverse (take t (under p f k))) c cur
             (below-is p f k ∙ ap (λ (i : ℕ). reverse (take i (under p f k))) z ∙ q ∙ ap {B = List ℕ} (λ i. pre ++ (i ∷ reverse (take t (under p f k)))) (sym e))
-            (inv .holds l a) b;
+            (inv .holds l a) other why;
       }
 
 -- nothing is below
-pub extends-bare : {p : Plan} {f : List ℕ} {m k : ℕ} {seen place : List ℕ} {j : ℕ} (old : Trail) {s : Bool} {first lo : ℕ} {on : List ℕ} → depth p f k ≡ 0 → Extends p f m seen place j k old (trail false s first lo on)
-extends-bare {p} {f} {k = k} old e = record { on = λ l a n. absurd (false≢true n); off = λ l a _. bare (below-is p f k ∙ ap (λ (i : ℕ). reverse (take i (under p f k))) e) }
+pub extends-bare : {p : Plan} {f : List ℕ} {m k : ℕ} {seen place : List ℕ} {j : ℕ} {old r : Trail} → depth p f k ≡ 0 → r .ok ≡ false → Extends p f m seen place j k old r
+extends-bare {p} {f} {k = k} e o = record { on = λ l a n. absurd (false≢true (sym o ∙ n)); off = λ l a _. bare (below-is p f k ∙ ap (λ (i : ℕ). reverse (take i (under p f k))) e) }
 
--- a trail that was not ok is extended as one that was
-pub extends-same : {p : Plan} {f : List ℕ} {m : ℕ} {seen place : List ℕ} {j k : ℕ} (old : Trail) {r : Trail} → Extends p f m seen place j k (trail true (old .some) (old .first) (old .lo) (old .on)) r → Extends p f m seen place j k old r
-extends-same old e = record { on = λ l a. e .on l (trails-ok a); off = λ l a. e .off l (trails-ok a) }
+-- a reason that c may not come before nothing
+alone : {p : Plan} {f seen place : List ℕ} {c fj j k : ℕ} → Reason p f seen seen place false 0 c fj j k → Reason p f (zeros 256) seen place false 0 c fj j k
+alone (edge h) = edge h
+alone (old h) = old h
+alone (twice h) = old h
+alone (right x a h) = right x a h
+alone (beside h a) = absurd (false≢true h)
+alone (later h x a y b) = absurd (false≢true h)
+alone (split h) = split h
 
--- the same of a trail that is equal
-pub extends-as : {p : Plan} {f : List ℕ} {m : ℕ} {seen place : List ℕ} {j k : ℕ} {t r r′ : Trail} → r′ ≡ r → Extends p f m seen place j k t r → Extends p f m seen place j k t r′
-extends-as {p} {f} {m} {seen} {place} {j} {k} {t} e h = subst (Extends p f m seen place j k t) (sym e) h
+module _ {p : Plan} {f : List ℕ} {m j k : ℕ} {seen place : List ℕ} {c : ℕ} where
+  -- the context below the frontier edge left of j may not be on a list: the search stops
+  pub shut-stops : {tab : List ℕ} {fj : ℕ} {before r : Lead} → c ≡ getD (under p f k) 0 0 → fj ≡ getD f j 0 → before ≡ lead true false 0 m → Takes tab p f seen seen place m c fj j k before r → r .ok ≡ false → Stops p f m seen place j k []
+  unfolding startTrail same
+  shut-stops {tab} {fj} {before} e q z did o = go (depth p f k) refl
+    where
+      why : Reason p f seen seen place false 0 c (getD f j 0) j k
+      why = subst (λ (w : ℕ). Reason p f seen seen place false 0 c w j k) q (subst (λ (l : Lead). Reason p f seen seen place (l .some) (l .first) c fj j k) z (did .no o .1))
+
+      go : (d : ℕ) → depth p f k ≡ d → Stops p f m seen place j k []
+      go zero d = bare (below-is p f k ∙ ap (λ (i : ℕ). reverse (take i (under p f k))) d)
+      go (suc d) i = (grows-stop {old = startTrail m} {cur = startTrail m} grows-start {seen = seen} {place = place} {c = c} {j = j} (omega arith) e refl (alone why) {r = trail false false 0 0 []} refl) .off [] (trails-start m) refl

@@ -1,19 +1,16 @@
 // The pair of positions that a step of the sweep takes: the largest j, then the largest i, that are eligible.
 ghost use mathlib.Core.Path.{_≡_};
-ghost use mathlib.Core.Logic.{_⊎_};
 ghost use mathlib.Core.Bool.{true, false};
-ghost use mathlib.Core.List.{List};
-ghost use Prim.Native.Nat.{ℕ, suc, _+_, _-_, _<_, _≤_, _^_};
+ghost use mathlib.Core.List.{List, [], List·Memᴰ};
+ghost use Prim.Native.Nat.{ℕ, suc, _+_, _-_, _<_, _≤_};
 ghost use lib.ListN.{getD, length};
-ghost use Rattle.model.specs.Sweep.{State, choose, choices};
+ghost use Rattle.model.specs.Sweep.{State, below, choose, choices};
 ghost use Rattle.rings.specs.Tables.{rows};
+ghost use Rattle.places.specs.Places.{placesOf};
 ghost use Rattle.frontier.specs.Run.{line};
-ghost use Rattle.pairs.specs.Run.{placed};
 ghost use Rattle.choice.specs.Run as run;
-ghost use Rattle.frontier.specs.Front.{Sane, Front};
-ghost use Rattle.choice.specs.Search.{foundAs, Lows, Trails, Extends, Best};
+ghost use Rattle.choice.specs.Search.{foundAs, Ready, Lowest, Pocket, Takes, Extends, Stops, Best};
 ghost use Rattle.choice.specs.Run.{trailOf};
-use frontier::Line;
 
 // What a search knows of the list so far, beside a mark for each context of it: whether there is one, its first context, the lowest frontier position that lists some context of it. It is not ok where the list is good for no pair.
 struct Lead {
@@ -29,155 +26,21 @@ pub enum Found {
     Nothing,
 }
 
-// For each context one more than a position, the lowest, of the first m that lists it; 0 for the others.
-fn lows<'a>(
-    starts: &'a [u16],
-    sizes: &'a [u8],
-    entries: &'a [u16],
-    n: usize,
-    f: &'a [u16],
-    m: usize,
-) -> [usize; 256]
-    ensures { λ r. ⌜ Lows (rows (now (starts .entry)) (now (sizes .entry)) (now (entries .entry)) n) (now (f .entry)) m r ⌝ }
+// For each context one more than the highest of the first m positions at which it stands; 0 for the others.
+fn placed(f: &[u16], m: usize) -> [u16; 256]
+    ensures { λ r. ⌜ r ≡ run.placed (now (f .entry)) m ⌝ }
 {
-    let mut low = [0usize; 256];
-    let mut k = m;
-    let mut t = 0;
-    while k > 0 {
-        let u = lists::num(f, k - 1);
-        if t >= rings::size_of(sizes, n, u) {
-            k -= 1;
-            t = 0;
-        } else {
-            let c = rings::neighbour_at(starts, sizes, entries, n, u, t);
-            t += 1;
-            if c < 256 {
-                low[c] = k;
-            }
+    let e = lists::lesser(m, 512);
+    let mut place = [0u16; 256];
+    let mut k = 0;
+    while k < e {
+        let c = lists::num(f, k);
+        k += 1;
+        if c < 256 {
+            place[c] = k as u16;
         }
     }
-    low
-}
-
-// Is w fj, or marked and not the first?
-fn knot(on: &[u8], first: usize, fj: usize, w: usize) -> bool
-    ensures { λ r. ⌜ r ≡ run.knot (now (on .entry)) first fj w ⌝ }
-{
-    if w == fj {
-        return true;
-    }
-    if w == first {
-        return false;
-    }
-    lists::byte(on, w) != 0
-}
-
-// Is some neighbour of c fj, or marked and not the first?
-fn tangled<'a>(
-    starts: &'a [u16],
-    sizes: &'a [u8],
-    entries: &'a [u16],
-    n: usize,
-    on: &'a [u8],
-    c: usize,
-    first: usize,
-    fj: usize,
-) -> bool
-    ensures { λ r. ⌜ r ≡ run.tangled (rows (now (starts .entry)) (now (sizes .entry)) (now (entries .entry)) n) (now (on .entry)) c first fj ⌝ }
-{
-    let q = rings::size_of(sizes, n, c);
-    let mut t = 0;
-    while t < q {
-        if knot(
-            on,
-            first,
-            fj,
-            rings::neighbour_at(starts, sizes, entries, n, c, t),
-        ) {
-            return true;
-        }
-        t += 1;
-    }
-    false
-}
-
-// Does some neighbour of c stand on the frontier beyond position j?
-fn beyond<'a>(
-    starts: &'a [u16],
-    sizes: &'a [u8],
-    entries: &'a [u16],
-    n: usize,
-    place: &'a [usize],
-    c: usize,
-    j: usize,
-) -> bool
-    ensures { λ r. ⌜ r ≡ run.beyond (rows (now (starts .entry)) (now (sizes .entry)) (now (entries .entry)) n) (now (place .entry)) c j ⌝ }
-{
-    let q = rings::size_of(sizes, n, c);
-    let mut t = 0;
-    while t < q {
-        let w = rings::neighbour_at(starts, sizes, entries, n, c, t);
-        if lists::minus(lists::whole(place, w), j) > 1 {
-            return true;
-        }
-        t += 1;
-    }
-    false
-}
-
-// May c not come before the list?
-fn blocked<'a>(
-    starts: &'a [u16],
-    sizes: &'a [u8],
-    entries: &'a [u16],
-    n: usize,
-    on: &'a [u8],
-    seen: &'a [u8],
-    place: &'a [usize],
-    some: bool,
-    first: usize,
-    c: usize,
-    fj: usize,
-    j: usize,
-) -> bool
-    ensures { λ r. ⌜ r ≡ run.blocked (rows (now (starts .entry)) (now (sizes .entry)) (now (entries .entry)) n) (now (on .entry)) (now (seen .entry)) (now (place .entry)) some first c fj j ⌝ }
-{
-    if same(some, first, c) {
-        return false;
-    }
-    if c < 4 {
-        return true;
-    }
-    if lists::byte(seen, c) != 0 {
-        return true;
-    }
-    if lists::byte(on, c) != 0 {
-        return true;
-    }
-    if beyond(starts, sizes, entries, n, place, c, j) {
-        return true;
-    }
-    if some {
-        return tangled(starts, sizes, entries, n, on, c, first, fj);
-    }
-    false
-}
-
-// Is c the first of the list?
-fn same(some: bool, first: usize, c: usize) -> bool
-    ensures { λ r. ⌜ r ≡ run.same some first c ⌝ }
-{
-    if some { c == first } else { false }
-}
-
-// The lower of a position and the position one less than x; x is 0 where there is none.
-fn lower(lo: usize, x: usize) -> usize
-    ensures { λ r. ⌜ (r ≡ lo) ⊎ (x ≡ suc r) ⌝ }
-{
-    if x == 0 {
-        return lo;
-    }
-    if x <= lo { x - 1 } else { lo }
+    place
 }
 
 // A lead of these parts.
@@ -192,9 +55,197 @@ fn made(ok: bool, some: bool, first: usize, lo: usize) -> Lead
     }
 }
 
+// Is there a list, and c its first?
+fn same(some: bool, first: usize, c: usize) -> bool
+    ensures { λ r. ⌜ r ≡ run.same some first c ⌝ }
+{
+    if some { c == first } else { false }
+}
+
+// Is c a border context, or one that is or was on the frontier, or one that is on the list?
+fn barred(on: &[u8], seen: &[u8], c: usize) -> bool
+    ensures { λ r. ⌜ r ≡ run.barred (now (on .entry)) (now (seen .entry)) c ⌝ }
+{
+    if c < 4 {
+        return true;
+    }
+    if lists::byte(seen, c) != 0 {
+        return true;
+    }
+    lists::byte(on, c) != 0
+}
+
+// Is there a list, and w the context at j or one of the list but its first?
+fn knot(on: &[u8], some: bool, first: usize, fj: usize, w: usize) -> bool
+    ensures { λ r. ⌜ r ≡ run.knot (now (on .entry)) some first fj w ⌝ }
+{
+    if some {
+        if w == fj {
+            return true;
+        }
+        if w == first {
+            return false;
+        }
+        return lists::byte(on, w) != 0;
+    }
+    false
+}
+
+// The lower of a position and that of w, one less than x, where w lists c; x is 0 where w has none.
+fn lower<'a>(
+    places: &'a [u8],
+    starts: &'a [u16],
+    sizes: &'a [u8],
+    entries: &'a [u16],
+    n: usize,
+    lo: usize,
+    x: usize,
+    w: usize,
+    c: usize,
+) -> usize
+    ensures { λ r. ⌜ ((place : List ℕ) → (m : ℕ) → x ≡ getD place w 0 → Lowest (now (places .entry)) (rows (now (starts .entry)) (now (sizes .entry)) (now (entries .entry)) n) place m c lo r) ⌝ }
+{
+    if x == 0 {
+        return lo;
+    }
+    if x > lo {
+        return lo;
+    }
+    if places::is_adjacent_by(places, starts, sizes, entries, n, w, c) {
+        return x - 1;
+    }
+    lo
+}
+
+// The lead of the list with c put before it, by a look at each neighbour of c. It is not ok where one stands on the frontier beyond j, or would not be adjacent to c.
+fn look<'a>(
+    places: &'a [u8],
+    starts: &'a [u16],
+    sizes: &'a [u8],
+    entries: &'a [u16],
+    n: usize,
+    on: &'a [u8],
+    place: &'a [u16],
+    lead: Lead,
+    c: usize,
+    fj: usize,
+    j: usize,
+) -> Lead
+    ensures { λ r. ⌜ ((f seen : List ℕ) → (m k : ℕ) → run.same (lead .some) (lead .first) c ≡ false → Takes (now (places .entry)) (rows (now (starts .entry)) (now (sizes .entry)) (now (entries .entry)) n) f (now (on .entry)) seen (now (place .entry)) m c fj j k lead r) ⌝ }
+{
+    let some = lead.some;
+    let first = lead.first;
+    let q = rings::size_of(sizes, n, c);
+    let mut lo = lead.lo;
+    let mut t = 0;
+    while t < q {
+        let w = rings::neighbour_at(starts, sizes, entries, n, c, t);
+        if knot(on, some, first, fj, w) {
+            return made(false, some, first, lo);
+        }
+        let x = lists::num(place, w);
+        if lists::minus(x, j) > 1 {
+            return made(false, some, first, lo);
+        }
+        lo = lower(places, starts, sizes, entries, n, lo, x, w, c);
+        t += 1;
+    }
+    made(true, true, c, lo)
+}
+
+// Is c below position a?
+fn is_below<'a>(
+    places: &'a [u8],
+    starts: &'a [u16],
+    sizes: &'a [u8],
+    entries: &'a [u16],
+    n: usize,
+    f: &'a [u16],
+    a: usize,
+    c: usize,
+) -> bool
+    ensures { λ r. ⌜ (now (places .entry) ≡ placesOf (rows (now (starts .entry)) (now (sizes .entry)) (now (entries .entry)) n) → r ≡ true → List·Memᴰ c (below (rows (now (starts .entry)) (now (sizes .entry)) (now (entries .entry)) n) (now (f .entry)) a)) ⌝ }
+{
+    let x = frontier::below::turn_by(places, starts, sizes, entries, n, f, a);
+    let q = frontier::below::depth(starts, sizes, entries, n, f, a, x);
+    let u = lists::num(f, a);
+    let mut t = 0;
+    while t < q {
+        if c == lists::wide_word(frontier::onward_at(starts, sizes, entries, n, u, x, t)) {
+            return true;
+        }
+        t += 1;
+    }
+    false
+}
+
+// Is c below a position from lo on, and not listed by the next, which is before k?
+fn pocket<'a>(
+    places: &'a [u8],
+    starts: &'a [u16],
+    sizes: &'a [u8],
+    entries: &'a [u16],
+    n: usize,
+    f: &'a [u16],
+    lo: usize,
+    k: usize,
+    c: usize,
+) -> bool
+    ensures { λ r. ⌜ (now (places .entry) ≡ placesOf (rows (now (starts .entry)) (now (sizes .entry)) (now (entries .entry)) n) → r ≡ true → Pocket (rows (now (starts .entry)) (now (sizes .entry)) (now (entries .entry)) n) (now (f .entry)) c k) ⌝ }
+{
+    let e = lists::minus(k, 1);
+    let mut a = lo;
+    while a < e {
+        let w = lists::num(f, a + 1);
+        if !places::is_adjacent_by(places, starts, sizes, entries, n, w, c) {
+            return is_below(places, starts, sizes, entries, n, f, a, c);
+        }
+        a += 1;
+    }
+    false
+}
+
+// The lead of the list with c put before it. It is not ok where c may not come before the list.
+fn take<'a>(
+    places: &'a [u8],
+    starts: &'a [u16],
+    sizes: &'a [u8],
+    entries: &'a [u16],
+    n: usize,
+    f: &'a [u16],
+    m: usize,
+    on: &'a [u8],
+    seen: &'a [u8],
+    place: &'a [u16],
+    lead: Lead,
+    c: usize,
+    fj: usize,
+    j: usize,
+    k: usize,
+) -> Lead
+    ensures { λ r. ⌜ (now (places .entry) ≡ placesOf (rows (now (starts .entry)) (now (sizes .entry)) (now (entries .entry)) n) → Takes (now (places .entry)) (rows (now (starts .entry)) (now (sizes .entry)) (now (entries .entry)) n) (now (f .entry)) (now (on .entry)) (now (seen .entry)) (now (place .entry)) m c fj j k lead r) ⌝ }
+{
+    if same(lead.some, lead.first, c) {
+        return made(true, lead.some, lead.first, lead.lo);
+    }
+    if barred(on, seen, c) {
+        return made(false, lead.some, lead.first, lead.lo);
+    }
+    let own = made(true, lead.some, lead.first, m);
+    let r = look(places, starts, sizes, entries, n, on, place, own, c, fj, j);
+    if !r.ok {
+        return r;
+    }
+    if pocket(places, starts, sizes, entries, n, f, r.lo, k, c) {
+        return made(false, lead.some, lead.first, lead.lo);
+    }
+    made(true, true, c, lists::lesser(lead.lo, r.lo))
+}
+
 // The lead of the list with what is below position k put before it; each context that is put is marked.
 fn extend<'a>(
     on: &mut [u8],
+    places: &'a [u8],
     starts: &'a [u16],
     sizes: &'a [u8],
     entries: &'a [u16],
@@ -202,51 +253,49 @@ fn extend<'a>(
     f: &'a [u16],
     m: usize,
     seen: &'a [u8],
-    place: &'a [usize],
-    low: &'a [usize],
-    lead: Lead,
+    place: &'a [u16],
+    old: Lead,
     k: usize,
     j: usize,
 ) -> Lead
-    requires { ⌜ Lows (rows (now starts) (now sizes) (now entries) n) (now f) m (now low) ⌝ }
-    ensures { λ r. ⌜ Extends (rows (now (starts .entry)) (now (sizes .entry)) (now (entries .entry)) n) (now (f .entry)) m (now (seen .entry)) (now (place .entry)) j k (trailOf lead (now (on .entry))) (trailOf r (now (on .exit))) ⌝ }
+    requires { ⌜ old .ok ≡ true ⌝ }
+    ensures { λ r. ⌜ (now (places .entry) ≡ placesOf (rows (now (starts .entry)) (now (sizes .entry)) (now (entries .entry)) n) → now (place .entry) ≡ run.placed (now (f .entry)) m → Extends (rows (now (starts .entry)) (now (sizes .entry)) (now (entries .entry)) n) (now (f .entry)) m (now (seen .entry)) (now (place .entry)) j k (trailOf old (now (on .entry))) (trailOf r (now (on .exit)))) ⌝ }
 {
-    let mut some = lead.some;
-    let mut first = lead.first;
-    let mut lo = lead.lo;
-    let q = frontier::below::depth(starts, sizes, entries, n, f, k);
+    let x = frontier::below::turn_by(places, starts, sizes, entries, n, f, k);
+    let q = frontier::below::depth(starts, sizes, entries, n, f, k, x);
     if q == 0 {
-        return made(false, some, first, lo);
+        return made(false, old.some, old.first, old.lo);
     }
     let u = lists::num(f, k);
-    let x = frontier::below::turn_of(starts, sizes, entries, n, f, k);
     let fj = lists::num(f, j);
+    let mut lead = old;
     let mut t = 0;
     while t < q {
         let c = lists::wide_word(frontier::onward_at(starts, sizes, entries, n, u, x, t));
-        if blocked(
+        lead = take(
+            places,
             starts,
             sizes,
             entries,
             n,
+            f,
+            m,
             on,
             seen,
             place,
-            some,
-            first,
+            lead,
             c,
             fj,
             j,
-        ) {
-            return made(false, some, first, lo);
+            k,
+        );
+        if !lead.ok {
+            return lead;
         }
-        some = true;
-        first = c;
-        lo = lower(lo, lists::whole(low, c));
-        t += 1;
         lists::set_byte(on, c, 1);
+        t += 1;
     }
-    made(true, some, first, lo)
+    lead
 }
 
 // The lead of no list, in a frontier of m contexts.
@@ -256,38 +305,48 @@ fn start(m: usize) -> Lead
     made(true, false, 0, m)
 }
 
-// May the pair of positions k - 1 and j be eligible? No position before k - 1 lists a context of the list, and position k - 1 lists neither the context at j nor one of the list but the first.
-fn promising<'a>(
+// May the context below the frontier edge left of position j not be on a list?
+fn shut<'a>(
+    places: &'a [u8],
     starts: &'a [u16],
     sizes: &'a [u8],
     entries: &'a [u16],
     n: usize,
     f: &'a [u16],
-    on: &'a [u8],
-    lead: Lead,
-    k: usize,
+    m: usize,
+    seen: &'a [u8],
+    place: &'a [u16],
     j: usize,
 ) -> bool
-    ensures { λ r. ⌜ r ≡ run.promising (rows (now (starts .entry)) (now (sizes .entry)) (now (entries .entry)) n) (now (f .entry)) (trailOf lead (now (on .entry))) k j ⌝ }
+    ensures { λ r. ⌜ (r ≡ true → now (places .entry) ≡ placesOf (rows (now (starts .entry)) (now (sizes .entry)) (now (entries .entry)) n) → Stops (rows (now (starts .entry)) (now (sizes .entry)) (now (entries .entry)) n) (now (f .entry)) m (now (seen .entry)) (now (place .entry)) j (j - 1) []) ⌝ }
 {
-    let i = lists::minus(k, 1);
-    if i > lead.lo {
-        return false;
-    }
-    !tangled(
+    let k = lists::minus(j, 1);
+    let x = frontier::below::turn_by(places, starts, sizes, entries, n, f, k);
+    let u = lists::num(f, k);
+    let c = lists::wide_word(frontier::onward_at(starts, sizes, entries, n, u, x, 0));
+    let lead = take(
+        places,
         starts,
         sizes,
         entries,
         n,
-        on,
-        lists::num(f, i),
-        lead.first,
+        f,
+        m,
+        seen,
+        seen,
+        place,
+        start(m),
+        c,
         lists::num(f, j),
-    )
+        j,
+        k,
+    );
+    !lead.ok
 }
 
 // One more than the largest i that is eligible with j, on a frontier of m contexts; 0 where there is none.
 fn search<'a>(
+    places: &'a [u8],
     starts: &'a [u16],
     sizes: &'a [u8],
     entries: &'a [u16],
@@ -295,14 +354,13 @@ fn search<'a>(
     f: &'a [u16],
     m: usize,
     marks: [u8; 256],
-    place: &'a [usize],
-    low: &'a [usize],
+    clean: bool,
+    place: &'a [u16],
     j: usize,
 ) -> usize
-    requires { ⌜ Lows (rows (now starts) (now sizes) (now entries) n) (now f) m (now low) ⌝ }
-    requires { ⌜ now place ≡ placed (now f) m ⌝ }
+    requires { ⌜ now place ≡ run.placed (now f) m ⌝ }
     requires { ⌜ j < m ⌝ }
-    ensures { λ r. ⌜ (Sane (rows (now (starts .entry)) (now (sizes .entry)) (now (entries .entry)) n) → (s : State) → Front s (line true m (now (f .entry)) marks) → Best (rows (now (starts .entry)) (now (sizes .entry)) (now (entries .entry)) n) s j r) ⌝ }
+    ensures { λ r. ⌜ ((s : State) → Ready (now (places .entry)) (rows (now (starts .entry)) (now (sizes .entry)) (now (entries .entry)) n) clean s (line true m (now (f .entry)) marks) → Best (rows (now (starts .entry)) (now (sizes .entry)) (now (entries .entry)) n) s j r) ⌝ }
 {
     let mut on = [0u8; 256];
     let mut lead = start(m);
@@ -310,6 +368,7 @@ fn search<'a>(
     while k > 1 {
         let t = extend(
             &mut on,
+            places,
             starts,
             sizes,
             entries,
@@ -318,7 +377,6 @@ fn search<'a>(
             m,
             &marks,
             place,
-            low,
             lead,
             k - 1,
             j,
@@ -328,8 +386,9 @@ fn search<'a>(
         }
         lead = t;
         k -= 1;
-        if promising(starts, sizes, entries, n, f, &on, t, k, j) {
-            if pairs::chords::fits(starts, sizes, entries, n, f, m, marks, k - 1, j) {
+        let i = k - 1;
+        if i <= t.lo {
+            if pairs::chords::fits(places, starts, sizes, entries, n, f, m, marks, clean, i, j) {
                 return k;
             }
         }
@@ -337,8 +396,9 @@ fn search<'a>(
     0
 }
 
-// Of the eligible pairs of a frontier of m contexts that with the largest j, then with the largest i.
-fn best<'a>(
+// The same, where the search need not begin if the context below the frontier edge left of j may not be on a list.
+fn seek<'a>(
+    places: &'a [u8],
     starts: &'a [u16],
     sizes: &'a [u8],
     entries: &'a [u16],
@@ -346,38 +406,66 @@ fn best<'a>(
     f: &'a [u16],
     m: usize,
     marks: [u8; 256],
-    place: &'a [usize],
-    low: &'a [usize],
-) -> Found
-    requires { ⌜ Lows (rows (now starts) (now sizes) (now entries) n) (now f) m (now low) ⌝ }
-    requires { ⌜ now place ≡ placed (now f) m ⌝ }
-    ensures { λ r. ⌜ (Sane (rows (now (starts .entry)) (now (sizes .entry)) (now (entries .entry)) n) → (s : State) → Front s (line true m (now (f .entry)) marks) → foundAs r ≡ choose (rows (now (starts .entry)) (now (sizes .entry)) (now (entries .entry)) n) s (choices (s .frontier))) ⌝ }
+    clean: bool,
+    place: &'a [u16],
+    j: usize,
+) -> usize
+    requires { ⌜ now place ≡ run.placed (now f) m ⌝ }
+    requires { ⌜ j < m ⌝ }
+    ensures { λ r. ⌜ ((s : State) → Ready (now (places .entry)) (rows (now (starts .entry)) (now (sizes .entry)) (now (entries .entry)) n) clean s (line true m (now (f .entry)) marks) → Best (rows (now (starts .entry)) (now (sizes .entry)) (now (entries .entry)) n) s j r) ⌝ }
 {
+    if shut(places, starts, sizes, entries, n, f, m, &marks, place, j) {
+        return 0;
+    }
+    search(
+        places,
+        starts,
+        sizes,
+        entries,
+        n,
+        f,
+        m,
+        marks,
+        clean,
+        place,
+        j,
+    )
+}
+
+// The pair of positions that a step takes: of the eligible pairs of a frontier of m contexts that with the largest j, then with the largest i.
+pub fn choose<'a>(
+    places: &'a [u8],
+    starts: &'a [u16],
+    sizes: &'a [u8],
+    entries: &'a [u16],
+    n: usize,
+    f: &'a [u16],
+    m: usize,
+    marks: [u8; 256],
+    clean: bool,
+) -> Found
+    ensures { λ r. ⌜ ((s : State) → Ready (now (places .entry)) (rows (now (starts .entry)) (now (sizes .entry)) (now (entries .entry)) n) clean s (line true m (now (f .entry)) marks) → foundAs r ≡ choose (rows (now (starts .entry)) (now (sizes .entry)) (now (entries .entry)) n) s (choices (s .frontier))) ⌝ }
+{
+    let place = placed(f, m);
     let mut j = m;
     while j > 0 {
-        let i = search(starts, sizes, entries, n, f, m, marks, place, low, j - 1);
+        let i = seek(
+            places,
+            starts,
+            sizes,
+            entries,
+            n,
+            f,
+            m,
+            marks,
+            clean,
+            &place,
+            j - 1,
+        );
         if i > 0 {
             return Found::At(i - 1, j - 1);
         }
         j -= 1;
     }
     Found::Nothing
-}
-
-// The pair of positions that a step takes: of the eligible pairs that with the largest j, then with the largest i.
-pub fn choose<'a>(
-    starts: &'a [u16],
-    sizes: &'a [u8],
-    entries: &'a [u16],
-    n: usize,
-    v: Line,
-) -> Found
-    ensures { λ r. ⌜ (Sane (rows (now (starts .entry)) (now (sizes .entry)) (now (entries .entry)) n) → (s : State) → Front s v → foundAs r ≡ choose (rows (now (starts .entry)) (now (sizes .entry)) (now (entries .entry)) n) s (choices (s .frontier))) ⌝ }
-{
-    let f = v.at;
-    let marks = v.marks;
-    let m = v.len;
-    let place = pairs::chords::placed(&f, m);
-    let low = lows(starts, sizes, entries, n, &f, m);
-    best(starts, sizes, entries, n, &f, m, marks, &place, &low)
 }

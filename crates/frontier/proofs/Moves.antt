@@ -1,5 +1,5 @@
 -- What the code of the frontier computes, step by step: rings read onward, lines that grow.
-use Prim.Native.Nat.{ℕ, suc, _+_, _-_, _≤_, _<_}
+use Prim.Native.Nat.{ℕ, suc, _+_, _-_, _≤_, _<_, min}
 use mathlib.Core.Path.{_≡_, ap, sym, _∙_}
 use mathlib.Core.List.{List, _++_}
 use mathlib.Core.Bool.{false}
@@ -9,9 +9,10 @@ use lib.Seq.{getD-append-add, getD-drop, getD-take, drop-cons}
 use borrow.Author.Tests.{eq-eqb, ne-eqb, lt-ltb, le-ltb}
 use Rattle.lists.specs.Parts.{indexOf}
 use Rattle.model.specs.Plan.{Plan, ring, onward}
-use Rattle.rings.proofs.Rows.{index-le}
 use Rattle.frontier.specs.declared.Line.{Line}
-use Rattle.frontier.specs.Run.{line, turnedAt, turn, under, pushed}
+use Rattle.places.specs.Places.{placesOf}
+use Rattle.places.proofs.Look.{index-told}
+use Rattle.frontier.specs.Run.{line, turnedAt, turn, turnBy, depth, depthFrom, gap, under, pushed}
 
 -- ---- a ring read from a place on
 module _ (x : ℕ) (r : List ℕ) {q d : ℕ} (size : q ≡ length r) (rest : d ≡ q - (x + 1)) where
@@ -36,26 +37,37 @@ module _ (x : ℕ) (r : List ℕ) {q d : ℕ} (size : q ≡ length r) (rest : d 
   turned-past t h k =
       sym (List·getD-eq-default (drop (suc x) r ++ take x r) 0 (let a = length-append (drop (suc x) r) (take x r) in let b = length-drop (suc x) r in let c = length-take x r in omega arith))
 
+-- how long a ring read from a place on is
+pub turned-long : (x : ℕ) (r : List ℕ) {q d e : ℕ} → q ≡ length r → d ≡ q - 1 - x → e ≡ min x q → d + e ≡ length (turnedAt x r)
+unfolding turnedAt
+turned-long x r s g h =
+    let b = length-append (drop (suc x) r) (take x r) in
+    let c = length-drop (suc x) r in
+    let l = length-take x r in
+    omega arith
+
 module _ (a : ℕ) (r : List ℕ) {x : ℕ} (at : x ≡ indexOf a r) where
   -- a ring read onward from an entry is read from the place of the entry
   pub onward-turned : turnedAt x r ≡ onward a r
   unfolding turnedAt onward
   onward-turned = ap (λ (k : ℕ). drop (suc k) r ++ take k r) at
 
-  -- how long a ring read onward is
-  pub onward-long : {q d : ℕ} → q ≡ length r → d ≡ q - (x + 1) → d + x ≡ length (onward a r)
-  unfolding onward
-  onward-long {q} {d} s e =
-      let b = length-append (drop (suc (indexOf a r)) r) (take (indexOf a r) r) in
-      let c = length-drop (suc (indexOf a r)) r in
-      let l = length-take (indexOf a r) r in
-      let m = index-le a r in
-      omega arith
-
 -- the ring of position k from the entry after its right frontier neighbour on
 pub under-turned : (p : Plan) (f : List ℕ) (k : ℕ) {u x : ℕ} → u ≡ getD f k 0 → x ≡ turn p f k → turnedAt x (ring p u) ≡ under p f k
 unfolding turn under
 under-turned p f k {u} {x} e at = ap (λ (w : ℕ). turnedAt x (ring p w)) e ∙ onward-turned (getD f (suc k) 0) (ring p (getD f k 0)) at
+
+-- ---- by the plan's own table
+module _ (p : Plan) {t : List ℕ} (own : t ≡ placesOf p) (f : List ℕ) (k : ℕ) {x : ℕ} (at : x ≡ turnBy t p f k) where
+  -- where the right frontier neighbour stands
+  pub turn-told : x ≡ turn p f k
+  unfolding turnBy turn
+  turn-told = index-told p own (getD f k 0) (getD f (suc k) 0) at
+
+  -- how many contexts are below
+  pub depth-told : {q : ℕ} → q ≡ depthFrom p f k x → q ≡ depth p f k
+  unfolding turn depthFrom depth gap
+  depth-told e = e ∙ ap (indexOf (getD f (k - 1) 0)) (onward-turned (getD f (suc k) 0) (ring p (getD f k 0)) turn-told)
 
 -- ---- while t < e { if b == l[t] { return t; } t += 1; } t
 pub record Gaps (l : List ℕ) (b t : ℕ) : Type 0 where

@@ -8,6 +8,7 @@ use Rattle.lists.specs.Folds.{through, down, some}
 use Rattle.lists.specs.Parts.{indexOf}
 use Rattle.lists.specs.Spans.{zeros}
 use Rattle.model.specs.Plan.{Plan, ring, onward}
+use Rattle.places.specs.Places.{indexBy}
 use Rattle.frontier.specs.declared.Line.{Line}
 use Rattle.frontier.specs.declared.Tally.{Tally}
 
@@ -40,6 +41,14 @@ gap p u a b = indexOf b (onward a (ring p u))
 -- where the right frontier neighbour of position k stands in its ring
 unfoldable pub turn : Plan → List ℕ → ℕ → ℕ
 turn p f k = indexOf (getD f (suc k) 0) (ring p (getD f k 0))
+
+-- the same, by a table of positions
+unfoldable pub turnBy : List ℕ → Plan → List ℕ → ℕ → ℕ
+turnBy t p f k = indexBy t p (getD f k 0) (getD f (suc k) 0)
+
+-- how many contexts are below position k, where its right frontier neighbour stands at place x
+unfoldable pub depthFrom : Plan → List ℕ → ℕ → ℕ → ℕ
+depthFrom p f k x = indexOf (getD f (k - 1) 0) (turnedAt x (ring p (getD f k 0)))
 
 -- how many contexts are below position k
 unfoldable pub depth : Plan → List ℕ → ℕ → ℕ

@@ -3,25 +3,26 @@ ghost use mathlib.Core.Path.{_≡_};
 ghost use Prim.Native.Nat.{ℕ, suc, _+_, _-_, _<_, _^_};
 ghost use lib.ListN.{getD};
 ghost use Rattle.lists.specs.Parts.{indexOf};
-ghost use Rattle.model.specs.Plan.{ring, onward};
+ghost use Rattle.model.specs.Plan.{ring};
 ghost use Rattle.rings.specs.Tables.{rows};
+ghost use Rattle.places.specs.Places.{placesOf};
 ghost use Rattle.frontier.specs.Run as run;
 
-// How many entries stand strictly between a and b in u's ring, clockwise.
+// How many entries stand before b in u's ring, read from the entry after place x round to the entry before it.
 fn gap<'a>(
     starts: &'a [u16],
     sizes: &'a [u8],
     entries: &'a [u16],
     n: usize,
     u: usize,
-    a: u16,
+    x: usize,
     b: u16,
 ) -> usize
-    ensures { λ r. ⌜ r ≡ run.gap (rows (now (starts .entry)) (now (sizes .entry)) (now (entries .entry)) n) u a b ⌝ }
+    ensures { λ r. ⌜ r ≡ indexOf b (run.turnedAt x (ring (rows (now (starts .entry)) (now (sizes .entry)) (now (entries .entry)) n) u)) ⌝ }
     ensures { λ r. ⌜ r < 2 ^ 9 ⌝ }
 {
-    let x = rings::index_of(starts, sizes, entries, n, u, lists::wide_word(a));
-    let e = lists::minus(rings::size_of(sizes, n, u), x + 1) + x;
+    let q = rings::size_of(sizes, n, u);
+    let e = lists::minus(lists::minus(q, 1), x) + lists::lesser(x, q);
     let mut t = 0;
     while t < e {
         if b == crate::onward_at(starts, sizes, entries, n, u, x, t) {
@@ -50,8 +51,9 @@ fn after(f: &[u16], k: usize) -> u16
     }
 }
 
-// How many contexts are below position k.
-pub fn depth<'a>(
+// Where the right frontier neighbour of position k stands in its ring, by a table of positions.
+pub fn turn_by<'a>(
+    places: &'a [u8],
     starts: &'a [u16],
     sizes: &'a [u8],
     entries: &'a [u16],
@@ -59,33 +61,11 @@ pub fn depth<'a>(
     f: &'a [u16],
     k: usize,
 ) -> usize
-    ensures { λ r. ⌜ r ≡ run.depth (rows (now (starts .entry)) (now (sizes .entry)) (now (entries .entry)) n) (now (f .entry)) k ⌝ }
-    ensures { λ r. ⌜ r < 2 ^ 9 ⌝ }
-{
-    gap(
-        starts,
-        sizes,
-        entries,
-        n,
-        lists::num(f, k),
-        after(f, k),
-        prior(f, k),
-    )
-}
-
-// Where the right frontier neighbour of position k stands in its ring.
-pub fn turn_of<'a>(
-    starts: &'a [u16],
-    sizes: &'a [u8],
-    entries: &'a [u16],
-    n: usize,
-    f: &'a [u16],
-    k: usize,
-) -> usize
-    ensures { λ r. ⌜ r ≡ run.turn (rows (now (starts .entry)) (now (sizes .entry)) (now (entries .entry)) n) (now (f .entry)) k ⌝ }
+    ensures { λ r. ⌜ r ≡ run.turnBy (now (places .entry)) (rows (now (starts .entry)) (now (sizes .entry)) (now (entries .entry)) n) (now (f .entry)) k ⌝ }
     ensures { λ r. ⌜ r < 2 ^ 8 ⌝ }
 {
-    rings::index_of(
+    places::index_by(
+        places,
         starts,
         sizes,
         entries,
@@ -95,8 +75,25 @@ pub fn turn_of<'a>(
     )
 }
 
+// How many contexts are below position k, whose right frontier neighbour stands at place x in its ring.
+pub fn depth<'a>(
+    starts: &'a [u16],
+    sizes: &'a [u8],
+    entries: &'a [u16],
+    n: usize,
+    f: &'a [u16],
+    k: usize,
+    x: usize,
+) -> usize
+    ensures { λ r. ⌜ r ≡ run.depthFrom (rows (now (starts .entry)) (now (sizes .entry)) (now (entries .entry)) n) (now (f .entry)) k x ⌝ }
+    ensures { λ r. ⌜ r < 2 ^ 9 ⌝ }
+{
+    gap(starts, sizes, entries, n, lists::num(f, k), x, prior(f, k))
+}
+
 // Is South alone below position k?
 fn done_at<'a>(
+    places: &'a [u8],
     starts: &'a [u16],
     sizes: &'a [u8],
     entries: &'a [u16],
@@ -104,10 +101,10 @@ fn done_at<'a>(
     f: &'a [u16],
     k: usize,
 ) -> bool
-    ensures { λ r. ⌜ r ≡ run.doneAt (rows (now (starts .entry)) (now (sizes .entry)) (now (entries .entry)) n) (now (f .entry)) k ⌝ }
+    ensures { λ r. ⌜ (now (places .entry) ≡ placesOf (rows (now (starts .entry)) (now (sizes .entry)) (now (entries .entry)) n) → r ≡ run.doneAt (rows (now (starts .entry)) (now (sizes .entry)) (now (entries .entry)) n) (now (f .entry)) k) ⌝ }
 {
-    if depth(starts, sizes, entries, n, f, k) == 1 {
-        let x = turn_of(starts, sizes, entries, n, f, k);
+    let x = turn_by(places, starts, sizes, entries, n, f, k);
+    if depth(starts, sizes, entries, n, f, k, x) == 1 {
         return crate::onward_at(starts, sizes, entries, n, lists::num(f, k), x, 0) == 2;
     }
     false
@@ -115,6 +112,7 @@ fn done_at<'a>(
 
 // Has some inner context of a frontier of m more than South below?
 pub fn is_unfinished<'a>(
+    places: &'a [u8],
     starts: &'a [u16],
     sizes: &'a [u8],
     entries: &'a [u16],
@@ -122,12 +120,12 @@ pub fn is_unfinished<'a>(
     f: &'a [u16],
     m: usize,
 ) -> bool
-    ensures { λ r. ⌜ r ≡ run.unfinished (rows (now (starts .entry)) (now (sizes .entry)) (now (entries .entry)) n) (now (f .entry)) m ⌝ }
+    ensures { λ r. ⌜ (now (places .entry) ≡ placesOf (rows (now (starts .entry)) (now (sizes .entry)) (now (entries .entry)) n) → r ≡ run.unfinished (rows (now (starts .entry)) (now (sizes .entry)) (now (entries .entry)) n) (now (f .entry)) m) ⌝ }
 {
     let e = lists::minus(m, 1);
     let mut k = 1;
     while k < e {
-        if !done_at(starts, sizes, entries, n, f, k) {
+        if !done_at(places, starts, sizes, entries, n, f, k) {
             return true;
         }
         k += 1;

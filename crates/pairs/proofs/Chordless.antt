@@ -1,84 +1,33 @@
--- The engine's test for chords, by the highest position of each context, is the model's.
+-- The engine's tests for chords are the model's.
 use Prim.Native.Nat.{ℕ, zero, suc, _+_, _-_, _≤_, _<_}
-use mathlib.Core.Path.{_≡_, refl, ap, sym, _∙_, subst}
-use mathlib.Core.Logic.{_≢_}
-use mathlib.Core.List.{List, [], _∷_, List·Memᴰ}
-use mathlib.Core.Bool.{Bool, true, false, not, _&&_}
+use mathlib.Core.Path.{_≡_, refl, ap, sym, _∙_}
+use mathlib.Core.Logic.{_⊎_, inl, inr, ⊎-elim}
+use mathlib.Core.List.{List, [], _∷_}
+use mathlib.Core.Bool.{Bool, true, false, cond, not, _&&_, false≢true}
 use native.Mathlib.Omega.{arith}
-use lib.ListN.{length, getD, set, drop, length-set, length-drop}
-use lib.Seq.{getD-set-same, getD-set-other, getD-drop}
-use lib.Dec.{eqb, ltb}
-use borrow.Author.Tests.{eq-eqb, eqb-true, eqb-false, ltb-true, lt-ltb}
+use lib.ListN.{length, getD, drop, length-drop}
+use lib.Seq.{getD-drop}
+use lib.Dec.{ltb}
+use borrow.Author.Tests.{ltb-true, ltb-false}
 use Rattle.lists.specs.Tests.{any}
-use Rattle.lists.specs.Spans.{zeros, padded}
+use Rattle.lists.specs.Spans.{padded}
 use Rattle.lists.proofs.Bools.{both}
 use Rattle.lists.proofs.Tests.{of-none}
-use Rattle.lists.proofs.Spans.{length-zeros}
-use Rattle.model.specs.Plan.{Plan, ring, adjacent}
-use Rattle.model.specs.Sweep.{chordless}
-use Rattle.model.proofs.Plans.{adjacent-mem, mem-adjacent}
-use Rattle.model.proofs.Eligible.{getD-mem, mem-getD, chordless-apart}
-use Rattle.lists.specs.Folds.{each}
-use Rattle.frontier.specs.Front.{Small}
-use Rattle.pairs.specs.Run.{placed, chordAt, chorded}
-use Rattle.frontier.proofs.Lines.{small-getD, getD-none, getD-padded}
+use Rattle.lists.specs.Folds.{some}
 use Rattle.lists.proofs.Folds.{some-none, some-one}
+use Rattle.model.specs.Plan.{Plan, adjacent}
+use Rattle.model.specs.Sweep.{chordless, replaced}
+use Rattle.model.proofs.Eligible.{mem-getD, chordless-apart, replaced-left, replaced-list, replaced-right, replaced-length}
+use Rattle.frontier.proofs.Lines.{getD-padded}
+use Rattle.pairs.specs.Run.{touches, chorded, chordLeft, chordAt, chordRight}
 
--- ---- the highest position of each context
-pub record Placed (f : List ℕ) (a : ℕ) (place : List ℕ) : Type 0 where
-  pub size : length place ≡ 256
-  -- no position is above that of its context
-  pub top : (t : ℕ) → t < a → t < getD place (getD f t 0) 0
-  -- and a position is one of its context
-  pub real : (c t : ℕ) → getD place c 0 ≡ suc t → (t < a) × (getD f t 0 ≡ c)
-
--- one more position
-place-more : (f : List ℕ) (a : ℕ) (place : List ℕ) → getD f a 0 < 256 → Placed f a place → Placed f (suc a) (set place (getD f a 0) (suc a))
-place-more f a place h k = record { size = simp length-set (k .size); top = λ t l. up t l (eqb (getD f t 0) (getD f a 0)) refl; real = λ c t e. down c t e (eqb c (getD f a 0)) refl }
+-- one number is below the other, or not
+lt-or-le : (a b : ℕ) → (a < b) ⊎ (b ≤ a)
+lt-or-le a b = go (ltb a b) refl
   where
-    here : getD (set place (getD f a 0) (suc a)) (getD f a 0) 0 ≡ suc a
-    here = getD-set-same place (getD f a 0) (suc a) 0 (let s = k .size in omega arith)
-
-    up : (t : ℕ) → t < suc a → (b : Bool) → eqb (getD f t 0) (getD f a 0) ≡ b → t < getD (set place (getD f a 0) (suc a)) (getD f t 0) 0
-    up t l true y = let e = ap (λ (c : ℕ). getD (set place (getD f a 0) (suc a)) c 0) (eqb-true (getD f t 0) (getD f a 0) y) ∙ here in omega arith
-    up t l false y =
-        let other = getD-set-other place (getD f a 0) (getD f t 0) (suc a) 0 (eqb-false (getD f t 0) (getD f a 0) y) in
-        let before : t < a = less t l y in
-        let x = k .top t before in
-        omega arith
-      where
-        less : (t : ℕ) → t < suc a → eqb (getD f t 0) (getD f a 0) ≡ false → t < a
-        less t l y = go (eqb t a) refl
-          where
-            go : (b : Bool) → eqb t a ≡ b → t < a
-            go true z = both (eqb (getD f t 0) (getD f a 0)) (eq-eqb (getD f t 0) (getD f a 0) (ap (λ (i : ℕ). getD f i 0) (eqb-true t a z))) y
-            go false z = let n : t ≢ a = eqb-false t a z in omega arith
-
-    down : (c t : ℕ) → getD (set place (getD f a 0) (suc a)) c 0 ≡ suc t → (b : Bool) → eqb c (getD f a 0) ≡ b → (t < suc a) × (getD f t 0 ≡ c)
-    down c t e true y =
-        let same = eqb-true c (getD f a 0) y in
-        let z : suc a ≡ suc t = sym here ∙ ap (λ (d : ℕ). getD (set place (getD f a 0) (suc a)) d 0) (sym same) ∙ e in
-        let w : t ≡ a = omega arith in
-        (omega arith, ap (λ (i : ℕ). getD f i 0) w ∙ sym same)
-    down c t e false y =
-        let (l, q) = k .real c t (sym (getD-set-other place (getD f a 0) c (suc a) 0 (eqb-false c (getD f a 0) y)) ∙ e) in
-        (omega arith, q)
-
--- several more positions
-places : (f : List ℕ) → ((t : ℕ) → getD f t 0 < 256) → (a k : ℕ) (place : List ℕ) → Placed f a place → Placed f (a + k) (each (λ (i : ℕ) l. set l (getD f i 0) (suc i)) a k place)
-unfolding each
-places f h a zero place q = let z : a + 0 ≡ a = omega arith in subst (λ (n : ℕ). Placed f n place) (sym z) q
-places f h a (suc k) place q =
-    let z : suc a + k ≡ a + suc k = omega arith in
-    subst (λ (n : ℕ). Placed f n (each (λ (i : ℕ) l. set l (getD f i 0) (suc i)) (suc a) k (set place (getD f a 0) (suc a)))) z (places f h (suc a) k (set place (getD f a 0) (suc a)) (place-more f a place (h a) q))
-
--- the table holds the highest position of each context
-pub placed-is : (f : List ℕ) (m : ℕ) → ((t : ℕ) → getD f t 0 < 256) → Placed f m (placed f m)
-unfolding placed
-placed-is f m h =
-    let z : 0 + (m - 0) ≡ m = omega arith in
-    subst (λ (n : ℕ). Placed f n (each (λ (i : ℕ) l. set l (getD f i 0) (suc i)) 0 (m - 0) (zeros 256))) z
-    (places f h 0 (m - 0) (zeros 256) (record { size = length-zeros 256; top = λ t l. absurd (omega arith); real = λ c t e. let y = getD-none 256 c in absurd (omega arith) }))
+    go : (t : Bool) → ltb a b ≡ t → (a < b) ⊎ (b ≤ a)
+    go true e = inl (ltb-true a b e)
+    go false e = inr (ltb-false a b e)
 
 -- ---- no chord
 -- contexts that are two or more positions apart are no neighbours: there is no chord
@@ -95,56 +44,192 @@ no-chord p (a ∷ g) h =
         let s = length-drop 1 g in
         ap (adjacent p a) (sym (sym (getD-drop 1 g x 0) ∙ e)) ∙ h 0 (suc (1 + x)) (omega arith) (omega arith)
 
-module _ (p : Plan) (g : List ℕ) (small : Small g) where
-  -- the array that holds the frontier
+-- a chord of a frontier: two contexts, two or more positions apart, the first of which lists the second
+pub record Chord (p : Plan) (g : List ℕ) : Type 0 where
+  pub from : ℕ
+  pub to : ℕ
+  pub apart : from + 2 ≤ to
+  pub inside : to < length g
+  pub lists : adjacent p (getD g from 0) (getD g to 0) ≡ true
+
+-- a test that passes where there is a chord, and only there, is the model's
+verdict : (p : Plan) (g : List ℕ) (b : Bool) → (b ≡ false → (k l : ℕ) → k + 2 ≤ l → l < length g → adjacent p (getD g k 0) (getD g l 0) ≡ false) → (b ≡ true → Chord p g) → b ≡ not (chordless p g)
+verdict p g false n s = sym (ap not (no-chord p g (n refl)))
+verdict p g true n s = go (chordless p g) refl (s refl)
+  where
+    go : (t : Bool) → chordless p g ≡ t → Chord p g → true ≡ not t
+    go true z c = both (adjacent p (getD g (c .from) 0) (getD g (c .to) 0)) (c .lists) (chordless-apart p g z (c .from) (c .to) (c .apart) (c .inside))
+    go false z c = refl
+
+-- ---- one context against a stretch
+module _ (p : Plan) (u : ℕ) (g : List ℕ) (a e : ℕ) where
+  -- it lists none of the stretch
+  pub touches-none : touches p u g a e ≡ false → (k : ℕ) → a ≤ k → k < e → adjacent p u (getD g k 0) ≡ false
+  unfolding touches
+  touches-none t k h l = some-none (λ (i : ℕ). adjacent p u (getD g i 0)) a (e - a) t k h (omega arith)
+
+  -- or one
+  pub touches-one : touches p u g a e ≡ true → (k : ℕ) × (a ≤ k) × (k < e) × (adjacent p u (getD g k 0) ≡ true)
+  unfolding touches
+  touches-one t = let (k, h, l, y) = some-one (λ (i : ℕ). adjacent p u (getD g i 0)) a (e - a) t in (k, h, omega arith, y)
+
+-- ---- a whole frontier, in the array that holds it
+module _ (p : Plan) (g : List ℕ) where
+  -- the array
   abbrev A : List ℕ
   A = padded 512 g
 
-  -- its table of positions
-  placed-here : Placed A (length g) (placed A (length g))
-  placed-here = placed-is A (length g) (λ t. let e = getD-padded 512 g t in let s = small-getD g t small in omega arith)
+  -- what it says of two positions
+  same-here : (k l : ℕ) → adjacent p (getD A k 0) (getD A l 0) ≡ adjacent p (getD g k 0) (getD g l 0)
+  same-here k l = λ i. adjacent p (getD-padded 512 g k i) (getD-padded 512 g l i)
 
-  -- where the engine finds no chord, there is none
-  none-says : chorded p A (length g) ≡ false → (k l : ℕ) → k + 2 ≤ l → l < length g → adjacent p (getD g k 0) (getD g l 0) ≡ false
-  unfolding chorded chordAt
-  none-says e k l h q = go (adjacent p (getD g k 0) (getD g l 0)) refl
-    where
-      go : (t : Bool) → adjacent p (getD g k 0) (getD g l 0) ≡ t → t ≡ false
-      go false y = refl
-      go true y =
-          let place = placed A (length g) in
-          let r = ring p (getD A k 0) in
-          let m : List·Memᴰ (getD g l 0) r = subst (λ (u : ℕ). List·Memᴰ (getD g l 0) (ring p u)) (sym (getD-padded 512 g k)) (adjacent-mem p (getD g k 0) (getD g l 0) y) in
-          let (x, x-in, x-is) = mem-getD r (getD g l 0) m in
-          let far = some-none (λ (t : ℕ). ltb 2 (getD place (getD r t 0) 0 - k)) 0 (length r - 0) (some-none (chordAt p place A) 0 (length g - 2 - 0) e k (omega arith) (omega arith)) x (omega arith) (omega arith) in
-          let top = placed-here .top l q in
-          let same : getD place (getD A l 0) 0 ≡ getD place (getD r x 0) 0 = ap (λ (c : ℕ). getD place c 0) (getD-padded 512 g l ∙ sym x-is) in
-          both (ltb 2 (getD place (getD r x 0) 0 - k)) (lt-ltb 2 (getD place (getD r x 0) 0 - k) (omega arith)) far
-
-  -- where it finds one, there is one
-  some-says : chorded p A (length g) ≡ true → (k : ℕ) × (l : ℕ) × (k + 2 ≤ l) × (l < length g) × (adjacent p (getD g k 0) (getD g l 0) ≡ true)
-  unfolding chorded chordAt
-  some-says e =
-      let place = placed A (length g) in
-      let (k, _, k-in, y) = some-one (chordAt p place A) 0 (length g - 2 - 0) e in
-      let r = ring p (getD A k 0) in
-      let (x, _, x-in, z) = some-one (λ (t : ℕ). ltb 2 (getD place (getD r t 0) 0 - k)) 0 (length r - 0) y in
-      let far = ltb-true 2 (getD place (getD r x 0) 0 - k) z in
-      let l : ℕ = getD place (getD r x 0) 0 - 1 in
-      let (l-in, l-is) = placed-here .real (getD r x 0) l (omega arith) in
-      let there : List·Memᴰ (getD g l 0) (ring p (getD g k 0)) = subst (λ (u : ℕ). List·Memᴰ (getD g l 0) (ring p u)) (getD-padded 512 g k) (subst (λ (c : ℕ). List·Memᴰ c r) (sym (sym (getD-padded 512 g l) ∙ l-is)) (getD-mem r x (omega arith))) in
-      (k, l, omega arith, l-in, mem-adjacent p (getD g k 0) (getD g l 0) there)
-
-  -- The engine's test is the model's
+  -- The engine's test of a whole frontier is the model's
   pub chorded-is : chorded p A (length g) ≡ not (chordless p g)
-  chorded-is = go (chorded p A (length g)) refl
+  unfolding chorded
+  chorded-is = verdict p g (chorded p A (length g)) none one
     where
-      go : (t : Bool) → chorded p A (length g) ≡ t → t ≡ not (chordless p g)
-      go false e = sym (ap not (no-chord p g (none-says e)))
-      go true e =
-          let (k, l, h, q, y) = some-says e in
-          case (chordless p g) refl k l h q y
-        where
-          case : (t : Bool) → chordless p g ≡ t → (k l : ℕ) → k + 2 ≤ l → l < length g → adjacent p (getD g k 0) (getD g l 0) ≡ true → true ≡ not t
-          case true z k l h q y = both (adjacent p (getD g k 0) (getD g l 0)) y (chordless-apart p g z k l h q)
-          case false z k l h q y = refl
+      none : chorded p A (length g) ≡ false → (k l : ℕ) → k + 2 ≤ l → l < length g → adjacent p (getD g k 0) (getD g l 0) ≡ false
+      none e k l h q =
+          sym (same-here k l) ∙ touches-none p (getD A k 0) A (k + 2) (length g) (some-none (λ (i : ℕ). touches p (getD A i 0) A (i + 2) (length g)) 0 (length g - 2 - 0) e k (omega arith) (omega arith)) l h q
+
+      one : chorded p A (length g) ≡ true → Chord p g
+      one e =
+          let (k, _, _, y) = some-one (λ (i : ℕ). touches p (getD A i 0) A (i + 2) (length g)) 0 (length g - 2 - 0) e in
+          let (l, h, q, z) = touches-one p (getD A k 0) A (k + 2) (length g) y in
+          record { from = k; to = l; apart = h; inside = q; lists = sym (same-here k l) ∙ z }
+
+-- ---- a list put into a frontier that has no chord
+module _ (p : Plan) (f l : List ℕ) (i j : ℕ) (h : i + 2 ≤ j) (q : j < length f) (F L : List ℕ) (F-same : (k : ℕ) → getD F k 0 ≡ getD f k 0) (L-same : (k : ℕ) → getD L k 0 ≡ getD l k 0) where
+  -- the new frontier
+  abbrev R : List ℕ
+  R = replaced f i j l
+
+  -- where a position of the new frontier stands: left of the list, on it, or right of it
+  data Part (k : ℕ) : Type 0 where
+    left : k ≤ i → Part k
+    list : (t : ℕ) → t < length l → k ≡ suc i + t → Part k
+    right : (t : ℕ) → k ≡ suc i + length l + t → Part k
+
+  -- each stands in one of the three
+  part : (k : ℕ) → Part k
+  part k = ⊎-elim (λ a. left (omega arith)) (λ a. ⊎-elim (λ b. list (k - suc i) (omega arith) (omega arith)) (λ b. right (k - (suc i + length l)) (omega arith)) (lt-or-le k (suc i + length l))) (lt-or-le k (suc i))
+
+  -- what stands there
+  at-left : (k : ℕ) → k ≤ i → getD R k 0 ≡ getD F k 0
+  at-left k a = replaced-left f l i j h q k a ∙ sym (F-same k)
+
+  at-list : (k t : ℕ) → t < length l → k ≡ suc i + t → getD R k 0 ≡ getD L t 0
+  at-list k t a e = ap (λ (n : ℕ). getD R n 0) e ∙ replaced-list f l i j h q t a ∙ sym (L-same t)
+
+  at-right : (k t : ℕ) → k ≡ suc i + length l + t → getD R k 0 ≡ getD F (j + t) 0
+  at-right k t e = ap (λ (n : ℕ). getD R n 0) e ∙ replaced-right f l i j h q t ∙ sym (F-same (j + t))
+
+  -- two positions of the old frontier
+  old : chordless p f ≡ true → (a b : ℕ) → a + 2 ≤ b → b < length f → adjacent p (getD F a 0) (getD F b 0) ≡ false
+  old c a b x y = (λ d. adjacent p (F-same a d) (F-same b d)) ∙ chordless-apart p f c a b x y
+
+  module _ (c : chordless p f ≡ true) (lefts : chordLeft p F i L (length l) ≡ false) (rights : chordRight p F (length f) j L (length l) ≡ false) where
+    -- left of the list against the list
+    no-left : (k t : ℕ) → k ≤ i → t < length l → k + 2 ≤ suc i + t → adjacent p (getD F k 0) (getD L t 0) ≡ false
+    unfolding chordLeft
+    no-left k t a b s = go (touches p (getD F i 0) L 1 (length l)) refl lefts (lt-or-le k i)
+      where
+        go : (x : Bool) → touches p (getD F i 0) L 1 (length l) ≡ x → cond x true (some (λ (n : ℕ). touches p (getD F n 0) L 0 (length l)) 0 i) ≡ false → (k < i) ⊎ (i ≤ k) → adjacent p (getD F k 0) (getD L t 0) ≡ false
+        go true e y o = absurd (false≢true (sym y))
+        go false e y (inl o) = touches-none p (getD F k 0) L 0 (length l) (some-none (λ (n : ℕ). touches p (getD F n 0) L 0 (length l)) 0 (i - 0) y k (omega arith) (omega arith)) t (omega arith) b
+        go false e y (inr o) = let z : k ≡ i = omega arith in ap (λ (n : ℕ). adjacent p (getD F n 0) (getD L t 0)) z ∙ touches-none p (getD F i 0) L 1 (length l) e t (omega arith) b
+
+    -- a context of the list against those further on
+    at : (x : ℕ) → x < length l → chordAt p F (length f) j L (length l) x ≡ false
+    unfolding chordRight
+    at x a = some-none (chordAt p F (length f) j L (length l)) 0 (length l - 0) rights x (omega arith) (omega arith)
+
+    -- against the list
+    no-list : (x t : ℕ) → t < length l → x + 2 ≤ t → adjacent p (getD L x 0) (getD L t 0) ≡ false
+    unfolding chordAt
+    no-list x t a s = go (ltb (x + 1) (length l)) refl (touches p (getD L x 0) L (x + 1 + 1) (length l)) refl (at x (omega arith))
+      where
+        go : (y : Bool) → ltb (x + 1) (length l) ≡ y → (z : Bool) → touches p (getD L x 0) L (x + 1 + 1) (length l) ≡ z → cond y (cond z true (touches p (getD L x 0) F j (length f))) (touches p (getD L x 0) F (j + 1) (length f)) ≡ false → adjacent p (getD L x 0) (getD L t 0) ≡ false
+        go true e true d w = absurd (false≢true (sym w))
+        go true e false d w = touches-none p (getD L x 0) L (x + 1 + 1) (length l) d t (omega arith) a
+        go false e z d w = let r = ltb-false (x + 1) (length l) e in absurd (omega arith)
+
+    -- against the right
+    no-right : (x t : ℕ) → x < length l → j + t < length f → x + 2 ≤ length l + t → adjacent p (getD L x 0) (getD F (j + t) 0) ≡ false
+    unfolding chordAt
+    no-right x t a b s = go (ltb (x + 1) (length l)) refl (touches p (getD L x 0) L (x + 1 + 1) (length l)) refl (at x a)
+      where
+        go : (y : Bool) → ltb (x + 1) (length l) ≡ y → (z : Bool) → touches p (getD L x 0) L (x + 1 + 1) (length l) ≡ z → cond y (cond z true (touches p (getD L x 0) F j (length f))) (touches p (getD L x 0) F (j + 1) (length f)) ≡ false → adjacent p (getD L x 0) (getD F (j + t) 0) ≡ false
+        go true e true d w = absurd (false≢true (sym w))
+        go true e false d w = touches-none p (getD L x 0) F j (length f) w (j + t) (omega arith) b
+        go false e z d w = let r = ltb-false (x + 1) (length l) e in touches-none p (getD L x 0) F (j + 1) (length f) w (j + t) (omega arith) b
+
+    -- so there is none
+    none : (k m : ℕ) → k + 2 ≤ m → m < length R → adjacent p (getD R k 0) (getD R m 0) ≡ false
+    none k m a b = go (part k) (part m)
+      where
+        size : length R ≡ suc i + length l + (length f - j)
+        size = replaced-length f l i j h q
+
+        go : Part k → Part m → adjacent p (getD R k 0) (getD R m 0) ≡ false
+        go (left x) (left y) = (λ d. adjacent p (at-left k x d) (at-left m y d)) ∙ old c k m a (omega arith)
+        go (left x) (list t y e) = (λ d. adjacent p (at-left k x d) (at-list m t y e d)) ∙ no-left k t x y (omega arith)
+        go (left x) (right t e) = (λ d. adjacent p (at-left k x d) (at-right m t e d)) ∙ old c k (j + t) (omega arith) (let s = size in omega arith)
+        go (list s x e) (left y) = absurd (omega arith)
+        go (list s x e) (list t y g) = (λ d. adjacent p (at-list k s x e d) (at-list m t y g d)) ∙ no-list s t y (omega arith)
+        go (list s x e) (right t g) = (λ d. adjacent p (at-list k s x e d) (at-right m t g d)) ∙ no-right s t x (let z = size in omega arith) (omega arith)
+        go (right s e) (left y) = absurd (omega arith)
+        go (right s e) (list t y g) = absurd (omega arith)
+        go (right s e) (right t g) = (λ d. adjacent p (at-right k s e d) (at-right m t g d)) ∙ old c (j + s) (j + t) (omega arith) (let z = size in omega arith)
+
+  -- a chord that the engine finds left of the list
+  one-left : chordLeft p F i L (length l) ≡ true → Chord p R
+  unfolding chordLeft
+  one-left e = go (touches p (getD F i 0) L 1 (length l)) refl e
+    where
+      size : length R ≡ suc i + length l + (length f - j)
+      size = replaced-length f l i j h q
+
+      go : (x : Bool) → touches p (getD F i 0) L 1 (length l) ≡ x → cond x true (some (λ (n : ℕ). touches p (getD F n 0) L 0 (length l)) 0 i) ≡ true → Chord p R
+      go true x y =
+          let (t, a, b, z) = touches-one p (getD F i 0) L 1 (length l) x in
+          let s = size in
+          record { from = i; to = suc i + t; apart = omega arith; inside = omega arith; lists = (λ d. adjacent p (at-left i (omega arith) d) (at-list (suc i + t) t b refl d)) ∙ z }
+      go false x y =
+          let (k, _, k-in, w) = some-one (λ (n : ℕ). touches p (getD F n 0) L 0 (length l)) 0 (i - 0) y in
+          let (t, a, b, z) = touches-one p (getD F k 0) L 0 (length l) w in
+          let s = size in
+          record { from = k; to = suc i + t; apart = omega arith; inside = omega arith; lists = (λ d. adjacent p (at-left k (omega arith) d) (at-list (suc i + t) t b refl d)) ∙ z }
+
+  -- or from a context of the list on
+  one-right : chordRight p F (length f) j L (length l) ≡ true → Chord p R
+  unfolding chordRight chordAt
+  one-right e =
+      let (x, _, x-in, w) = some-one (chordAt p F (length f) j L (length l)) 0 (length l - 0) e in
+      go x (omega arith) (ltb (x + 1) (length l)) refl (touches p (getD L x 0) L (x + 1 + 1) (length l)) refl w
+    where
+      size : length R ≡ suc i + length l + (length f - j)
+      size = replaced-length f l i j h q
+
+      far : (x : ℕ) → x < length l → (b : ℕ) → j ≤ b → x + 2 ≤ length l + (b - j) → (k : ℕ) × (b ≤ k) × (k < length f) × (adjacent p (getD L x 0) (getD F k 0) ≡ true) → Chord p R
+      far x a b y s (k, k-from, k-in, z) =
+          let n = size in
+          let w : j + (k - j) ≡ k = omega arith in
+          record { from = suc i + x; to = suc i + length l + (k - j); apart = omega arith; inside = omega arith; lists = (λ d. adjacent p (at-list (suc i + x) x a refl d) ((at-right (suc i + length l + (k - j)) (k - j) refl ∙ ap (λ (o : ℕ). getD F o 0) w) d)) ∙ z }
+
+      go : (x : ℕ) → x < length l → (y : Bool) → ltb (x + 1) (length l) ≡ y → (z : Bool) → touches p (getD L x 0) L (x + 1 + 1) (length l) ≡ z → cond y (cond z true (touches p (getD L x 0) F j (length f))) (touches p (getD L x 0) F (j + 1) (length f)) ≡ true → Chord p R
+      go x a true y true z w =
+          let (t, b, t-in, o) = touches-one p (getD L x 0) L (x + 1 + 1) (length l) z in
+          let n = size in
+          record { from = suc i + x; to = suc i + t; apart = omega arith; inside = omega arith; lists = (λ d. adjacent p (at-list (suc i + x) x a refl d) (at-list (suc i + t) t t-in refl d)) ∙ o }
+      go x a true y false z w = let r = ltb-true (x + 1) (length l) y in far x a j (omega arith) (omega arith) (touches-one p (getD L x 0) F j (length f) w)
+      go x a false y z o w = let r = ltb-false (x + 1) (length l) y in far x a (j + 1) (omega arith) (omega arith) (touches-one p (getD L x 0) F (j + 1) (length f) w)
+
+  -- The engine's test of the list alone is the model's test of the new frontier
+  pub fresh-is : chordless p f ≡ true → cond (chordLeft p F i L (length l)) true (chordRight p F (length f) j L (length l)) ≡ not (chordless p R)
+  fresh-is c = go (chordLeft p F i L (length l)) refl (chordRight p F (length f) j L (length l)) refl
+    where
+      go : (x : Bool) → chordLeft p F i L (length l) ≡ x → (y : Bool) → chordRight p F (length f) j L (length l) ≡ y → cond x true y ≡ not (chordless p R)
+      go true x y y′ = verdict p R true (λ e. absurd (false≢true (sym e))) (λ _. one-left x)
+      go false x true y = verdict p R true (λ e. absurd (false≢true (sym e))) (λ _. one-right y)
+      go false x false y = verdict p R false (λ _. none c x y) (λ e. absurd (false≢true e))

@@ -1,11 +1,13 @@
 // The list of a pair of positions, and the frontier with that list in place.
 ghost use mathlib.Core.Path.{_≡_};
+ghost use mathlib.Core.Bool.{true};
 ghost use mathlib.Core.List.{List};
 ghost use Prim.Native.Nat.{ℕ, suc, _+_, _-_, _<_, _^_};
+ghost use Rattle.lists.specs.Spans.{zeros};
 ghost use Rattle.rings.specs.Tables.{rows};
-ghost use Rattle.frontier.specs.Run.{lineOf};
+ghost use Rattle.places.specs.Places.{placesOf};
+ghost use Rattle.frontier.specs.Run.{line, lineOf};
 ghost use Rattle.pairs.specs.Run as run;
-use frontier::Line;
 use frontier::Tally;
 
 // Is c the last of the first len contexts?
@@ -58,6 +60,7 @@ fn add(at: &mut [u16], marks: &mut [u8], list: Tally, c: u16) -> Tally
 fn add_back<'a>(
     at: &mut [u16],
     marks: &mut [u8],
+    places: &'a [u8],
     starts: &'a [u16],
     sizes: &'a [u8],
     entries: &'a [u16],
@@ -66,14 +69,14 @@ fn add_back<'a>(
     k: usize,
     list: Tally,
 ) -> Tally
-    ensures { λ r. ⌜ lineOf r (now (at .exit)) (now (marks .exit)) ≡ run.backAdded (rows (now (starts .entry)) (now (sizes .entry)) (now (entries .entry)) n) (now (f .entry)) k (lineOf list (now (at .entry)) (now (marks .entry))) ⌝ }
+    ensures { λ r. ⌜ (now (places .entry) ≡ placesOf (rows (now (starts .entry)) (now (sizes .entry)) (now (entries .entry)) n) → lineOf r (now (at .exit)) (now (marks .exit)) ≡ run.backAdded (rows (now (starts .entry)) (now (sizes .entry)) (now (entries .entry)) n) (now (f .entry)) k (lineOf list (now (at .entry)) (now (marks .entry)))) ⌝ }
 {
-    let q = frontier::below::depth(starts, sizes, entries, n, f, k);
+    let x = frontier::below::turn_by(places, starts, sizes, entries, n, f, k);
+    let q = frontier::below::depth(starts, sizes, entries, n, f, k, x);
     if q == 0 {
         return failed(list);
     }
     let u = lists::num(f, k);
-    let x = frontier::below::turn_of(starts, sizes, entries, n, f, k);
     let mut w = list;
     let mut t = q;
     while t > 0 {
@@ -92,6 +95,7 @@ fn add_back<'a>(
 fn add_below<'a>(
     at: &mut [u16],
     marks: &mut [u8],
+    places: &'a [u8],
     starts: &'a [u16],
     sizes: &'a [u8],
     entries: &'a [u16],
@@ -100,41 +104,36 @@ fn add_below<'a>(
     k: usize,
     list: Tally,
 ) -> Tally
-    ensures { λ r. ⌜ lineOf r (now (at .exit)) (now (marks .exit)) ≡ run.belowAdded (rows (now (starts .entry)) (now (sizes .entry)) (now (entries .entry)) n) (now (f .entry)) k (lineOf list (now (at .entry)) (now (marks .entry))) ⌝ }
+    ensures { λ r. ⌜ (now (places .entry) ≡ placesOf (rows (now (starts .entry)) (now (sizes .entry)) (now (entries .entry)) n) → lineOf r (now (at .exit)) (now (marks .exit)) ≡ run.belowAdded (rows (now (starts .entry)) (now (sizes .entry)) (now (entries .entry)) n) (now (f .entry)) k (lineOf list (now (at .entry)) (now (marks .entry)))) ⌝ }
 {
     if list.ok {
-        return add_back(at, marks, starts, sizes, entries, n, f, k, list);
+        return add_back(at, marks, places, starts, sizes, entries, n, f, k, list);
     }
     list
 }
 
-// The list of what is below positions a to j - 1.
+// The list of what is below positions a to j - 1, put into an array of zeros, each context of it marked.
 pub fn listed<'a>(
+    at: &mut [u16],
+    marks: &mut [u8],
+    places: &'a [u8],
     starts: &'a [u16],
     sizes: &'a [u8],
     entries: &'a [u16],
     n: usize,
     f: &'a [u16],
-    marks: [u8; 256],
     a: usize,
     j: usize,
-) -> Line
-    ensures { λ r. ⌜ r ≡ run.listing (rows (now (starts .entry)) (now (sizes .entry)) (now (entries .entry)) n) (now (f .entry)) marks a j ⌝ }
+) -> Tally
+    ensures { λ r. ⌜ (now (places .entry) ≡ placesOf (rows (now (starts .entry)) (now (sizes .entry)) (now (entries .entry)) n) → now (at .entry) ≡ zeros 512 → lineOf r (now (at .exit)) (now (marks .exit)) ≡ run.listing (rows (now (starts .entry)) (now (sizes .entry)) (now (entries .entry)) n) (now (f .entry)) (now (marks .entry)) a j) ⌝ }
 {
-    let mut at = [0u16; 512];
-    let mut on = marks;
     let mut list = Tally { ok: true, len: 0 };
     let mut k = a;
     while k < j {
-        list = add_below(&mut at, &mut on, starts, sizes, entries, n, f, k, list);
+        list = add_below(at, marks, places, starts, sizes, entries, n, f, k, list);
         k += 1;
     }
-    Line {
-        ok: list.ok,
-        len: list.len,
-        at,
-        marks: on,
-    }
+    list
 }
 
 // The line with positions a to e - 1 of f at its end.
@@ -150,20 +149,19 @@ fn append(at: &mut [u16], line: Tally, f: &[u16], a: usize, e: usize) -> Tally
     v
 }
 
-// The frontier of m contexts with the list g put in place of positions a to j - 1.
-pub fn replaced(f: &[u16], m: usize, a: usize, j: usize, g: Line) -> Line
-    ensures { λ r. ⌜ r ≡ run.replaced (now (f .entry)) m a j g ⌝ }
+// The frontier of m contexts with a list of q put in place of positions a to j - 1, in an array of zeros.
+pub fn replaced<'a>(
+    at: &mut [u16],
+    f: &'a [u16],
+    m: usize,
+    a: usize,
+    j: usize,
+    list: &'a [u16],
+    q: usize,
+) -> Tally
+    ensures { λ r. ⌜ ((marks : List ℕ) → now (at .entry) ≡ zeros 512 → lineOf r (now (at .exit)) marks ≡ run.replaced (now (f .entry)) m a j (line true q (now (list .entry)) marks)) ⌝ }
 {
-    let l = g.at;
-    let marks = g.marks;
-    let mut at = [0u16; 512];
-    let left = append(&mut at, Tally { ok: true, len: 0 }, f, 0, a);
-    let middle = append(&mut at, left, &l, 0, g.len);
-    let whole = append(&mut at, middle, f, j, m);
-    Line {
-        ok: whole.ok,
-        len: whole.len,
-        at,
-        marks,
-    }
+    let left = append(at, Tally { ok: true, len: 0 }, f, 0, a);
+    let middle = append(at, left, list, 0, q);
+    append(at, middle, f, j, m)
 }

@@ -3,7 +3,7 @@ use Prim.Native.Nat.{ℕ, zero, suc, _+_, _-_, _≤_, _<_}
 use mathlib.Core.Path.{_≡_, refl, sym, ap, _∙_, subst}
 use mathlib.Core.Logic.{_⊎_, inl, inr}
 use mathlib.Core.List.{List, [], _∷_, _++_}
-use mathlib.Core.Bool.{Bool, true, false, cond, not}
+use mathlib.Core.Bool.{Bool, true, false, cond, not, false≢true}
 use native.Mathlib.Omega.{arith}
 use lib.ListN.{length, take, drop, length-append, drop-of-length-le, length-take}
 use lib.Seq.{slice, take-nil}
@@ -13,20 +13,22 @@ use Rattle.lists.specs.Spans.{stretch, span, padded}
 use Rattle.model.specs.Outcome.{Outcome, accepted, refused, _>>=_}
 use Rattle.model.specs.Plan.{Plan, count, ring, north, east, south, west, entryCount}
 use Rattle.model.specs.Labels.{up, right}
-use Rattle.model.specs.Sweep.{State, labelEdges, product, top, bareLabels, firstState, listed, finished, finish, eligible, choose, choices, advance, sweepFrom}
+use Rattle.model.specs.Sweep.{State, labelEdges, product, top, bareLabels, firstState, listed, chordless, finished, finish, eligible, choose, choices, advance, sweepFrom}
 use Rattle.model.proofs.Outcomes.{not-both, same-value}
 use Rattle.model.proofs.Choices.{chosen, Chosen}
 use Rattle.frontier.specs.declared.Line.{Line}
 use Rattle.choice.specs.declared.Found.{Found}
 use Rattle.choice.specs.declared.Found.the-variants.{At, Nothing}
-use Rattle.frontier.specs.Front.{Sane, Front}
-use Rattle.choice.specs.Search.{foundAs}
+use Rattle.lists.specs.Tests.{member}
+use Rattle.frontier.specs.Front.{Sane, Marks, Front}
+use Rattle.choice.specs.Search.{foundAs, Ready}
+use Rattle.places.specs.Places.{placesOf}
 use Rattle.frontier.proofs.Lines.{stretch-part, stretch-all}
-use Rattle.pairs.proofs.Pairs.{gathered, next-front}
+use Rattle.pairs.proofs.Pairs.{gathered, unchorded, replaced-marks, next-front}
 use Rattle.frontier.proofs.Finishing.{open-is}
 use Rattle.sweep.specs.declared.Ended.{Ended}
-use Rattle.sweep.specs.Run.{fan, stepLabels, finishLabels, firstLabels, stuck, swept, endedAs}
-use Rattle.frontier.specs.Run.{firstLine, unfinished}
+use Rattle.sweep.specs.Run.{fan, stepLabels, Stepped, finishLabels, firstLabels, stuck, swept, endedAs}
+use Rattle.frontier.specs.Run.{line, firstLine, unfinished}
 use Rattle.pairs.specs.Run.{listing, replaced}
 use Rattle.model.proofs.LabelCounts.{edges-long, bare-long, first-long, from-long}
 use Rattle.sweep.proofs.Draws.{edges-padded, product-one}
@@ -59,9 +61,10 @@ span-inner f = go (length f) refl
     go (suc (suc m)) e = span-slice f 1 (suc (suc m) - 1) (omega arith) (omega arith)
 
 -- ---- what the sweep has come to, with k steps to go
-pub record Running (p : Plan) (k : ℕ) (v : Line) (ls : List ℕ) : Type 0 where
+pub record Running (p : Plan) (k : ℕ) (clean : Bool) (v : Line) (ls : List ℕ) : Type 0 where
   pub state : State
   pub front : Front state v
+  pub chords : clean ≡ true → chordless p (state .frontier) ≡ true
   pub labels : ls ≡ padded 1186 (state .labels)
   pub size : length (state .labels) ≡ entryCount p
   pub same : swept p ≡ sweepFrom p k state
@@ -77,14 +80,35 @@ slice-middle a b l =
     front [] = refl
     front (x ∷ l) = ap {B = List ℕ} (λ m. x ∷ m) (front l)
 
+-- the line of a frontier, made anew of its parts
+front-plain : {s : State} {v : Line} {q : ℕ} {at marks : List ℕ} → Front s v → q ≡ v .len → at ≡ v .at → marks ≡ v .marks → Front s (line true q at marks)
+front-plain {s} fr e f g =
+    record {
+      rep = record { ok = refl; len = e ∙ fr .rep .len; at = f ∙ fr .rep .at; short = fr .rep .short };
+      marks = subst (λ (m : List ℕ). Marks m (λ (c : ℕ). member c (s .seen))) (sym g) (fr .marks);
+      small = fr .small;
+      news = fr .news;
+      olds = fr .olds;
+      parts = fr .parts;
+      once = fr .once;
+      few = fr .few;
+      room = fr .room;
+    }
+
+-- what a step makes, of a list and a line
+pub stepped : {p : Plan} {f : List ℕ} {m i j : ℕ} {marks ls ls′ : List ℕ} {g w : Line} → g ≡ listing p f marks (i + 1) j → ls′ ≡ stepLabels p f (g .at) (g .len) i j ls → w ≡ replaced f m (i + 1) j (line true (g .len) (g .at) (g .marks)) → Stepped p f m i j marks ls (g .marks) ls′ (w .at) (w .len)
+unfolding replaced
+stepped {g = g} {w = w} gathers labels moves = record { list = g; gathered = gathers; marked = refl; labelled = labels; line = w; moved = moves; at = refl; size = refl }
+
 -- before the first step
-pub running-start : {p : Plan} {n : ℕ} {v : Line} {ls : List ℕ} → Sane p → length (ring p 0) ≤ 255 → n ≡ count p → v ≡ firstLine p → ls ≡ firstLabels p (v .at) (v .len) → Running p n v ls
+pub running-start : {p : Plan} {n : ℕ} {v : Line} {ls : List ℕ} → Sane p → length (ring p 0) ≤ 255 → n ≡ count p → v ≡ firstLine p → ls ≡ firstLabels p (v .at) (v .len) → Running p n false (line true (v .len) (v .at) (v .marks)) ls
 unfolding swept firstState firstLabels
 running-start {p} {n} {v} {ls} sane long e q w =
     let f = firstFront p in
     record {
       state = firstState p;
-      front = subst (Front (firstState p)) (sym q) (first-front p sane long);
+      front = front-plain (subst (Front (firstState p)) (sym q) (first-front p sane long)) refl refl refl;
+      chords = λ c. absurd (false≢true c);
       labels =
           w
           ∙ ap (λ (u : Line). labelEdges p up (product (span (u .at) 1 (u .len - 1)) (0 ∷ [])) (padded 1186 (bareLabels p))) q
@@ -95,7 +119,7 @@ running-start {p} {n} {v} {ls} sane long e q w =
       same = ap (λ (k : ℕ). sweepFrom p k (firstState p)) (sym e);
     }
 
-module _ {p : Plan} {k : ℕ} {v : Line} {ls : List ℕ} (inv : Running p k v ls) (sane : Sane p) where
+module _ {p : Plan} {k : ℕ} {clean : Bool} {v : Line} {ls : List ℕ} (inv : Running p k clean v ls) (sane : Sane p) where
   -- the state
   abbrev s : State
   s = inv .state
@@ -103,6 +127,10 @@ module _ {p : Plan} {k : ℕ} {v : Line} {ls : List ℕ} (inv : Running p k v ls
   -- its frontier
   abbrev f : List ℕ
   f = s .frontier
+
+  -- what the next step begins with
+  pub running-ready : {t : List ℕ} → t ≡ placesOf p → Ready t p clean s v
+  running-ready own = record { own = own; sane = sane; front = inv .front; chords = inv .chords }
 
   -- the finishing test
   is-finished : {t : Bool} → unfinished p (v .at) (v .len) ≡ t → not (finished p f) ≡ t
@@ -161,10 +189,9 @@ module _ {p : Plan} {k : ℕ} {v : Line} {ls : List ℕ} (inv : Running p k v ls
         (omega arith, omega arith)
 
     -- a step
-    pub running-on : {k′ : ℕ} {g w : Line} {b : List ℕ} → k ≡ suc k′ → unfinished p (v .at) (v .len) ≡ true
-        → g ≡ listing p (v .at) (v .marks) (suc i) j → b ≡ stepLabels p (v .at) g i j ls → w ≡ replaced (v .at) (v .len) (suc i) j g → Running p k′ w b
+    pub running-on : {k′ q : ℕ} {marks b next : List ℕ} → k ≡ suc k′ → unfinished p (v .at) (v .len) ≡ true → Stepped p (v .at) (v .len) i j (v .marks) ls marks b next q → Running p k′ true (line true q next marks) b
     unfolding stepLabels advance foundAs
-    running-on {k′} {g} {w} {b} z u gathers labelled moved =
+    running-on {k′} {q} {marks} {b} {next} z u did =
         let two = taken .positions .apart in
         let last = taken .positions .inside in
         let good = gathered p sane s v (inv .front) i j two last (taken .fits) in
@@ -174,15 +201,18 @@ module _ {p : Plan} {k : ℕ} {v : Line} {ls : List ℕ} (inv : Running p k v ls
         let list = listing p (v .at) (v .marks) (suc i) j in
         let size : length l - 0 ≡ length l = omega arith in
         let one : i + 1 ≡ suc i = omega arith in
-        let next : j + 1 ≡ suc j = omega arith in
+        let after : j + 1 ≡ suc j = omega arith in
+        let gathers = did .gathered ∙ ap (λ (n : ℕ). listing p (v .at) (v .marks) n j) one in
+        let moved = did .moved ∙ (λ d. replaced (v .at) (v .len) (one d) j (gathers d)) in
         let ups = product l (slice (suc i) j f) in
         record {
           state = advance p s i j;
-          front = subst (Front (advance p s i j)) (sym (moved ∙ ap (replaced (v .at) (v .len) (suc i) j) gathers)) (next-front p sane s v (inv .front) i j two last (taken .fits));
+          front = front-plain (next-front p sane s v (inv .front) i j two last (taken .fits)) (did .size ∙ ap (λ (w : Line). w .len) moved) (did .at ∙ ap (λ (w : Line). w .at) moved) (did .marked ∙ ap (λ (w : Line). w .marks) gathers ∙ sym (replaced-marks (v .at) (v .len) (suc i) j list));
+          chords = λ _. unchorded p sane s v (inv .front) i j two last (taken .fits);
           labels =
-              labelled
+              did .labelled
               ∙ ap (λ (m : Line). labelEdges p right (steps (span (v .at) i (j + 1))) (labelEdges p up (product (span (m .at) 0 (m .len)) (span (v .at) (i + 1) j)) ls)) gathers
-              ∙ (λ d. labelEdges p right (steps (span (rep .at d) i (next d))) (labelEdges p up (product (span (good .rep .at d) 0 (good .rep .len d)) (span (rep .at d) (one d) j)) (inv .labels d)))
+              ∙ (λ d. labelEdges p right (steps (span (rep .at d) i (after d))) (labelEdges p up (product (span (good .rep .at d) 0 (good .rep .len d)) (span (rep .at d) (one d) j)) (inv .labels d)))
               ∙ (λ d. labelEdges p right (steps (span-slice f i (suc j) (omega arith) (omega arith) d)) (labelEdges p up (product ((ap (stretch (padded 512 l) 0) size ∙ stretch-all l) d) (span-slice f (suc i) j (omega arith) (omega arith) d)) (padded 1186 (s .labels))))
               ∙ ap (labelEdges p right (steps (slice i (suc j) f))) (edges-padded p up ups (s .labels) (inv .size))
               ∙ edges-padded p right (steps (slice i (suc j) f)) (labelEdges p up ups (s .labels)) (edges-long p up ups (s .labels) ∙ inv .size);

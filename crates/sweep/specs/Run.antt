@@ -11,6 +11,7 @@ use Rattle.model.specs.Plan.{Plan, Dart, count, ring, border}
 use Rattle.model.specs.Labels.{up, right, borderLabel, unlabelled, turned, put}
 use Rattle.model.specs.Sweep.{labelEdges, product, bareLabels, firstState, sweepFrom}
 use Rattle.frontier.specs.declared.Line.{Line}
+use Rattle.pairs.specs.Run.{listing, replaced}
 use Rattle.sweep.specs.declared.SweepAnswer.{SweepAnswer}
 use Rattle.sweep.specs.declared.Swept.{Swept}
 use Rattle.sweep.specs.declared.Ended.{Ended}
@@ -32,9 +33,9 @@ dart u v = (u, v)
 unfoldable pub fan : ℕ → List ℕ → List Dart
 fan u vs = map (λ (v : ℕ). (u, v)) vs
 
--- the labels of a step that puts the list g in place of positions i + 1 to j − 1
-unfoldable pub stepLabels : Plan → List ℕ → Line → ℕ → ℕ → List ℕ → List ℕ
-stepLabels p f g i j ls = labelEdges p right (steps (span f i (j + 1))) (labelEdges p up (product (span (g .at) 0 (g .len)) (span f (i + 1) j)) ls)
+-- the labels of a step that puts the list l of q in place of positions i + 1 to j − 1
+unfoldable pub stepLabels : Plan → List ℕ → List ℕ → ℕ → ℕ → ℕ → List ℕ → List ℕ
+stepLabels p f l q i j ls = labelEdges p right (steps (span f i (j + 1))) (labelEdges p up (product (span l 0 q) (span f (i + 1) j)) ls)
 
 -- the labels of a finished sweep
 unfoldable pub finishLabels : Plan → List ℕ → ℕ → List ℕ → List ℕ
@@ -43,6 +44,17 @@ finishLabels p f m ls = labelEdges p right (steps (span f 0 m)) (labelEdges p up
 -- the labels that the sweep begins with
 unfoldable pub firstLabels : Plan → List ℕ → ℕ → List ℕ
 firstLabels p f m = labelEdges p up (product (span f 1 (m - 1)) (0 ∷ [])) (padded 1186 (bareLabels p))
+
+-- what a step of positions i and j makes of marks and labels, and the new frontier
+pub record Stepped (p : Plan) (f : List ℕ) (m i j : ℕ) (marks ls marks′ ls′ next : List ℕ) (len : ℕ) : Type 0 where
+  pub list : Line
+  pub gathered : list ≡ listing p f marks (i + 1) j
+  pub marked : marks′ ≡ list .marks
+  pub labelled : ls′ ≡ stepLabels p f (list .at) (list .len) i j ls
+  pub line : Line
+  pub moved : line ≡ replaced f m (i + 1) j list
+  pub at : next ≡ line .at
+  pub size : len ≡ line .len
 
 -- ---- the labels before the sweep
 -- the label of the dart from u to v before the sweep

@@ -5,7 +5,7 @@ ghost use mathlib.Core.Bool.{true};
 ghost use Prim.Native.Nat.{ℕ, suc, _+_, _≤_, _<_};
 ghost use lib.ListN.{};
 ghost use Rattle.lists.specs.Parts.{steps};
-ghost use Rattle.lists.specs.Spans.{span};
+ghost use Rattle.lists.specs.Spans.{span, zeros};
 ghost use Rattle.model.specs.Labels.{up, right};
 ghost use Rattle.model.specs.Sweep.{labelEdges, product};
 ghost use Rattle.rings.specs.Tables.{startsOf, rows};
@@ -16,9 +16,8 @@ ghost use Rattle.places.specs.Places.{placesOf};
 ghost use Rattle.sweep.specs.Run as run;
 use crate::Ended;
 use choice::Found;
-use frontier::Line;
 
-// Puts the labels of a step that puts the list g in place of positions i + 1 to j - 1 of the frontier f.
+// Puts the labels of a step that puts a list of q in place of positions i + 1 to j - 1 of the frontier f.
 fn step_labels<'a>(
     labels: &mut [u8],
     places: &'a [u8],
@@ -27,7 +26,8 @@ fn step_labels<'a>(
     entries: &'a [u16],
     n: usize,
     f: &'a [u16],
-    g: Line,
+    list: &'a [u16],
+    q: usize,
     i: usize,
     j: usize,
 )
@@ -36,9 +36,8 @@ fn step_labels<'a>(
     requires { ⌜ now places ≡ placesOf (rows (now starts) (now sizes) (now entries) n) ⌝ }
     requires { ⌜ i < 512 ⌝ }
     requires { ⌜ j < 512 ⌝ }
-    ensures { λ r. ⌜ now (labels .exit) ≡ run.stepLabels (rows (now (starts .entry)) (now (sizes .entry)) (now (entries .entry)) n) (now (f .entry)) g i j (now (labels .entry)) ⌝ }
+    ensures { λ r. ⌜ now (labels .exit) ≡ run.stepLabels (rows (now (starts .entry)) (now (sizes .entry)) (now (entries .entry)) n) (now (f .entry)) (now (list .entry)) q i j (now (labels .entry)) ⌝ }
 {
-    let l = g.at;
     crate::mark::from_all(
         labels,
         places,
@@ -46,13 +45,66 @@ fn step_labels<'a>(
         sizes,
         entries,
         n,
-        &l,
-        g.len,
+        list,
+        q,
         f,
         i + 1,
         j,
     );
     crate::mark::along(labels, places, starts, sizes, entries, n, f, i, j + 1);
+}
+
+// Takes the step of positions i and j of the frontier f of m contexts: puts its labels, marks its list, and puts the new frontier into an array of zeros. How many contexts that has.
+fn take_step<'a>(
+    labels: &mut [u8],
+    marks: &mut [u8],
+    next: &mut [u16],
+    places: &'a [u8],
+    starts: &'a [u16],
+    sizes: &'a [u8],
+    entries: &'a [u16],
+    n: usize,
+    f: &'a [u16],
+    m: usize,
+    i: usize,
+    j: usize,
+) -> usize
+    requires { ⌜ now starts ≡ startsOf (now sizes) ⌝ }
+    requires { ⌜ n ≤ 200 ⌝ }
+    requires { ⌜ now places ≡ placesOf (rows (now starts) (now sizes) (now entries) n) ⌝ }
+    requires { ⌜ i < 512 ⌝ }
+    requires { ⌜ j < 512 ⌝ }
+    requires { ⌜ now next ≡ zeros 512 ⌝ }
+    ensures { λ r. ⌜ run.Stepped (rows (now (starts .entry)) (now (sizes .entry)) (now (entries .entry)) n) (now (f .entry)) m i j (now (marks .entry)) (now (labels .entry)) (now (marks .exit)) (now (labels .exit)) (now (next .exit)) r ⌝ }
+{
+    let mut list = [0u16; 512];
+    let g = pairs::list::listed(
+        &mut list,
+        marks,
+        places,
+        starts,
+        sizes,
+        entries,
+        n,
+        f,
+        i + 1,
+        j,
+    );
+    step_labels(
+        labels,
+        places,
+        starts,
+        sizes,
+        entries,
+        n,
+        f,
+        &list,
+        g.len,
+        i,
+        j,
+    );
+    let v = pairs::list::replaced(next, f, m, i + 1, j, &list, g.len);
+    v.len
 }
 
 // Puts the labels of a sweep finished with the frontier f of m contexts: up from South, right along the frontier.
@@ -120,27 +172,43 @@ pub(crate) fn run<'a>(
     requires { ⌜ now places ≡ placesOf (rows (now starts) (now sizes) (now entries) n) ⌝ }
     ensures { λ r. ⌜ r ≡ run.endedAs (run.swept (rows (now (starts .entry)) (now (sizes .entry)) (now (entries .entry)) n)) ⌝ }
 {
-    let mut v = frontier::first::first_line(starts, sizes, entries, n);
-    let first = v.at;
-    let mut labels = first_labels(places, starts, sizes, entries, n, &first, v.len);
+    let first = frontier::first::first_line(starts, sizes, entries, n);
+    let mut at = first.at;
+    let mut marks = first.marks;
+    let mut m = first.len;
+    let mut clean = false;
+    let mut labels = first_labels(places, starts, sizes, entries, n, &at, m);
     let mut k = n;
     while k > 0 {
-        let f = v.at;
-        if !frontier::below::is_unfinished(starts, sizes, entries, n, &f, v.len) {
-            finish_labels(&mut labels, places, starts, sizes, entries, n, &f, v.len);
+        if !frontier::below::is_unfinished(places, starts, sizes, entries, n, &at, m) {
+            finish_labels(&mut labels, places, starts, sizes, entries, n, &at, m);
             return Ended {
                 finished: true,
                 labels,
             };
         }
-        let found = choice::choose(starts, sizes, entries, n, v);
+        let found = choice::choose(places, starts, sizes, entries, n, &at, m, marks, clean);
         let Found::At(i, j) = found else {
             return stuck();
         };
-        let marks = v.marks;
-        let g = pairs::list::listed(starts, sizes, entries, n, &f, marks, i + 1, j);
-        step_labels(&mut labels, places, starts, sizes, entries, n, &f, g, i, j);
-        v = pairs::list::replaced(&f, v.len, i + 1, j, g);
+        let mut next = [0u16; 512];
+        let q = take_step(
+            &mut labels,
+            &mut marks,
+            &mut next,
+            places,
+            starts,
+            sizes,
+            entries,
+            n,
+            &at,
+            m,
+            i,
+            j,
+        );
+        at = next;
+        m = q;
+        clean = true;
         k -= 1;
     }
     stuck()

@@ -1,41 +1,43 @@
 -- chords::chorded meets its contract.
-use mathlib.Core.Path.{_≡_, sym, _∙_}
-use Prim.Native.Nat.{_-_}
+use mathlib.Core.Path.{_≡_, sym, ap, _∙_}
+use Prim.Native.Nat.{ℕ, _+_, _-_}
+use lib.ListN.{getD}
+use Rattle.rings.specs.Tables.{rows}
+use Rattle.places.specs.Places.{placesOf}
+use Rattle.lists.proofs.Folds.{Seeks, seeks-start, seeks-hit, seeks-on, seeks-end}
+use Rattle.pairs.specs.Run as run
 use native.Mathlib.Omega.{arith}
 use borrow.Author.Needs.{needs}
-use Rattle.rings.specs.Tables.{rows}
-use Rattle.lists.proofs.Folds.{Seeks, seeks-start, seeks-hit, seeks-on, seeks-end}
 use Rattle.pairs.proofs.chords.chorded.Statement.{statement}
 use Rattle.pairs.proofs.chords.chorded.Tie as tie
-use Rattle.pairs.specs.Run as run
 
 abbrev Inv-loop : tie.InvT-loop
-Inv-loop starts sizes entries n f m place e k₀ k = (e ≡ m - 2) × Seeks (run.chordAt (rows starts sizes entries n) (run.placed f m) f) 0 (m - 2) k
+Inv-loop places starts sizes entries n g m e k₀ k = (e ≡ m - 2) × (places ≡ placesOf (rows starts sizes entries n) → Seeks (λ (i : ℕ). run.touches (rows starts sizes entries n) (getD g i 0) g (i + 2) m) 0 (m - 2) k)
 
 abbrev μ-loop : tie.MeasureT-loop
-μ-loop starts sizes entries n f m place e k₀ k = e - k
-
-placed-requires : tie.Need-placed-requires Inv-loop μ-loop
-placed-requires c κs = search needs
+μ-loop places starts sizes entries n g m e k₀ k = e - k
 
 minus-requires : tie.Need-minus-requires Inv-loop μ-loop
 minus-requires c κs = search needs
 
 loop-holds : tie.Need-loop-holds Inv-loop μ-loop
-loop-holds c = (c .minus .ensures, seeks-start)
+loop-holds c = (c .minus .ensures, λ own. seeks-start)
 
-slice-aggregate-chord-at : tie.Need-slice-aggregate-chord-at Inv-loop μ-loop
-slice-aggregate-chord-at c = search needs
+num-requires : tie.Need-num-requires Inv-loop μ-loop
+num-requires c κs = search needs
 
-chord-at-requires : tie.Need-chord-at-requires Inv-loop μ-loop
-chord-at-requires c κs = search needs
+add-touches : tie.Need-add-touches Inv-loop μ-loop
+add-touches c = search needs
+
+touches-requires : tie.Need-touches-requires Inv-loop μ-loop
+touches-requires c κs = search needs
 
 returns : tie.Need-returns Inv-loop μ-loop
 unfolding run.chorded
 returns c =
     let a = c .before .before .before .before .before .before .before .before .before .before .before .args in
     let end = c .before .before .before .before .loop .inv .0 in
-    seeks-hit (c .before .before .before .before .loop .inv .1) (omega arith) ((λ i. run.chordAt (rows (a .starts .now) (a .sizes .now) (a .entries .now) (a .n)) (sym (c .before .before .before .before .before .before .placed .ensures) i) (a .f .now) (c .before .before .before .before .loop .k)) ∙ sym (c .before .chord-at .ensures) ∙ c .if1 .taken)
+    λ own. seeks-hit (c .before .before .before .before .loop .inv .1 own) (omega arith) (ap (λ (u : ℕ). run.touches (rows (a .starts .now) (a .sizes .now) (a .entries .now) (a .n)) u (a .g .now) (c .before .before .before .before .loop .k + 2) (a .m)) (sym (c .before .before .num .ensures .0)) ∙ sym (c .before .touches .ensures own) ∙ c .if1 .taken)
 
 add-k : tie.Need-add-k Inv-loop μ-loop
 add-k c = search needs
@@ -47,11 +49,13 @@ loop-again : tie.Need-loop-again Inv-loop μ-loop
 loop-again c =
     let a = c .before .before .before .before .before .before .before .before .before .before .before .args in
     let end = c .before .before .before .before .loop .inv .0 in
-    (end, seeks-on (c .before .before .before .before .loop .inv .1) (omega arith) ((λ i. run.chordAt (rows (a .starts .now) (a .sizes .now) (a .entries .now) (a .n)) (sym (c .before .before .before .before .before .before .placed .ensures) i) (a .f .now) (c .before .before .before .before .loop .k)) ∙ sym (c .before .chord-at .ensures) ∙ c .if1 .left))
+    (end, λ own. seeks-on (c .before .before .before .before .loop .inv .1 own) (omega arith) (ap (λ (u : ℕ). run.touches (rows (a .starts .now) (a .sizes .now) (a .entries .now) (a .n)) u (a .g .now) (c .before .before .before .before .loop .k + 2) (a .m)) (sym (c .before .before .num .ensures .0)) ∙ sym (c .before .touches .ensures own) ∙ c .if1 .left))
 
 returns-2 : tie.Need-returns-2 Inv-loop μ-loop
 unfolding run.chorded
-returns-2 c = let end = c .before .loop .inv .0 in seeks-end (c .before .loop .inv .1) (omega arith)
+returns-2 c =
+    let end = c .before .loop .inv .0 in
+    λ own. seeks-end (c .before .loop .inv .1 own) (omega arith)
 
 pub chorded-spec : {M : Type 1} → statement M
-chorded-spec = tie.close (tie.spec Inv-loop μ-loop placed-requires minus-requires loop-holds slice-aggregate-chord-at chord-at-requires returns add-k loop-less loop-again returns-2)
+chorded-spec = tie.close (tie.spec Inv-loop μ-loop minus-requires loop-holds num-requires add-touches touches-requires returns add-k loop-less loop-again returns-2)
