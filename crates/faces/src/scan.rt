@@ -3,7 +3,6 @@ use crate::Scanned;
 ghost use mathlib.Core.Path.{_≡_};
 ghost use Prim.Native.Nat.{ℕ, _≤_, _<_};
 ghost use lib.Dec.{ltb};
-ghost use Rattle.model.specs.Plan.{adjacent};
 ghost use Rattle.model.specs.Scan.{scan, enclosing, innerFace};
 ghost use Rattle.rings.specs.Tables.{rows};
 ghost use Rattle.followers.specs.Followers.{followersOf};

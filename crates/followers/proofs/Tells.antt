@@ -1,11 +1,11 @@
 -- What the table of followers tells: for each ring and entry below 200 the mark of the entry after it, and 0 where the entry is not there.
-use Prim.Native.Nat.{ℕ, zero, suc, _+_, _-_, _*_, _≤_, _<_, min}
+use Prim.Native.Nat.{ℕ, zero, suc, _+_, _-_, _≤_, _<_, min}
 use mathlib.Core.Path.{_≡_, refl, sym, ap, _∙_}
 use mathlib.Core.List.{List, [], _∷_}
 use mathlib.Core.Bool.{Bool, true, false, cond, not, _&&_, _||_, false≢true, true≢false}
 use native.Mathlib.Numerals.{add-one}
 use native.Mathlib.Omega.{arith}
-use lib.ListN.{length, getD, set, replicate, length-replicate}
+use lib.ListN.{length, getD, set, replicate}
 use lib.Seq.{getD-set-same, getD-set-other}
 use lib.Arith.{lt-of-le-ne}
 use lib.Dec.{eqb, ltb}
@@ -15,7 +15,7 @@ use Rattle.lists.specs.Parts.{indexOf}
 use Rattle.lists.specs.Spans.{zeros}
 use Rattle.lists.specs.Folds.{each}
 use Rattle.lists.proofs.Bools.{and-yes, no-or}
-use Rattle.lists.proofs.Spans.{length-zeros, past}
+use Rattle.lists.proofs.Spans.{length-zeros}
 use Rattle.lists.proofs.Tests.{member-mem}
 use Rattle.lists.proofs.Places.{getD-any, index-below, index-is}
 use Rattle.model.specs.Plan.{Plan, count, ring, adjacent, next, step, closes}

@@ -1,8 +1,8 @@
 -- A file whose plan has as many entries as 7 asks for and is sound keeps 4 to 9.
-use Prim.Native.Nat.{ℕ, _+_, _-_, _*_, _≤_, _<_, min}
+use Prim.Native.Nat.{ℕ, _-_, _*_, _≤_, _<_, min}
 use mathlib.Core.Path.{_≡_, refl, sym, ap, _∙_, subst}
 use mathlib.Core.List.{List, [], map}
-use mathlib.Core.Bool.{Bool, true, false, _&&_}
+use mathlib.Core.Bool.{true, false}
 use native.Mathlib.Omega.{arith}
 use lib.ListN.{length}
 use lib.Dec.{eqb, leb}
@@ -10,12 +10,11 @@ use borrow.Author.Tests.{leb-true, eqb-true, le-leb, lt-leb}
 use Rattle.lists.specs.Parts.{concat}
 use Rattle.lists.specs.Spans.{stretch, padded}
 use Rattle.lists.proofs.Bools.{and-yes}
-use Rattle.model.specs.Outcome.{Outcome, accepted, refused, passed, _>>=_, _>>_}
-use Rattle.model.specs.Plan.{Plan, count, entryCount, dartCount}
+use Rattle.model.specs.Outcome.{passed, _>>=_, _>>_}
+use Rattle.model.specs.Plan.{Plan, count, dartCount}
 use Rattle.model.specs.Chart.{Chart}
 use Rattle.model.specs.File as file
 use Rattle.rings.specs.Tables.{startOf, startsOf, table}
-use Rattle.rings.specs.Lent.{lent}
 use Rattle.rings.proofs.Rows.{count-rows}
 use Rattle.lent.proofs.Rings.{count-lent}
 use Rattle.lent.proofs.Copied.{copied-padded, entry-count-lent}

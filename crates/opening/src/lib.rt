@@ -1,4 +1,4 @@
-// Open: a file is judged part by part, and what it holds replaces the sheet.
+// Open: a file whose plan is sound is judged at once, any other part by part; what it holds replaces the sheet.
 use sheet::Outcome;
 use sheet::Sheet;
 use sheet::Stage;

@@ -1,18 +1,17 @@
 -- The quick test as the code makes it, test by test.
 use Prim.Native.Nat.{ℕ, _+_, _-_, _≤_, _<_}
-use mathlib.Core.Path.{_≡_, refl, sym, ap, _∙_}
+use mathlib.Core.Path.{_≡_, sym, ap, _∙_}
 use mathlib.Core.List.{List, map}
-use mathlib.Core.Bool.{Bool, true, false, not, _&&_, _||_}
+use mathlib.Core.Bool.{Bool, true, false, not}
 use native.Mathlib.Omega.{arith}
 use lib.ListN.{getD}
-use lib.Dec.{eqb, leb}
 use borrow.Author.Tests.{eq-eqb, ne-eqb, le-leb, lt-leb, not-true, not-false}
 use Rattle.lists.specs.Tests.{any}
 use Rattle.lists.specs.Ranges.{lowest}
 use Rattle.lists.specs.Folds.{some}
 use Rattle.lists.specs.Spans.{stretch, span}
 use Rattle.lists.proofs.Tests.{any-map}
-use Rattle.model.specs.Plan.{Plan, count, neighbour, ring, outer, badBorder}
+use Rattle.model.specs.Plan.{Plan, count, neighbour, outer, badBorder}
 use Rattle.rings.specs.Tables.{sizeOf, rows}
 use Rattle.rings.proofs.Rows.{ring-rows}
 use Rattle.followers.specs.Followers.{followersOf, apart, told, closesBy}

@@ -1,5 +1,5 @@
 -- A plan that passes the quick test keeps the rules 4, 5, 6, 8 and 9.
-use Prim.Native.Nat.{ℕ, _+_, _-_, _≤_, _<_}
+use Prim.Native.Nat.{ℕ, _-_, _≤_, _<_}
 use mathlib.Core.Path.{_≡_, refl, sym, ap, _∙_}
 use mathlib.Core.List.{List, List·Memᴰ}
 use mathlib.Core.Bool.{Bool, true, false, not, _&&_, _||_, or-true}

@@ -1,6 +1,5 @@
 -- third_of meets its contract.
 use Rattle.model.specs.Plan.{step}
-use native.Mathlib.Omega.{arith}
 use borrow.Author.Needs.{needs}
 use Rattle.faces.proofs.third_of.Statement.{statement}
 use Rattle.faces.proofs.third_of.Tie as tie

@@ -1,5 +1,5 @@
 -- closes_by meets its contract.
-use mathlib.Core.Path.{sym, _∙_}
+use mathlib.Core.Path.{_∙_}
 use Rattle.followers.proofs.Notes.{told-there, closes-none, closes-wide, closes-astray, closes-last}
 use native.Mathlib.Omega.{arith}
 use borrow.Author.Needs.{needs}

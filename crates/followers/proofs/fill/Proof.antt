@@ -1,11 +1,10 @@
 -- fill meets its contract.
-use mathlib.Core.Path.{_≡_, refl, sym, ap, _∙_}
+use mathlib.Core.Path.{_≡_, refl, _∙_}
 use mathlib.Core.Bool.{true}
 use Prim.Native.Nat.{_-_}
 use lib.ListN.{length}
 use Rattle.lists.proofs.Folds.{Goes, goes-start, goes-on, goes-end}
 use Rattle.rings.specs.Tables.{rows}
-use Rattle.followers.specs.Followers.{Noted}
 use Rattle.followers.proofs.Notes.{paired, row, row-noted, rows-noted}
 use native.Mathlib.Omega.{arith}
 use borrow.Author.Needs.{needs}

@@ -1,7 +1,4 @@
 -- note meets its contract.
-use mathlib.Core.Path.{sym, ap, _∙_}
-use lib.ListN.{length, length-set}
-use Rattle.followers.specs.Followers.{cell}
 use Rattle.followers.proofs.Notes.{note-high, note-wide, note-bare, note-full}
 use native.Mathlib.Omega.{arith}
 use borrow.Author.Needs.{needs}

@@ -1,9 +1,8 @@
 -- note_ring meets its contract.
-use mathlib.Core.Path.{refl, sym, ap, _∙_}
+use mathlib.Core.Path.{ap, _∙_}
 use Prim.Native.Nat.{_-_, _≤_}
 use lib.ListN.{getD}
 use Rattle.model.specs.Plan.{neighbour}
-use Rattle.followers.specs.Followers.{Noted}
 use Rattle.followers.proofs.Notes.{paired, Back, back-start, back-on, back-end, back-long}
 use native.Mathlib.Omega.{arith}
 use borrow.Author.Needs.{needs}

@@ -1,6 +1,5 @@
 -- is_due meets its contract.
 use Rattle.opening.proofs.Quick.{due-few, due-total}
-use native.Mathlib.Omega.{arith}
 use borrow.Author.Needs.{needs}
 use Rattle.opening.proofs.is_due.Statement.{statement}
 use Rattle.opening.proofs.is_due.Tie as tie

@@ -1,6 +1,5 @@
 -- is_sound meets its contract.
 use Rattle.sheet.specs.Sheets.{heldPlan}
-use native.Mathlib.Omega.{arith}
 use borrow.Author.Needs.{needs}
 use Rattle.opening.proofs.is_sound.Statement.{statement}
 use Rattle.opening.proofs.is_sound.Tie as tie

@@ -9,7 +9,6 @@ use Rattle.sheet.specs.Sheets.{heldPlan, packed}
 use Rattle.opening.specs.Opening.{replaced}
 use Rattle.opening.proofs.Opened.{open-late, copy-roomy}
 use Rattle.opening.proofs.Quick.{due-room, quick-held, quick-found}
-use native.Mathlib.Omega.{arith}
 use borrow.Author.Needs.{needs}
 use Rattle.opening.proofs.open_at_once.Statement.{statement}
 use Rattle.opening.proofs.open_at_once.Tie as tie

@@ -7,7 +7,6 @@ use Rattle.sheet.specs.Sheets.{packed}
 use Rattle.sheet.specs.Answers.{answerOf, after}
 use Rattle.opening.specs.Opening.{judgedAs, replaced}
 use Rattle.opening.proofs.Opened.{open-early, open-late, copy-roomy, room-in}
-use native.Mathlib.Omega.{arith}
 use borrow.Author.Needs.{needs}
 use Rattle.opening.proofs.open_by_rules.Statement.{statement}
 use Rattle.opening.proofs.open_by_rules.Tie as tie

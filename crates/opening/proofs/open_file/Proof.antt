@@ -1,7 +1,6 @@
 -- open_file meets its contract.
 use mathlib.Core.Path.{sym, _∙_}
 use Rattle.opening.specs.Opening.{LaidOut}
-use native.Mathlib.Omega.{arith}
 use borrow.Author.Needs.{needs}
 use Rattle.opening.proofs.open_file.Statement.{statement}
 use Rattle.opening.proofs.open_file.Tie as tie

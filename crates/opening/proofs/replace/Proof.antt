@@ -2,7 +2,6 @@
 use mathlib.Core.Path.{sym, ap, _∙_}
 use Rattle.model.specs.Outcome.{Outcome}
 use Rattle.opening.specs.Opening.{judgedAs, replaced}
-use native.Mathlib.Omega.{arith}
 use borrow.Author.Needs.{needs}
 use Rattle.opening.proofs.replace.Statement.{statement}
 use Rattle.opening.proofs.replace.Tie as tie

@@ -1,6 +1,5 @@
 -- is_doubtful meets its contract.
 use Rattle.sound.proofs.Doubts.{doubt-self, doubt-closes, doubt-alone, doubt-outer}
-use native.Mathlib.Omega.{arith}
 use borrow.Author.Needs.{needs}
 use Rattle.sound.proofs.is_doubtful.Statement.{statement}
 use Rattle.sound.proofs.is_doubtful.Tie as tie

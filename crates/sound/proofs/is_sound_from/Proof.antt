@@ -4,7 +4,6 @@ use Rattle.rings.specs.Tables.{rows}
 use Rattle.rings.proofs.Rows.{count-rows}
 use Rattle.followers.proofs.Notes.{followers-made, apart-made}
 use Rattle.sound.proofs.Doubts.{sound-many, sound-side, sound-shared, sound-told}
-use native.Mathlib.Omega.{arith}
 use borrow.Author.Needs.{needs}
 use Rattle.sound.proofs.is_sound_from.Statement.{statement}
 use Rattle.sound.proofs.is_sound_from.Tie as tie

@@ -1,6 +1,5 @@
 -- scan::is_apart meets its contract.
 use Rattle.faces.proofs.Scans.{apart-high, apart-wide, apart-cell}
-use native.Mathlib.Omega.{arith}
 use borrow.Author.Needs.{needs}
 use Rattle.faces.proofs.scan.is_apart.Statement.{statement}
 use Rattle.faces.proofs.scan.is_apart.Tie as tie

@@ -2,7 +2,6 @@
 use mathlib.Core.Path.{ap, _∙_}
 use Prim.Native.Nat.{ℕ, _-_}
 use Rattle.faces.proofs.Scans.{face-other, face-outer, face-closes}
-use native.Mathlib.Omega.{arith}
 use borrow.Author.Needs.{needs}
 use Rattle.faces.proofs.scan.is_face_by.Statement.{statement}
 use Rattle.faces.proofs.scan.is_face_by.Tie as tie

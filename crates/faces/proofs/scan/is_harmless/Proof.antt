@@ -1,6 +1,5 @@
 -- scan::is_harmless meets its contract.
 use Rattle.faces.proofs.Scans.{harmless-apart, harmless-face, harmless-back}
-use native.Mathlib.Omega.{arith}
 use borrow.Author.Needs.{needs}
 use Rattle.faces.proofs.scan.is_harmless.Statement.{statement}
 use Rattle.faces.proofs.scan.is_harmless.Tie as tie

@@ -1,6 +1,5 @@
 -- scan::nearer_third meets its contract.
-use mathlib.Core.Path.{sym, _∙_}
-use Prim.Native.Nat.{ℕ, _≤_, _<_}
+use Prim.Native.Nat.{ℕ}
 use native.Mathlib.Omega.{arith}
 use borrow.Author.Needs.{needs}
 use Rattle.rings.specs.Tables.{rows}

@@ -1,6 +1,6 @@
 -- scan::second_for meets its contract.
-use mathlib.Core.Path.{_≡_, sym, _∙_}
-use Prim.Native.Nat.{ℕ, _-_, _≤_}
+use mathlib.Core.Path.{sym, _∙_}
+use Prim.Native.Nat.{ℕ, _-_}
 use lib.Dec.{ltb}
 use Rattle.model.specs.Plan.{ring}
 use Rattle.rings.specs.Tables.{rows}

@@ -1,6 +1,6 @@
 -- scan::third_for meets its contract.
-use mathlib.Core.Path.{_≡_, sym, _∙_}
-use Prim.Native.Nat.{ℕ, _-_, _≤_}
+use mathlib.Core.Path.{sym, _∙_}
+use Prim.Native.Nat.{ℕ, _-_}
 use Rattle.model.specs.Plan.{ring}
 use Rattle.model.specs.Scan.{enclosing}
 use Rattle.model.proofs.Plans.{adjacent-mem}
