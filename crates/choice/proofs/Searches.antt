@@ -3,16 +3,16 @@ use Prim.Native.Nat.{ℕ, zero, suc, _+_, _-_, _≤_, _<_}
 use mathlib.Core.Path.{_≡_, refl, ap, sym, _∙_, subst}
 use mathlib.Core.Logic.{_⊎_, inl, inr, _≢_}
 use mathlib.Core.List.{List, [], _∷_, _++_, reverse, append-assoc, List·Memᴰ, List·Memᴰ·head, Memᴰ·append-right}
-use mathlib.Core.Bool.{Bool, true, false, cond, not, false≢true, true≢false}
+use mathlib.Core.Bool.{Bool, true, false, cond, not}
 use native.Mathlib.Omega.{arith}
-use lib.ListN.{length, getD, set, length-append}
+use lib.ListN.{length, getD, length-append}
 use lib.Seq.{getD-append-add, getD-append-seam}
 use lib.Dec.{eqb, ltb, leb}
 use borrow.Author.Tests.{eqb-true, eqb-false, ne-eqb, lt-ltb, ltb-true, ltb-false, leb-true, leb-false}
 use Rattle.lists.specs.Tests.{any, empty, member, repeats}
 use Rattle.lists.specs.Ranges.{from}
 use Rattle.lists.specs.Parts.{squeeze, squeezeAfter}
-use Rattle.lists.specs.Spans.{zeros, padded}
+use Rattle.lists.specs.Spans.{padded}
 use Rattle.lists.proofs.Bools.{both}
 use Rattle.lists.proofs.Tests.{mem-member}
 use Rattle.lists.proofs.Ranges.{mem-from, from-mem}
@@ -20,7 +20,7 @@ use Rattle.lists.proofs.Joins.{mem-join, join-mem}
 use Rattle.model.specs.Plan.{Plan, ring, adjacent, between, border}
 use Rattle.model.specs.Sweep.{State, below, listed, replaced, chordless, eligible, choose, choices}
 use Rattle.model.proofs.Plans.{mem-adjacent}
-use Rattle.model.proofs.Eligible.{getD-mem, mem-getD, squeeze-mem, chordless-apart, replaced-left, replaced-list, replaced-right, replaced-length, something-below, below-listed, eligible-clear, Clear}
+use Rattle.model.proofs.Eligible.{mem-getD, squeeze-mem, chordless-apart, replaced-left, replaced-list, replaced-right, replaced-length, something-below, below-listed, eligible-clear, Clear}
 use Rattle.model.proofs.Choices.{Positions, chosen-taken, none-taken}
 use Rattle.frontier.specs.declared.Line.{Line}
 use Rattle.choice.specs.declared.Found.the-variants.{At, Nothing}
@@ -29,7 +29,7 @@ use Rattle.pairs.specs.Run.{fits}
 use Rattle.choice.specs.Run.{Trail, placed, same, startTrail}
 use Rattle.choice.specs.Search.{foundAs, Trails, Reason, edge, old, twice, right, beside, later, split, Stops, bare, barred, Extends, Best}
 use Rattle.pairs.proofs.Dirt.{repeats-right, or-left, squeeze-before, clean-once}
-use Rattle.frontier.proofs.Lines.{getD-padded, getD-none}
+use Rattle.frontier.proofs.Lines.{getD-padded}
 use Rattle.pairs.proofs.Gather.{raw}
 use Rattle.frontier.proofs.Under.{below-mem}
 use Rattle.pairs.proofs.Pairs.{fits-is, gathered, unchorded}

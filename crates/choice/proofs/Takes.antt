@@ -8,12 +8,11 @@ use native.Mathlib.Omega.{arith}
 use lib.ListN.{getD}
 use lib.Dec.{eqb, ltb}
 use borrow.Author.Tests.{eqb-true, eqb-false, ltb-true}
-use Rattle.lists.proofs.Bools.{both}
 use Rattle.model.specs.Plan.{Plan, adjacent}
 use Rattle.places.specs.Places.{adjacentBy}
 use Rattle.choice.specs.declared.Lead.{Lead}
 use Rattle.choice.specs.Run.{lead, same, barred, knot}
-use Rattle.choice.specs.Search.{Reason, edge, old, twice, right, beside, later, Lowest, Takes}
+use Rattle.choice.specs.Search.{Reason, edge, old, twice, beside, later, Lowest, Takes}
 
 -- ---- the lowest position
 module _ {t : List ℕ} {p : Plan} {place : List ℕ} {m c : ℕ} where

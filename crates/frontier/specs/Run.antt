@@ -1,4 +1,4 @@
--- The frontier as the engine keeps it, on arrays: each definition is one function of src/.
+-- The frontier as the engine keeps it, on arrays: what the functions of src/ compute, those that look up by a table where it is the plan's own.
 use Prim.Native.Nat.{ℕ, suc, _+_, _-_}
 use mathlib.Core.List.{List, _++_}
 use mathlib.Core.Bool.{Bool, true, false, cond, not}

@@ -1,5 +1,5 @@
 -- placed meets its contract.
-use mathlib.Core.Path.{_≡_, sym, ap, _∙_}
+use mathlib.Core.Path.{_≡_, sym}
 use Prim.Native.Nat.{ℕ, suc, _+_, _-_, min}
 use lib.ListN.{length, getD, set, length-set}
 use lib.Seq.{set-out}

@@ -1,10 +1,10 @@
 -- chords::touches meets its contract.
-use mathlib.Core.Path.{_≡_, refl, sym, ap, _∙_}
+use mathlib.Core.Path.{_≡_, sym, ap, _∙_}
 use Prim.Native.Nat.{ℕ, _-_}
 use lib.ListN.{getD}
 use Rattle.model.specs.Plan.{adjacent}
 use Rattle.rings.specs.Tables.{rows}
-use Rattle.places.specs.Places.{placesOf, adjacentBy}
+use Rattle.places.specs.Places.{placesOf}
 use Rattle.places.proofs.Look.{adjacent-told}
 use Rattle.lists.proofs.Folds.{Seeks, seeks-start, seeks-hit, seeks-on, seeks-end}
 use Rattle.pairs.specs.Run as run
