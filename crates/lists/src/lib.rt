@@ -68,14 +68,6 @@ pub fn word(a: &[u16], i: usize) -> u16
     if i < a.len() { a[i] } else { 0 }
 }
 
-// The whole number at i.
-pub fn whole(a: &[usize], i: usize) -> usize
-    ensures { λ r. ⌜ r ≡ getD (now (a .entry)) i 0 ⌝ }
-{
-    let m = a.len();
-    if i < m { a[i] } else { 0 }
-}
-
 // Puts a byte at a place; past the end there is nothing to put.
 pub fn set_byte(a: &mut [u8], place: usize, x: u8)
     ensures { λ r. ⌜ now (a .exit) ≡ set (now (a .entry)) place x ⌝ }
