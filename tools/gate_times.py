@@ -4,7 +4,7 @@
     ./check > LOG; tools/gate_times.py LOG
 
 For each crate: the seconds of its proof, how many must-fail edits it has and the seconds that they took together. The seconds are
-those that `rt ci` prints, whole ones, two jobs at a time; the last row adds them up. A `-` in place of a name is standard input."""
+those that `rt ci` prints, whole ones, of jobs that run beside each other; the last row adds them up. A `-` in place of a name is standard input."""
 import re
 import sys
 
