@@ -95,20 +95,20 @@ module _ (starts sizes es : List ℕ) (n : ℕ) (ls : List ℕ) where
               }
 
           -- a dart more
-          pub walks-dart : {i′ count′ at l xa xb xd ya yb yd : ℕ} {marks′ : List ℕ} → i′ ≡ i + 1
+          pub walks-dart : {i′ count′ at l : ℕ} {xl′ xh′ xg′ yl′ yh′ yg′ marks′ : List ℕ} → i′ ≡ i + 1
               → at ≡ a + indexOf v (ring (rows starts sizes es n) u) → Marked marks′ (ring (rows starts sizes es n) u) a (i + 1) → l ≡ getD ls at unlabelled
-              → xa ≡ endOf false l u v → xb ≡ endOf false l v u → xd ≡ gapOf false l
-              → ya ≡ endOf true l u v → yb ≡ endOf true l v u → yd ≡ gapOf true l
+              → (xl′ ≡ set xl count (endOf false l u v)) × (xh′ ≡ set xh count (endOf false l v u)) × (xg′ ≡ set xg count (gapOf false l))
+              → (yl′ ≡ set yl count (endOf true l u v)) × (yh′ ≡ set yh count (endOf true l v u)) × (yg′ ≡ set yg count (gapOf true l))
               → count′ ≡ count + keptOf l
-              → Walks starts sizes es n ls (set xl count xa) (set xh count xb) (set xg count xd) (set yl count ya) (set yh count yb) (set yg count yd) marks′ count′ u i′ a k
-          walks-dart {i′} {count′} {at} {l} qi place marked read ea eb ed fa fb fd ek =
+              → Walks starts sizes es n ls xl′ xh′ xg′ yl′ yh′ yg′ marks′ count′ u i′ a k
+          walks-dart {i′} {count′} {at} {l} qi place marked read ex ey ek =
               let s = inv .size in
               let dart = dart-at starts sizes es n u i a e v same (omega arith) begin entry end in
               let label : l ≡ labelOf (table sizes es n) ls u v =
               read ∙ ap (λ (j : ℕ). getD ls j unlabelled) place ∙ label-there starts sizes es n same small u v begin refl (inv .size) ls (let m = dart-most walks-at in omega arith) in
               record {
-                x = asking-dart sizes es n ls false (inv .x) v l _ _ _ (omega arith) (walks-room room) (omega arith) dart label ea eb ed ek;
-                y = asking-dart sizes es n ls true (inv .y) v l _ _ _ (omega arith) (walks-room room) (omega arith) dart label fa fb fd ek;
+                x = rw (ex .0, ex .1, ex .2) (asking-dart sizes es n ls false (inv .x) v l _ _ _ (omega arith) (walks-room room) (omega arith) dart label refl refl refl ek);
+                y = rw (ey .0, ey .1, ey .2) (asking-dart sizes es n ls true (inv .y) v l _ _ _ (omega arith) (walks-room room) (omega arith) dart label refl refl refl ek);
                 marked = rw qi marked;
                 begins = inv .begins;
                 size = inv .size;

@@ -1,7 +1,8 @@
 // Placement: the chart of a labelled plan over flat arrays, and the comparison of two charts.
 ghost use mathlib.Core.Path.{_≡_};
 ghost use mathlib.Core.Bool.{true, false, _&&_};
-ghost use Prim.Native.Nat.{_+_, _-_, _≤_};
+ghost use Prim.Native.Nat.{_+_, _-_, _≤_, _<_};
+ghost use lib.ListN.{set};
 ghost use Rattle.lists.specs.Tests.{all, sameList};
 ghost use Rattle.lists.specs.Spans.{stretch, zeros};
 ghost use Rattle.lists.specs.Parts.{indexOf};
@@ -60,6 +61,27 @@ fn kept_of(label: usize) -> usize
     ensures { λ r. ⌜ r ≤ 1 ⌝ }
 {
     if label < 2 { 1 } else { 0 }
+}
+
+// Puts the constraint of one coordinate that a dart from u to v asks for at a place of the arrays.
+fn put_ask(
+    lows: &mut [u16; 1188],
+    highs: &mut [u16; 1188],
+    gaps: &mut [u8; 1188],
+    at: usize,
+    upright: bool,
+    label: usize,
+    u: u16,
+    v: u16,
+)
+    requires { ⌜ at < 1188 ⌝ }
+    ensures { λ r. ⌜ now (lows .exit) ≡ set (now (lows .entry)) at (endOf upright label u v) ⌝ }
+    ensures { λ r. ⌜ now (highs .exit) ≡ set (now (highs .entry)) at (endOf upright label v u) ⌝ }
+    ensures { λ r. ⌜ now (gaps .exit) ≡ set (now (gaps .entry)) at (gapOf upright label) ⌝ }
+{
+    lows[at] = end_of(upright, label, u, v);
+    highs[at] = end_of(upright, label, v, u);
+    gaps[at] = gap_of(upright, label);
 }
 
 // Where the label of the dart from u to v stands, v being the entry at i of u's ring, which begins at a. A mark of v above a is one more than that place; where there is none the entry is v's first in the ring, and is marked.
@@ -130,12 +152,8 @@ fn asks_of<'a>(
             let label = labels::label_at(labels, at);
             let s = u as u16;
             let t = v as u16;
-            xlows[count] = end_of(false, label, s, t);
-            xhighs[count] = end_of(false, label, t, s);
-            xgaps[count] = gap_of(false, label);
-            ylows[count] = end_of(true, label, s, t);
-            yhighs[count] = end_of(true, label, t, s);
-            ygaps[count] = gap_of(true, label);
+            put_ask(xlows, xhighs, xgaps, count, false, label, s, t);
+            put_ask(ylows, yhighs, ygaps, count, true, label, s, t);
             count += kept_of(label);
             i += 1;
         } else {
