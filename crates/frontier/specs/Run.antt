@@ -1,10 +1,9 @@
--- The frontier as the engine keeps it, on arrays: what the functions of src/ compute, those that look up by a table where it is the plan's own.
+-- The frontier as the engine keeps it, on arrays: what the functions of src/ compute.
 use Prim.Native.Nat.{ℕ, suc, _+_, _-_}
 use mathlib.Core.List.{List, _++_}
-use mathlib.Core.Bool.{Bool, true, false, cond, not}
-use lib.ListN.{length, getD, set, take, drop}
-use lib.Dec.{eqb, ltb}
-use Rattle.lists.specs.Folds.{through, down, some}
+use mathlib.Core.Bool.{Bool, true, false, cond}
+use lib.ListN.{getD, set, take, drop}
+use lib.Dec.{ltb}
 use Rattle.lists.specs.Parts.{indexOf}
 use Rattle.lists.specs.Spans.{zeros}
 use Rattle.model.specs.Plan.{Plan, ring, onward}
@@ -57,24 +56,3 @@ depth p f k = gap p (getD f k 0) (getD f (suc k) 0) (getD f (k - 1) 0)
 -- the ring of position k from the entry after its right frontier neighbour on
 unfoldable pub under : Plan → List ℕ → ℕ → List ℕ
 under p f k = onward (getD f (suc k) 0) (ring p (getD f k 0))
-
--- South alone is below position k
-unfoldable pub doneAt : Plan → List ℕ → ℕ → Bool
-doneAt p f k = cond (eqb (depth p f k) 1) (eqb (getD (under p f k) 0 0) 2) false
-
--- some inner context of a frontier of m has more than South below
-unfoldable pub unfinished : Plan → List ℕ → ℕ → Bool
-unfinished p f m = some (λ k. not (doneAt p f k)) 1 (m - 1)
-
--- ---- the first frontier
--- West, North's inner neighbours from West's side to East's, East
-unfoldable pub front : Plan → Line
-front p = let r = ring p 0 in pushed (down (λ t v. pushed v (getD r (suc t) 0)) (length r - 2) (pushed (fresh (zeros 256)) 3)) 1
-
--- a mark for each of the first m contexts of f
-unfoldable pub marked : List ℕ → ℕ → List ℕ
-marked f m = through (λ k on. set on (getD f k 0) 1) 0 m (zeros 256)
-
--- the first frontier, all its contexts marked
-unfoldable pub firstLine : Plan → Line
-firstLine p = let v = front p in line (v .ok) (v .len) (v .at) (marked (v .at) (v .len))

@@ -1,11 +1,10 @@
 // What is below a frontier context: the ring entries between its right and its left frontier neighbour.
 ghost use mathlib.Core.Path.{_≡_};
-ghost use Prim.Native.Nat.{ℕ, suc, _+_, _-_, _<_, _^_};
+ghost use Prim.Native.Nat.{suc, _-_, _<_, _^_};
 ghost use lib.ListN.{getD};
 ghost use Rattle.lists.specs.Parts.{indexOf};
 ghost use Rattle.model.specs.Plan.{ring};
 ghost use Rattle.rings.specs.Tables.{rows};
-ghost use Rattle.places.specs.Places.{placesOf};
 ghost use Rattle.frontier.specs.Run as run;
 
 // How many entries stand before b in u's ring, read from the entry after place x round to the entry before it.
@@ -89,46 +88,4 @@ pub fn depth<'a>(
     ensures { λ r. ⌜ r < 2 ^ 9 ⌝ }
 {
     gap(starts, sizes, entries, n, lists::num(f, k), x, prior(f, k))
-}
-
-// Is South alone below position k?
-fn done_at<'a>(
-    places: &'a [u8],
-    starts: &'a [u16],
-    sizes: &'a [u8],
-    entries: &'a [u16],
-    n: usize,
-    f: &'a [u16],
-    k: usize,
-) -> bool
-    ensures { λ r. ⌜ (now (places .entry) ≡ placesOf (rows (now (starts .entry)) (now (sizes .entry)) (now (entries .entry)) n) → r ≡ run.doneAt (rows (now (starts .entry)) (now (sizes .entry)) (now (entries .entry)) n) (now (f .entry)) k) ⌝ }
-{
-    let x = turn_by(places, starts, sizes, entries, n, f, k);
-    if depth(starts, sizes, entries, n, f, k, x) == 1 {
-        return crate::onward_at(starts, sizes, entries, n, lists::num(f, k), x, 0) == 2;
-    }
-    false
-}
-
-// Has some inner context of a frontier of m more than South below?
-pub fn is_unfinished<'a>(
-    places: &'a [u8],
-    starts: &'a [u16],
-    sizes: &'a [u8],
-    entries: &'a [u16],
-    n: usize,
-    f: &'a [u16],
-    m: usize,
-) -> bool
-    ensures { λ r. ⌜ (now (places .entry) ≡ placesOf (rows (now (starts .entry)) (now (sizes .entry)) (now (entries .entry)) n) → r ≡ run.unfinished (rows (now (starts .entry)) (now (sizes .entry)) (now (entries .entry)) n) (now (f .entry)) m) ⌝ }
-{
-    let e = lists::minus(m, 1);
-    let mut k = 1;
-    while k < e {
-        if !done_at(places, starts, sizes, entries, n, f, k) {
-            return true;
-        }
-        k += 1;
-    }
-    false
 }

@@ -1,4 +1,4 @@
-// The frontier of the sweep in flat arrays: the line that holds it, the first frontier, and what is below it.
+// The frontier of the sweep in flat arrays: the line that holds it, and what is below it.
 ghost use mathlib.Core.Path.{_≡_};
 ghost use mathlib.Core.List.{List};
 ghost use Prim.Native.Nat.{ℕ, _-_, _<_, _^_};
@@ -8,7 +8,6 @@ ghost use Rattle.rings.specs.Tables.{rows};
 ghost use Rattle.frontier.specs.Run as run;
 
 pub mod below;
-pub mod first;
 
 // A frontier or a list: its contexts, and a mark for each context that is or was on the frontier. It is not ok where it failed.
 pub struct Line {

@@ -25,14 +25,15 @@ use Rattle.choice.specs.Search.{foundAs, Ready}
 use Rattle.places.specs.Places.{placesOf}
 use Rattle.frontier.proofs.Lines.{stretch-part, stretch-all}
 use Rattle.pairs.proofs.Pairs.{gathered, unchorded, replaced-marks, next-front}
-use Rattle.frontier.proofs.Finishing.{open-is}
+use Rattle.ends.proofs.Finishing.{open-is}
 use Rattle.sweep.specs.declared.Ended.{Ended}
 use Rattle.sweep.specs.Run.{fan, stepLabels, Stepped, finishLabels, firstLabels, stuck, swept, endedAs}
-use Rattle.frontier.specs.Run.{line, firstLine, unfinished}
+use Rattle.frontier.specs.Run.{line}
+use Rattle.ends.specs.Ends.{firstLine, unfinished}
 use Rattle.pairs.specs.Run.{listing, replaced}
 use Rattle.model.proofs.LabelCounts.{edges-long, bare-long, first-long, from-long}
 use Rattle.sweep.proofs.Draws.{edges-padded, product-one}
-use Rattle.frontier.proofs.Beginning.{firstFront, first-front, first-at, first-len}
+use Rattle.ends.proofs.Beginning.{firstFront, first-front, first-at, first-len}
 use Rattle.sweep.specs.Run as run
 
 -- ---- a part of the frontier, in the array that holds it

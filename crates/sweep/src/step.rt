@@ -10,7 +10,6 @@ ghost use Rattle.model.specs.Labels.{up, right};
 ghost use Rattle.model.specs.Sweep.{labelEdges, product};
 ghost use Rattle.rings.specs.Tables.{startsOf, rows};
 ghost use Rattle.fit.specs.Fits.{fit};
-ghost use Rattle.frontier.specs.Run.{unfinished};
 ghost use Rattle.pairs.specs.Run.{listing, replaced};
 ghost use Rattle.places.specs.Places.{placesOf};
 ghost use Rattle.sweep.specs.Run as run;
@@ -172,7 +171,7 @@ pub(crate) fn run<'a>(
     requires { ⌜ now places ≡ placesOf (rows (now starts) (now sizes) (now entries) n) ⌝ }
     ensures { λ r. ⌜ r ≡ run.endedAs (run.swept (rows (now (starts .entry)) (now (sizes .entry)) (now (entries .entry)) n)) ⌝ }
 {
-    let first = frontier::first::first_line(starts, sizes, entries, n);
+    let first = ends::first_line(starts, sizes, entries, n);
     let mut at = first.at;
     let mut marks = first.marks;
     let mut m = first.len;
@@ -180,7 +179,7 @@ pub(crate) fn run<'a>(
     let mut labels = first_labels(places, starts, sizes, entries, n, &at, m);
     let mut k = n;
     while k > 0 {
-        if !frontier::below::is_unfinished(places, starts, sizes, entries, n, &at, m) {
+        if !ends::is_unfinished(places, starts, sizes, entries, n, &at, m) {
             finish_labels(&mut labels, places, starts, sizes, entries, n, &at, m);
             return Ended {
                 finished: true,

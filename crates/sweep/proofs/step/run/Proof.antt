@@ -9,6 +9,7 @@ use Rattle.rings.proofs.Rows.{ring-size, count-rows}
 use Rattle.frontier.specs.Run as lines
 use Rattle.choice.specs.Search.{foundAs}
 use Rattle.fit.proofs.Fits.{fit-says}
+use Rattle.ends.proofs.Finishing.{unfinished-told}
 use Rattle.sweep.proofs.Fits.{fit-sane, size-le}
 use Rattle.sweep.proofs.Steps.{Running, running-start, running-ready, running-done, running-stuck, found-inside, running-on, running-out}
 use native.Mathlib.Omega.{arith}
@@ -64,7 +65,7 @@ returns : tie.Need-returns Inv-loop μ-loop
 returns c =
     let a = c .before .before .before .before .before .before .before .before .before .before .before .before .before .before .before .before .before .before .args in
     let h = fit-sane (rows (a .starts .now) (a .sizes .now) (a .entries .now) (a .n)) (c .before .before .before .before .before .before .before .before .before .before .before .before .before .before .before .before .before .before .pre .1 .0) in
-    running-done (c .before .before .before .before .before .before .before .before .loop .inv .0) h (omega arith) (sym (c .before .before .before .before .before .is-unfinished .ensures (c .before .before .before .before .before .before .before .before .before .before .before .before .before .before .before .before .before .before .pre .1 .1)) ∙ not-true (c .before .before .before .before .before .is-unfinished .result) (c .before .before .before .before .if1 .taken)) (c .before .finish-labels .ensures)
+    running-done (c .before .before .before .before .before .before .before .before .loop .inv .0) h (omega arith) (sym (c .before .before .before .before .before .is-unfinished .ensures ∙ unfinished-told _ (rows (a .starts .now) (a .sizes .now) (a .entries .now) (a .n)) _ _ (c .before .before .before .before .before .before .before .before .before .before .before .before .before .before .before .before .before .before .pre .1 .1)) ∙ not-true (c .before .before .before .before .before .is-unfinished .result) (c .before .before .before .before .if1 .taken)) (c .before .finish-labels .ensures)
 
 slice-aggregate-choose : tie.Need-slice-aggregate-choose Inv-loop μ-loop
 slice-aggregate-choose c = search needs
@@ -87,7 +88,7 @@ returns-2 c =
     let h = fit-sane (rows (a .starts .now) (a .sizes .now) (a .entries .now) (a .n)) (c .before .before .before .before .before .before .before .before .before .before .before .before .before .before .before .before .before .before .before .pre .1 .0) in
     let own = c .before .before .before .before .before .before .before .before .before .before .before .before .before .before .before .before .before .before .before .pre .1 .1 in
     let running = c .before .before .before .before .before .before .before .before .before .loop .inv .0 in
-    c .stuck .ensures ∙ running-stuck running h (omega arith) (sym (c .before .before .before .before .before .before .is-unfinished .ensures own) ∙ not-false (c .before .before .before .before .before .before .is-unfinished .result) (c .before .before .before .before .before .if1 .left)) (c .before .before .before .choose .ensures (running .state) (running-ready running h own)) (c .before .enum-told .given .1)
+    c .stuck .ensures ∙ running-stuck running h (omega arith) (sym (c .before .before .before .before .before .before .is-unfinished .ensures ∙ unfinished-told _ (rows (a .starts .now) (a .sizes .now) (a .entries .now) (a .n)) _ _ own) ∙ not-false (c .before .before .before .before .before .before .is-unfinished .result) (c .before .before .before .before .before .if1 .left)) (c .before .before .before .choose .ensures (running .state) (running-ready running h own)) (c .before .enum-told .given .1)
 
 slice-aggregate-take-step : tie.Need-slice-aggregate-take-step Inv-loop μ-loop
 slice-aggregate-take-step c = search needs
@@ -130,7 +131,7 @@ loop-again c =
     let running = c .before .before .before .before .before .before .before .before .before .before .before .before .before .before .before .before .before .loop .inv .0 in
     let found = c .before .before .before .before .before .before .before .before .before .found .given in
     let chose = ap foundAs (sym (found .1)) ∙ c .before .before .before .before .before .before .before .before .before .before .before .choose .ensures (running .state) (running-ready running h (pre .1 .1)) in
-    let open-still = sym (c .before .before .before .before .before .before .before .before .before .before .before .before .before .before .is-unfinished .ensures (pre .1 .1)) ∙ not-false (c .before .before .before .before .before .before .before .before .before .before .before .before .before .before .is-unfinished .result) (c .before .before .before .before .before .before .before .before .before .before .before .before .before .if1 .left) in
+    let open-still = sym (c .before .before .before .before .before .before .before .before .before .before .before .before .before .before .is-unfinished .ensures ∙ unfinished-told _ (rows (a .starts .now) (a .sizes .now) (a .entries .now) (a .n)) _ _ (pre .1 .1)) ∙ not-false (c .before .before .before .before .before .before .before .before .before .before .before .before .before .before .is-unfinished .result) (c .before .before .before .before .before .before .before .before .before .before .before .before .before .if1 .left) in
     let more = c .before .before .before .before .before .before .before .before .before .before .before .before .before .before .before .before .loop-test .taken in
     (running-on running h (found .0 .0) (found .0 .1 .0) chose (omega arith) open-still (c .before .before .before .take-step .ensures), (search needs, (search needs, search needs)))
 

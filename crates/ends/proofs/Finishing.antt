@@ -6,17 +6,49 @@ use mathlib.Core.Bool.{false, cond, not, and-false, and-true}
 use native.Mathlib.Omega.{arith}
 use lib.ListN.{length, getD, take}
 use lib.Dec.{eqb}
-use borrow.Author.Tests.{ne-eqb}
+use borrow.Author.Tests.{eq-eqb, ne-eqb}
 use Rattle.lists.specs.Tests.{all, sameList}
 use Rattle.lists.specs.Ranges.{from}
 use Rattle.lists.specs.Spans.{padded}
-use Rattle.model.specs.Plan.{Plan}
+use Rattle.model.specs.Plan.{Plan, ring}
 use Rattle.model.specs.Sweep.{below, finished, State}
 use Rattle.frontier.specs.Front.{Front}
-use Rattle.frontier.specs.Run.{depth, under, doneAt, unfinished, line}
+use Rattle.places.specs.Places.{placesOf}
+use Rattle.frontier.specs.Run.{turnedAt, turnBy, depthFrom, depth, under}
+use Rattle.frontier.proofs.Moves.{under-turned, turn-told, depth-told}
+use Rattle.ends.specs.Ends.{doneBy, unfinishedBy, doneAt, unfinished}
 use Rattle.frontier.proofs.Under.{below-is, depth-le, back-suc, under-padded, depth-padded}
 use Rattle.frontier.specs.declared.Line.{Line}
 use Rattle.lists.proofs.Folds.{all-from, some-same}
+
+-- ---- what the code tells of a position
+module _ (t : List ℕ) (p : Plan) (f : List ℕ) (k : ℕ) where
+  -- one context is below it
+  pub done-yes : {x q u y : ℕ} → x ≡ turnBy t p f k → q ≡ depthFrom p f k x → q ≡ 1 → u ≡ getD f k 0 → y ≡ getD (turnedAt x (ring p u)) 0 0 → eqb y 2 ≡ doneBy t p f k
+  unfolding doneBy
+  done-yes {x} e deep one at read =
+      let d : depthFrom p f k (turnBy t p f k) ≡ 1 = ap (depthFrom p f k) (sym e) ∙ sym deep ∙ one in
+      rw (eq-eqb _ _ d) (ap (λ (z : ℕ). eqb z 2) (read ∙ λ i. getD (turnedAt (e i) (ring p (at i))) 0 0))
+
+  -- none, or more
+  pub done-no : {x q : ℕ} → x ≡ turnBy t p f k → q ≡ depthFrom p f k x → (q ≡ 1 → ⊥) → false ≡ doneBy t p f k
+  unfolding doneBy
+  done-no {x} {q} e deep other =
+      let d : q ≡ depthFrom p f k (turnBy t p f k) = deep ∙ ap (depthFrom p f k) e in
+      rw (ne-eqb _ _ (λ h. other (d ∙ h)))
+
+  -- by the plan's own table it is told as without one
+  pub done-told : t ≡ placesOf p → doneBy t p f k ≡ doneAt p f k
+  unfolding doneBy doneAt
+  done-told own =
+      let at = turn-told p own f k refl in
+      let deep = depth-told p own f k refl refl in
+      λ i. cond (eqb (deep i) 1) (eqb (getD (under-turned p f k refl at i) 0 0) 2) false
+
+-- so is whether the sweep is finished
+pub unfinished-told : (t : List ℕ) (p : Plan) (f : List ℕ) (m : ℕ) → t ≡ placesOf p → unfinishedBy t p f m ≡ unfinished p f m
+unfolding unfinishedBy unfinished
+unfinished-told t p f m own = some-same (λ (k : ℕ). not (doneBy t p f k)) (λ (k : ℕ). not (doneAt p f k)) 1 (m - 1 - 1) (λ k. ap not (done-told t p f k own))
 
 -- ---- the finishing test
 -- what is taken of a list is South alone

@@ -1,4 +1,4 @@
--- first::marked meets its contract.
+-- marked meets its contract.
 use mathlib.Core.Path.{_≡_, sym}
 use Prim.Native.Nat.{ℕ, _-_}
 use native.Mathlib.Omega.{arith}
@@ -7,9 +7,9 @@ use lib.Seq.{set-out}
 use borrow.Author.Needs.{needs}
 use Rattle.lists.specs.Spans.{zeros}
 use Rattle.lists.proofs.Folds.{Goes, goes-start, goes-on, goes-end}
-use Rattle.frontier.proofs.first.marked.Statement.{statement}
-use Rattle.frontier.proofs.first.marked.Tie as tie
-use Rattle.frontier.specs.Run as run
+use Rattle.ends.proofs.marked.Statement.{statement}
+use Rattle.ends.proofs.marked.Tie as tie
+use Rattle.ends.specs.Ends.{marked}
 
 abbrev Inv-loop : tie.InvT-loop
 Inv-loop f m marks₀ k₀ marks k = (length marks ≡ 256) × Goes (λ (i : ℕ) l. set l (getD f i 0) 1) 0 m marks₀ k marks
@@ -42,7 +42,7 @@ loop-again-2 : tie.Need-loop-again-2 Inv-loop μ-loop
 loop-again-2 c = let e = c .before .num .ensures .0 in let l = c .before .before .before .loop .inv .0 in (l, goes-on (c .before .before .before .loop .inv .1) (omega arith) (sym (set-out (c .before .before .before .loop .marks) (getD (c .before .before .before .before .before .args .f .now) (c .before .before .before .loop .k) 0) 1 (omega arith))))
 
 returns : tie.Need-returns Inv-loop μ-loop
-unfolding run.marked zeros
+unfolding marked zeros
 returns c = goes-end (c .before .loop .inv .1) (omega arith)
 
 pub marked-spec : {M : Type 1} → statement M

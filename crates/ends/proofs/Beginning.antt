@@ -15,12 +15,17 @@ use Rattle.lists.proofs.Members.{mem-take, mem-drop, mem-reverse}
 use Rattle.model.specs.Plan.{Plan, ring, east, west}
 use Rattle.model.specs.Sweep.{top, firstState}
 use Rattle.lists.specs.Folds.{each, down}
 use Rattle.frontier.specs.declared.Line.{Line}
 use Rattle.frontier.specs.Front.{Small, Sane, Rep, Marks, Front}
 use Rattle.frontier.proofs.Lines.{small-append, mem-small, small-getD, push-rep, marks-same, marks-set, getD-none, getD-padded, fresh-rep, stretch-all}
 use Rattle.frontier.proofs.Under.{back-suc}
-use Rattle.frontier.specs.Run.{front, marked, firstLine}
 use Rattle.frontier.specs.Run as run
+use Rattle.ends.specs.Ends.{front, marked, firstLine}
+
+-- ---- the ring read from the entry after its first
+pub onward-first : (r : List ℕ) (i : ℕ) → getD (run.turnedAt 0 r) i 0 ≡ getD r (suc i) 0
+unfolding run.turnedAt
+onward-first r i = let z : 1 + i ≡ suc i = omega arith in ap (λ (l : List ℕ). getD l i 0) (append-nil (drop 1 r)) ∙ getD-drop 1 r i 0 ∙ ap (λ (k : ℕ). getD r k 0) z
 
 -- ---- marks of the contexts of a list
 marks-none : Marks (zeros 256) (λ (c : ℕ). false)
