@@ -3,7 +3,7 @@ use Prim.Native.Nat.{ℕ, _/_, _%_, _<_, _^_}
 use mathlib.Core.Path.{_≡_, refl}
 use native.Mathlib.Omega.{arith}
 use Rattle.model.specs.Outcome.{Outcome, accepted, refused}
-use Rattle.exchange.specs.Exchange.{code, wrapped, numberOf, valueOf, Unpacks}
+use Rattle.answers.specs.Codes.{code, wrapped, numberOf, valueOf, Unpacks}
 use Rattle.exchange.proofs.Small.{Small}
 
 -- An answer that has room in the number: a small refusal, or a value below 2^48

@@ -17,7 +17,8 @@ use Rattle.sheet.specs.Sheets.{reads, packed}
 use Rattle.sheet.specs.Answers.{answerAs, answerOf, after, lengthOf}
 use Rattle.guarantee.proofs.Sized.{Good, fresh-good, leaves-good}
 use Rattle.guarantee.proofs.Struct.{read-back}
-use Rattle.exchange.specs.Exchange.{code, wrapped, sheetIn, inTurn, handedBack, given}
+use Rattle.answers.specs.Codes.{code, wrapped, inTurn, given}
+use Rattle.exchange.specs.Exchange.{sheetIn, handedBack}
 use Rattle.exchange.proofs.Small.{Small, small-accepted, small-refused, small-bind}
 use Rattle.exchange.proofs.Sizes.{file-short}
 use Rattle.exchange.proofs.Places.{small-open, small-call, small-write}

@@ -1,40 +1,17 @@
--- The steps of the code: what an answer struct tells in each of its cases, and the number that is given for it.
-use Prim.Native.Nat.{ℕ, _+_, _*_, _%_, _<_, _^_}
+-- The steps of the code: the bytes that hand a sheet over, and the sheet that is handed back.
+use Prim.Native.Nat.{ℕ, _+_, _*_, _%_, _^_}
 use mathlib.Core.Path.{_≡_, refl, sym, ap, _∙_}
 use mathlib.Core.List.{List, [], _∷_}
 use native.Mathlib.Omega.{arith}
 use lib.ListN.{length}
-use Rattle.model.specs.Outcome.{Outcome, accepted, refused, passed}
+use Rattle.model.specs.Outcome.{Outcome, accepted, refused}
 use Rattle.model.specs.File.{Sheet, fresh}
 use Rattle.model.specs.Calls.{openCall, writeCall}
-use Rattle.model.proofs.Outcomes.{then-at, then-off}
 use Rattle.writing.specs.Files.{bufferAfter}
-use Rattle.sheet.specs.declared.Outcome as told
-use Rattle.sheet.specs.Sheets.{reads}
-use Rattle.sheet.specs.Answers.{answerAs, lengthOf}
-use Rattle.exchange.specs.Exchange.{code, wrapped, sheetIn, inTurn, handedBack, given}
-
--- ---- what an answer tells
--- a refusal
-pub given-off : (o : told.Outcome) (k at : ℕ) → answerAs (o .answer) ≡ refused k at → given o ≡ refused k at
-unfolding given
-given-off o k at e = then-off (answerAs (o .answer)) k at (accepted (reads (o .sheet))) e
-
--- a sheet
-pub given-at : (o : told.Outcome) → answerAs (o .answer) ≡ passed → given o ≡ accepted (reads (o .sheet))
-unfolding given
-given-at o e = then-at (answerAs (o .answer)) tt (accepted (reads (o .sheet))) e
-
--- ---- two in a row
--- the first is refused
-pub turn-off : (f s : told.Outcome) (k at : ℕ) → answerAs (f .answer) ≡ refused k at → given f ≡ inTurn (given f) (given s)
-unfolding inTurn
-turn-off f s k at e = let q = given-off f k at e in q ∙ sym (then-off (given f) k at (given s) q)
-
--- the first is accepted
-pub turn-on : (f s : told.Outcome) → answerAs (f .answer) ≡ passed → given s ≡ inTurn (given f) (given s)
-unfolding inTurn
-turn-on f s e = sym (then-at (given f) (reads (f .sheet)) (given s) (given-at f e))
+use Rattle.sheet.specs.Answers.{lengthOf}
+use Rattle.answers.specs.Codes.{wrapped}
+use Rattle.answers.proofs.Steps.{wrapped-off}
+use Rattle.exchange.specs.Exchange.{sheetIn, handedBack}
 
 -- ---- the bytes that hand a sheet over
 -- none
@@ -48,17 +25,6 @@ pub some-in : (b : List ℕ) → (length b ≡ 0 → ⊥) → sheetIn b ≡ open
 unfolding sheetIn
 some-in [] h = absurd (h refl)
 some-in (a ∷ b) h = refl
-
--- ---- the number
--- of a refusal
-pub wrapped-off : (o : Outcome ℕ) (k at r : ℕ) → o ≡ refused k at → r ≡ (k * 2 ^ 48 + at) % 2 ^ 64 → r ≡ wrapped o
-unfolding wrapped code
-wrapped-off o k at r e q = q ∙ ap wrapped (sym e)
-
--- of what is accepted
-pub wrapped-at : (o : Outcome ℕ) (v : ℕ) → o ≡ accepted v → v < 2 ^ 64 → v ≡ wrapped o
-unfolding wrapped code
-wrapped-at o v e h = let small : v ≡ v % 2 ^ 64 = omega arith in small ∙ ap wrapped (sym e)
 
 -- ---- handed back
 -- a refusal: the buffer is as it was

@@ -1,25 +1,18 @@
-// Sheets handed over as bytes and handed back as bytes; a call's answer as one number.
+// Sheets handed over as bytes and handed back as bytes.
 use sheet::Answer;
 use sheet::Outcome;
 use sheet::Sheet;
 use sheet::Written;
 ghost use mathlib.Core.Path.{_≡_};
-ghost use Prim.Native.Nat.{_+_, _*_, _%_, _^_};
 ghost use Rattle.model.specs.Calls.{openCall, writeCall};
 ghost use Rattle.writing.specs.Files.{bufferAfter};
 ghost use Rattle.sheet.specs.Sheets.{reads};
 ghost use Rattle.sheet.specs.Answers.{lengthOf};
-ghost use Rattle.exchange.specs.Exchange.{wrapped, sheetIn, inTurn, handedBack, given};
-
-// A refusal as one number: number × 2^48 + place.
-pub fn refusal(number: u8, place: usize) -> u64
-    ensures { λ r. ⌜ r ≡ (number * 2 ^ 48 + place) % 2 ^ 64 ⌝ }
-{
-    std::num::wrapping_add_u64(number as u64 * 281474976710656, place as u64)
-}
+ghost use Rattle.answers.specs.Codes.{wrapped, given};
+ghost use Rattle.exchange.specs.Exchange.{sheetIn, handedBack};
 
 // The sheet that a file holds.
-pub fn open_bytes(file: &[u8]) -> Outcome
+fn open_bytes(file: &[u8]) -> Outcome
     ensures { λ r. ⌜ given r ≡ openCall (now (file .entry)) ⌝ }
 {
     opening::open_file(sheet::fresh_sheet(), file)
@@ -35,17 +28,6 @@ pub fn hand_over(bytes: &[u8]) -> Outcome
     open_bytes(bytes)
 }
 
-// Of two outcomes in a row, the one that counts: the first if it is a refusal, else the second.
-pub fn followed(first: Outcome, second: Outcome) -> Outcome
-    ensures { λ r. ⌜ given r ≡ inTurn (given first) (given second) ⌝ }
-{
-    let answer = first.answer;
-    match answer {
-        Answer::Refused(_, _) => first,
-        Answer::Accepted => second,
-    }
-}
-
 // The file of a sheet, written into the buffer; its length, or the refusal.
 fn write_back(sheet: Sheet, out: &mut [u8]) -> u64
     ensures { λ r. ⌜ r ≡ wrapped (lengthOf (writeCall (reads sheet) (now (out .entry)))) ⌝ }
@@ -53,7 +35,7 @@ fn write_back(sheet: Sheet, out: &mut [u8]) -> u64
 {
     let written = reports::write(sheet, out);
     match written {
-        Written::Refused(number, place) => refusal(number, place),
+        Written::Refused(number, place) => answers::refusal(number, place),
         Written::Length(k) => k as u64,
     }
 }
@@ -66,7 +48,7 @@ pub fn hand_back(outcome: Outcome, out: &mut [u8]) -> u64
     let answer = outcome.answer;
     let sheet = outcome.sheet;
     match answer {
-        Answer::Refused(number, place) => refusal(number, place),
+        Answer::Refused(number, place) => answers::refusal(number, place),
         Answer::Accepted => write_back(sheet, out),
     }
 }

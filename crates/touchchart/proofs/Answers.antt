@@ -23,13 +23,14 @@ use Rattle.sheet.specs.Sheets.{heldPlan, fits, reads, stageRead, rank}
 use Rattle.sheet.specs.Answers.{answerAs}
 use Rattle.sheet.proofs.Reading.{plan-early, plan-there, fits-there}
 use Rattle.guarantee.proofs.Sized.{Good}
-use Rattle.exchange.specs.Exchange.{code, wrapped, sheetIn, inTurn, given}
+use Rattle.answers.specs.Codes.{code, wrapped, inTurn, given}
+use Rattle.exchange.specs.Exchange.{sheetIn}
 use Rattle.exchange.proofs.Small.{small-accepted, small-bind}
 use Rattle.exchange.proofs.Sizes.{scan-inside, part-short}
 use Rattle.exchange.proofs.Places.{plan-held, small-scan, small-same, small-ring}
 use Rattle.exchange.proofs.Codes.{Roomy, code-whole}
 use Rattle.exchange.proofs.Handing.{opened-good, handed-good, given-sheet, small-in}
-use Rattle.exchange.proofs.Steps.{given-off, given-at, wrapped-off, wrapped-at}
+use Rattle.answers.proofs.Steps.{given-off, given-at, wrapped-off, wrapped-at}
 use Rattle.touchchart.specs.Interface.{tripleValue, scanValue, scansTo, sameValue, compareValue, comparesTo, partValue, ringsTo}
 
 -- ---- an answer that has room is given as it is

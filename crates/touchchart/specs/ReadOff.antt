@@ -2,7 +2,7 @@
 use Prim.Native.Nat.{ℕ}
 use mathlib.Core.List.{List}
 use Rattle.sheet.specs.Answers.{lengthOf}
-use Rattle.exchange.specs.Exchange.{Unpacks}
+use Rattle.answers.specs.Codes.{Unpacks}
 use Rattle.touchchart.specs.Interface.{opensTo, sweepsTo, offersTo, turnsTo, chartsTo, scansTo, comparesTo, ringsTo}
 
 -- Each of the eight, for every input

@@ -11,7 +11,7 @@ ghost use Rattle.model.specs.Calls.{scanCall, sameCall};
 ghost use Rattle.writing.specs.Files.{bufferAfter};
 ghost use Rattle.sheet.specs.Sheets.{reads};
 ghost use Rattle.sheet.specs.Answers.{lengthOf};
-ghost use Rattle.exchange.specs.Exchange.{code, wrapped};
+ghost use Rattle.answers.specs.Codes.{code, wrapped};
 ghost use Rattle.touchchart.specs.Interface.{opensTo, sweepsTo, offersTo, turnsTo, chartsTo, scansTo, comparesTo, ringsTo, scanValue, compareValue};
 
 // Opens a file: the length of its sheet's file, which is written to out.
@@ -20,7 +20,7 @@ pub extern "C" fn touchchart_open(file: &[u8], out: &mut [u8]) -> u64
     ensures { λ r. ⌜ r ≡ code (lengthOf (opensTo (now (file .entry)) (now (out .entry)))) ⌝ }
     ensures { λ r. ⌜ now (out .exit) ≡ bufferAfter (opensTo (now (file .entry)) (now (out .entry))) (now (out .entry)) ⌝ }
 {
-    exchange::hand_back(exchange::open_bytes(file), out)
+    exchange::hand_back(opening::open_file(sheet::fresh_sheet(), file), out)
 }
 
 // Sweeps a sheet (OPEN up): the length of the new sheet's file, which is written to out.
@@ -31,7 +31,7 @@ pub extern "C" fn touchchart_sweep(sheet: &[u8], out: &mut [u8]) -> u64
 {
     let handed = exchange::hand_over(sheet);
     let held = handed.sheet;
-    exchange::hand_back(exchange::followed(handed, calls::sweep(held)), out)
+    exchange::hand_back(answers::followed(handed, calls::sweep(held)), out)
 }
 
 // Offers labels to a sheet (OPEN up): the length of the new sheet's file, which is written to out.
@@ -42,7 +42,7 @@ pub extern "C" fn touchchart_offer(sheet: &[u8], labels: &[u8], out: &mut [u8]) 
 {
     let handed = exchange::hand_over(sheet);
     let held = handed.sheet;
-    exchange::hand_back(exchange::followed(handed, calls::offer(held, labels)), out)
+    exchange::hand_back(answers::followed(handed, calls::offer(held, labels)), out)
 }
 
 // Turns labels of a sheet (LABELLED up): the length of the new sheet's file, which is written to out.
@@ -54,7 +54,7 @@ pub extern "C" fn touchchart_turn(sheet: &[u8], pairs: &[u16], direction: u8, ou
     let handed = exchange::hand_over(sheet);
     let held = handed.sheet;
     exchange::hand_back(
-        exchange::followed(handed, calls::turn(held, pairs, direction)),
+        answers::followed(handed, calls::turn(held, pairs, direction)),
         out,
     )
 }
@@ -67,7 +67,7 @@ pub extern "C" fn touchchart_chart(sheet: &[u8], out: &mut [u8]) -> u64
 {
     let handed = exchange::hand_over(sheet);
     let held = handed.sheet;
-    exchange::hand_back(exchange::followed(handed, calls::chart(held)), out)
+    exchange::hand_back(answers::followed(handed, calls::chart(held)), out)
 }
 
 // Three contexts as one number.
@@ -86,7 +86,7 @@ fn scan_held(sheet: Sheet) -> u64
 {
     let found = reports::scan(sheet);
     match found {
-        Scanned::Refused(number, place) => exchange::refusal(number, place),
+        Scanned::Refused(number, place) => answers::refusal(number, place),
         Scanned::Nothing => 0,
         Scanned::Triple(a, b, c) => triple_value(a, b, c),
     }
@@ -101,7 +101,7 @@ pub extern "C" fn touchchart_scan(sheet: &[u8]) -> u64
     let answer = handed.answer;
     let held = handed.sheet;
     match answer {
-        Answer::Refused(number, place) => exchange::refusal(number, place),
+        Answer::Refused(number, place) => answers::refusal(number, place),
         Answer::Accepted => scan_held(held),
     }
 }
@@ -112,7 +112,7 @@ fn compare_held(a: Sheet, b: Sheet) -> u64
 {
     let compared = reports::same(a, b);
     match compared {
-        Compared::Refused(number, place) => exchange::refusal(number, place),
+        Compared::Refused(number, place) => answers::refusal(number, place),
         Compared::Same => 1,
         Compared::Different => 0,
     }
@@ -127,10 +127,10 @@ pub extern "C" fn touchchart_same(a: &[u8], b: &[u8]) -> u64
     let second = exchange::hand_over(b);
     let one = first.sheet;
     let other = second.sheet;
-    let both = exchange::followed(first, second);
+    let both = answers::followed(first, second);
     let answer = both.answer;
     match answer {
-        Answer::Refused(number, place) => exchange::refusal(number, place),
+        Answer::Refused(number, place) => answers::refusal(number, place),
         Answer::Accepted => compare_held(one, other),
     }
 }
@@ -151,7 +151,7 @@ pub extern "C" fn touchchart_ring(file: &[u8], context: u16) -> u64
 {
     let answer = files::ring_answer(file, lists::wide_word(context));
     match answer {
-        RingAnswer::Refused(number, place) => exchange::refusal(number, place),
+        RingAnswer::Refused(number, place) => answers::refusal(number, place),
         RingAnswer::Part(at, size) => part_value(at, size),
     }
 }

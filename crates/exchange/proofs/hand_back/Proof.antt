@@ -2,14 +2,15 @@
 use mathlib.Core.Path.{ap}
 use Rattle.sheet.specs.Sheets as sheets
 use Rattle.sheet.specs.Answers.{answerAs}
-use Rattle.exchange.specs.Exchange.{given}
-use Rattle.exchange.proofs.Steps.{given-off, given-at, back-off, back-at}
+use Rattle.answers.specs.Codes.{given}
+use Rattle.answers.proofs.Steps.{given-off, given-at}
+use Rattle.exchange.proofs.Steps.{back-off, back-at}
 use borrow.Author.Needs.{needs}
 use Rattle.exchange.proofs.hand_back.Statement.{statement}
 use Rattle.exchange.proofs.hand_back.Tie as tie
 use Rattle.exchange.proofs.hand_back.Reads as reads
 use Rattle.exchange.proofs.hand_back.Lts as lts
-use Rattle.exchange.proofs.refusal.Reads as refusal-reads
+use Rattle.answers.proofs.refusal.Reads as refusal-reads
 use Rattle.exchange.proofs.write_back.Reads as write-back-reads
 
 enum-known-answer : tie.Need-enum-known-answer

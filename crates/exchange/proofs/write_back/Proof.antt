@@ -3,14 +3,14 @@ use mathlib.Core.Path.{sym, ap, _∙_}
 use Rattle.model.specs.Calls.{writeCall}
 use Rattle.sheet.specs.Sheets as sheets
 use Rattle.sheet.specs.Answers.{writtenAs, lengthOf}
-use Rattle.exchange.proofs.Steps.{wrapped-off, wrapped-at}
+use Rattle.answers.proofs.Steps.{wrapped-off, wrapped-at}
 use native.Mathlib.Omega.{arith}
 use borrow.Author.Needs.{needs}
 use Rattle.exchange.proofs.write_back.Statement.{statement}
 use Rattle.exchange.proofs.write_back.Tie as tie
 use Rattle.exchange.proofs.write_back.Reads as reads
 use Rattle.exchange.proofs.write_back.Lts as lts
-use Rattle.exchange.proofs.refusal.Reads as refusal-reads
+use Rattle.answers.proofs.refusal.Reads as refusal-reads
 use Rattle.reports.proofs.write.Reads as write-reads
 
 write-requires : tie.Need-write-requires

@@ -4,7 +4,7 @@ use mathlib.Core.Bool.{true, false}
 use Rattle.model.specs.Calls.{sameCall}
 use Rattle.sheet.specs.Sheets as sheets
 use Rattle.sheet.specs.Answers.{comparedAs}
-use Rattle.exchange.proofs.Steps.{wrapped-off, wrapped-at}
+use Rattle.answers.proofs.Steps.{wrapped-off, wrapped-at}
 use Rattle.touchchart.specs.Interface.{sameValue, compareValue}
 use Rattle.touchchart.proofs.Answers.{compared-off, compared-at}
 use native.Mathlib.Omega.{arith}
@@ -13,7 +13,7 @@ use Rattle.touchchart.proofs.compare_held.Statement.{statement}
 use Rattle.touchchart.proofs.compare_held.Tie as tie
 use Rattle.touchchart.proofs.compare_held.Reads as reads
 use Rattle.touchchart.proofs.compare_held.Lts as lts
-use Rattle.exchange.proofs.refusal.Reads as refusal-reads
+use Rattle.answers.proofs.refusal.Reads as refusal-reads
 use Rattle.reports.proofs.same.Reads as same-reads
 
 same-requires : tie.Need-same-requires

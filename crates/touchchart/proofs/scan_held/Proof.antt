@@ -4,7 +4,7 @@ use mathlib.Core.Option.{none}
 use Rattle.model.specs.Calls.{scanCall}
 use Rattle.sheet.specs.Sheets as sheets
 use Rattle.sheet.specs.Answers.{scannedAs}
-use Rattle.exchange.proofs.Steps.{wrapped-off, wrapped-at}
+use Rattle.answers.proofs.Steps.{wrapped-off, wrapped-at}
 use Rattle.touchchart.specs.Interface.{tripleValue, scanValue}
 use Rattle.touchchart.proofs.Answers.{scanned-off, scanned-at, scanned-inside, triple-whole}
 use native.Mathlib.Omega.{arith}
@@ -13,7 +13,7 @@ use Rattle.touchchart.proofs.scan_held.Statement.{statement}
 use Rattle.touchchart.proofs.scan_held.Tie as tie
 use Rattle.touchchart.proofs.scan_held.Reads as reads
 use Rattle.touchchart.proofs.scan_held.Lts as lts
-use Rattle.exchange.proofs.refusal.Reads as refusal-reads
+use Rattle.answers.proofs.refusal.Reads as refusal-reads
 use Rattle.reports.proofs.scan.Reads as scan-reads
 use Rattle.touchchart.proofs.triple_value.Reads as triple-value-reads
 

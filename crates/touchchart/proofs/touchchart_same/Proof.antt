@@ -7,9 +7,9 @@ use Rattle.touchchart.proofs.touchchart_same.Statement.{statement}
 use Rattle.touchchart.proofs.touchchart_same.Tie as tie
 use Rattle.touchchart.proofs.touchchart_same.Reads as reads
 use Rattle.touchchart.proofs.touchchart_same.Lts as lts
-use Rattle.exchange.proofs.followed.Reads as followed-reads
+use Rattle.answers.proofs.followed.Reads as followed-reads
 use Rattle.exchange.proofs.hand_over.Reads as hand-over-reads
-use Rattle.exchange.proofs.refusal.Reads as refusal-reads
+use Rattle.answers.proofs.refusal.Reads as refusal-reads
 use Rattle.touchchart.proofs.compare_held.Reads as compare-held-reads
 
 hand-over-requires : tie.Need-hand-over-requires

@@ -8,7 +8,7 @@ use Rattle.touchchart.proofs.touchchart_scan.Tie as tie
 use Rattle.touchchart.proofs.touchchart_scan.Reads as reads
 use Rattle.touchchart.proofs.touchchart_scan.Lts as lts
 use Rattle.exchange.proofs.hand_over.Reads as hand-over-reads
-use Rattle.exchange.proofs.refusal.Reads as refusal-reads
+use Rattle.answers.proofs.refusal.Reads as refusal-reads
 use Rattle.touchchart.proofs.scan_held.Reads as scan-held-reads
 
 hand-over-requires : tie.Need-hand-over-requires

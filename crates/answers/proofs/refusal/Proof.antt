@@ -1,9 +1,9 @@
 -- refusal meets its contract.
 use borrow.Author.Needs.{needs}
-use Rattle.exchange.proofs.refusal.Statement.{statement}
-use Rattle.exchange.proofs.refusal.Tie as tie
-use Rattle.exchange.proofs.refusal.Reads as reads
-use Rattle.exchange.proofs.refusal.Lts as lts
+use Rattle.answers.proofs.refusal.Statement.{statement}
+use Rattle.answers.proofs.refusal.Tie as tie
+use Rattle.answers.proofs.refusal.Reads as reads
+use Rattle.answers.proofs.refusal.Lts as lts
 
 mul-wrapping-add-u64 : tie.Need-mul-wrapping-add-u64
 mul-wrapping-add-u64 c = search needs

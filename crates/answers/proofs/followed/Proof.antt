@@ -1,12 +1,12 @@
 -- followed meets its contract.
 use mathlib.Core.Path.{ap}
 use Rattle.sheet.specs.Answers.{answerAs}
-use Rattle.exchange.proofs.Steps.{turn-off, turn-on}
+use Rattle.answers.proofs.Steps.{turn-off, turn-on}
 use borrow.Author.Needs.{needs}
-use Rattle.exchange.proofs.followed.Statement.{statement}
-use Rattle.exchange.proofs.followed.Tie as tie
-use Rattle.exchange.proofs.followed.Reads as reads
-use Rattle.exchange.proofs.followed.Lts as lts
+use Rattle.answers.proofs.followed.Statement.{statement}
+use Rattle.answers.proofs.followed.Tie as tie
+use Rattle.answers.proofs.followed.Reads as reads
+use Rattle.answers.proofs.followed.Lts as lts
 
 enum-told : tie.Need-enum-told
 enum-told c = search needs
