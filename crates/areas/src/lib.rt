@@ -2,8 +2,6 @@
 ghost use mathlib.Core.Path.{_≡_};
 ghost use mathlib.Core.List.{[], _∷_};
 ghost use lib.IntN.{subℕ};
-ghost use Prim.Native.Nat.{_<_, _^_};
-ghost use lib.ListN.{getD};
 ghost use Rattle.model.specs.Geometry.{positive, isZero, area};
 ghost use Rattle.areas.specs.Corners.{points, negative, cornerAt, counterclockwise, flat, clockwise};
 
@@ -24,19 +22,13 @@ pub fn corner(ax: u16, ay: u16, bx: u16, by: u16, cx: u16, cy: u16) -> i64
     difference(bx, ax) * difference(cy, ay) - difference(cx, ax) * difference(by, ay)
 }
 
-// The number at i.
-fn word(a: &[u16], i: usize) -> u16
-    ensures { λ r. ⌜ r ≡ getD (now (a .entry)) i 0 ⌝ }
-    ensures { λ r. ⌜ r < 2 ^ 16 ⌝ }
-{
-    if i < a.len() { a[i] } else { 0 }
-}
-
 // Doubled area of the face a, b, c of the chart whose points are in two arrays.
 pub fn area_of<'a>(xs: &'a [u16], ys: &'a [u16], a: usize, b: usize, c: usize) -> i64
     ensures { λ r. ⌜ r ≡ area (points (now (xs .entry)) (now (ys .entry))) (a ∷ b ∷ c ∷ []) ⌝ }
 {
-    let ax = word(xs, a);
-    let ay = word(ys, a);
-    corner(ax, ay, word(xs, b), word(ys, b), word(xs, c), word(ys, c))
+    let ax = lists::word(xs, a);
+    let ay = lists::word(ys, a);
+    let bx = lists::word(xs, b);
+    let by = lists::word(ys, b);
+    corner(ax, ay, bx, by, lists::word(xs, c), lists::word(ys, c))
 }

@@ -17,7 +17,8 @@ use Rattle.sheet.specs.Answers.{answerOf, after}
 use Rattle.opening.specs.Opening.{lentOf}
 use Rattle.files.specs.Files.{copied, copiedBack}
 use Rattle.sheet.proofs.Packed.{reads-packed}
-use Rattle.opening.proofs.Opened.{restOf, judge-parts, sheet-held}
+use Rattle.judging.specs.Rules.{rulesFrom8}
+use Rattle.opening.proofs.Opened.{judge-parts, sheet-held}
 
 -- the refusal of the open call
 pub back-early : (b buffer : List ℕ) (k at : ℕ) → refused k at ≡ answerOf (openCall b) → refused k at ≡ copiedBack b buffer
@@ -45,6 +46,6 @@ back-late b buffer first t y e f = ap (λ (r : Sheet). writeCall (reads r) buffe
     go (accepted s) d g =
         let (is, ok) = open-accepted b s d in
         let fit = read-fits b s is in
-        let kept = then-accepted (lentOf s) (restOf s) tt (sym (judge-parts s) ∙ ok) .0 in
+        let kept = then-accepted (lentOf s) (rulesFrom8 s) tt (sym (judge-parts s) ∙ ok) .0 in
         ap (λ (r : file.Sheet). writeCall r buffer) (reads-packed s (sheet-held s fit (sym kept))) ∙ write-fits s b buffer fit (read-written b s y is)
     go (refused k at) d g = not-both (sym g)

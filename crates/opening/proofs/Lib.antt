@@ -1,4 +1,4 @@
-pub mod Judging
+pub mod Lent
 pub mod Copies
 pub mod Opened
 pub mod Quick

@@ -1,16 +1,15 @@
 -- A file that was framed, judged in parts and copied is opened as the model opens it.
-use Prim.Native.Nat.{ℕ, zero, suc, _+_, _-_, _*_, _≤_}
+use Prim.Native.Nat.{ℕ, zero, suc, _+_, _*_, _≤_}
 use mathlib.Core.Path.{_≡_, refl, sym, ap, _∙_, subst}
 use mathlib.Core.List.{List, [], _∷_, map}
-use mathlib.Core.Bool.{Bool, true, false, cond, not}
+use mathlib.Core.Bool.{true}
 use native.Mathlib.Omega.{arith}
-use lib.ListN.{length, getD, drop, replicate, length-append}
+use lib.ListN.{length, getD, drop, replicate}
 use lib.Dec.{eqb}
-use borrow.Author.Tests.{eqb-true, le-leb}
+use borrow.Author.Tests.{eqb-true}
 use Rattle.lists.specs.Ranges.{from}
 use Rattle.lists.specs.Parts.{concat, pairs}
 use Rattle.lists.specs.Spans.{stretch, zeros, padded}
-use Rattle.lists.proofs.Spans.{length-zeros}
 use Rattle.lists.proofs.Loops.{padded-none}
 use Rattle.model.specs.Outcome.{Outcome, accepted, refused, passed, require, rule, _>>=_, _>>_}
 use Rattle.model.specs.Plan.{Plan, count, badEntry, badRepeat, unreturned, entryCount, dartCount, badBorder, badFace, planRules}
@@ -22,26 +21,24 @@ use Rattle.model.specs.Calls.{judge, openCall}
 use Rattle.model.proofs.Outcomes.{not-both, same-refusal, then-accepted, require-passed, rule-passes}
 use Rattle.model.proofs.FileWrite.{PlanFits, Fits}
 use Rattle.model.proofs.FileRead.{read-fits}
-use Rattle.rings.specs.Tables.{startOf, startsOf, table, inBounds}
+use Rattle.rings.specs.Tables.{startOf, startsOf}
 use Rattle.rings.specs.Lent.{wordsAt, bodyAt, lent}
 use Rattle.lent.proofs.Rings.{length-words-at, getD-words-at, count-lent}
 use Rattle.lent.proofs.Copied.{entry-count-lent}
-use Rattle.placement.specs.Drawing.{chartOn, chartFor, drawnAs}
-use Rattle.placement.specs.declared.Drawn.{Drawn}
 use Rattle.framing.specs.Offsets.{wordAt}
 use Rattle.framing.specs.Layouts.{planIn, labelsIn, chartFrom, foundAs, sheetIn, tidyAs, tidied, Enough}
 use Rattle.framing.specs.declared.Found.{Found}
 use Rattle.framing.specs.declared.Found.the-variants as Found
 use Rattle.framing.specs.declared.Layout.{Layout}
 use Rattle.sheet.specs.declared.Sheet.{Sheet}
-use Rattle.sheet.specs.declared.Stage.{Stage}
 use Rattle.sheet.specs.declared.Stage.the-variants.{Open, Labelled, Charted}
-use Rattle.sheet.specs.Sheets.{heldPlan, pack, noChart, packed}
+use Rattle.sheet.specs.Sheets.{reads, pack, noChart, packed}
 use Rattle.sheet.specs.Answers.{answerOf, after}
-use Rattle.opening.specs.Opening.{lentRules, flatRules, chartRules, lentOf, lentIn, labelChartRules, drawnRules, heldRules, Roomy, replaced, everyFour}
+use Rattle.opening.specs.Opening.{lentRules, lentOf, lentIn, replaced, everyFour}
 use Rattle.fit.specs.Fits.{fit}
-use Rattle.fit.proofs.Fits.{fit-says, says-fit}
-use Rattle.sheet.proofs.Packed.{Held, count-packed, plan-packed, labels-packed, chart-packed}
+use Rattle.fit.proofs.Fits.{says-fit}
+use Rattle.sheet.proofs.Packed.{Held, reads-packed}
+use Rattle.judging.specs.Rules.{flatRules, chartRules, flatOf, rulesFrom10, rulesFrom8}
 
 -- ---- the rules in parts are the rules
 in-parts : (a b c d e : Outcome (Unit {0})) → (a >> (b >> (c >> (d >> e)))) ≡ ((a >> (b >> (c >> d))) >> e)
@@ -60,17 +57,14 @@ plan-parts p =
     let n = count p in
     in-parts (rule 4 n (badEntry p)) (rule 5 n (badRepeat p)) (rule 6 n (unreturned p)) (require (eqb (entryCount p) (dartCount n)) 7 0) (rule 8 4 (badBorder p) >> rule 9 n (badFace p))
 
--- 8 to 12 of a sheet
-unfoldable pub restOf : file.Sheet → Outcome (Unit {0})
-restOf file.fresh = passed
-restOf (file.opened p) = flatRules (count p) p
-restOf (file.labelled p ls) = flatRules (count p) p >> labelRules p ls
-restOf (file.charted p ls c) = flatRules (count p) p >> (labelRules p ls >> chartRules p ls c)
+then-passed : (a : Outcome (Unit {0})) → (a >> passed) ≡ a
+then-passed (accepted t) = refl
+then-passed (refused k at) = refl
 
-pub judge-parts : (s : file.Sheet) → judge s ≡ (lentOf s >> restOf s)
-unfolding judge lentOf restOf chartRules
+pub judge-parts : (s : file.Sheet) → judge s ≡ (lentOf s >> rulesFrom8 s)
+unfolding judge lentOf flatOf rulesFrom10 rulesFrom8 chartRules
 judge-parts file.fresh = refl
-judge-parts (file.opened p) = plan-parts p
+judge-parts (file.opened p) = plan-parts p ∙ ap (λ (o : Outcome (Unit {0})). lentRules (count p) p >> o) (sym (then-passed (flatRules (count p) p)))
 judge-parts (file.labelled p ls) =
     ap (λ (o : Outcome (Unit {0})). o >> labelRules p ls) (plan-parts p) ∙ then-then (lentRules (count p) p) (flatRules (count p) p) (labelRules p ls)
 judge-parts (file.charted p ls c) =
@@ -106,55 +100,7 @@ sheet-held (file.opened p) f e = plan-held p f e
 sheet-held (file.labelled p ls) f e = (plan-held p (f .0) e, f .1 ∙ sym (total-due (count p) p e))
 sheet-held (file.charted p ls c) f e = (plan-held p (f .0) e, f .1 ∙ sym (total-due (count p) p e), record { xs-each = f .2 .xs-each; ys-each = f .2 .ys-each })
 
--- ---- the rules of a packed sheet are the sheet's
-n-packed : (g : Stage) (rs : List (List ℕ)) (ls : List ℕ) (c : Chart) → pack g rs ls c .n ≡ length rs
-unfolding pack
-n-packed g rs ls c = refl
-
-flat-packed : (g : Stage) (p : Plan) (ls : List ℕ) (c : Chart) → fit p ≡ true → flatRules (pack g (p .rings) ls c .n) (heldPlan (pack g (p .rings) ls c)) ≡ flatRules (count p) p
-flat-packed g p ls c h = λ i. flatRules (n-packed g (p .rings) ls c i) (plan-packed g p ls c h i)
-
-then-passed : (a : Outcome (Unit {0})) → (a >> passed) ≡ a
-then-passed (accepted t) = refl
-then-passed (refused k at) = refl
-
-rules-packed : (s : file.Sheet) → Held s → Fits s → heldRules (packed s .stage) (packed s) ≡ restOf s
-unfolding packed restOf heldRules drawnRules labelChartRules pack
-rules-packed file.fresh h f = absurd f
-rules-packed (file.opened p) h f = then-passed (flatRules (count p) (heldPlan (pack Open (p .rings) [] noChart))) ∙ flat-packed Open p [] noChart h
-rules-packed (file.labelled p ls) h f =
-    let k = h .0 in
-    λ i. flat-packed Labelled p ls noChart k i >> labelRules (plan-packed Labelled p ls noChart k i) (labels-packed Labelled p ls noChart k (h .1) i)
-rules-packed (file.charted p ls c) h f =
-    let k = h .0 in
-    λ i.
-    flat-packed Charted p ls c k i
-    >> (labelRules (plan-packed Charted p ls c k i) (labels-packed Charted p ls c k (h .1) i)
-    >> chartRules (plan-packed Charted p ls c k i) (labels-packed Charted p ls c k (h .1) i) (chart-packed Charted p ls c k (h .2) i))
-
-length-padded : (k : ℕ) (l : List ℕ) → length l ≤ k → length (padded k l) ≡ k
-unfolding padded
-length-padded k l h = length-append l (zeros (k - length l)) ∙ (let z = length-zeros (k - length l) in omega arith)
-
-pack-roomy : (g : Stage) (p : Plan) (ls : List ℕ) (c : Chart) → fit p ≡ true → 5 ≤ count p → length ls ≤ 1186 → Roomy (pack g (p .rings) ls c)
-pack-roomy g p ls c h low fit =
-    let m = fit-says p h .few in
-    let k = fit-says p h .room in
-    let e = n-packed g (p .rings) ls c in
-    let q = count-packed g p ls c h in
-    record { some = omega arith; few = omega arith; room = omega arith; long = labels-long }
-  where
-    labels-long : length (pack g (p .rings) ls c .labels) ≡ 1186
-    labels-long = unfold pack in length-padded 1186 ls fit
-
-roomy : (s : file.Sheet) → Held s → Fits s → Roomy (packed s)
-unfolding packed
-roomy file.fresh h f = absurd f
-roomy (file.opened p) h f = pack-roomy Open p [] noChart h (f .low) (omega arith)
-roomy (file.labelled p ls) h f = let e = h .1 in let m = fit-says p (h .0) .room in pack-roomy Labelled p ls noChart (h .0) (f .0 .low) (omega arith)
-roomy (file.charted p ls c) h f = let e = h .1 in let m = fit-says p (h .0) .room in pack-roomy Charted p ls c (h .0) (f .0 .low) (omega arith)
-
--- a judgement, and the sheet it leaves
+-- ---- a judgement, and the sheet it leaves
 as-answer : (j : Outcome (Unit {0})) (s : file.Sheet) → j ≡ answerOf (j >> accepted s)
 unfolding answerOf
 as-answer (accepted t) s = refl
@@ -177,28 +123,19 @@ module _ (b : List ℕ) (o : Outcome file.Sheet) (is : o ≡ decode b) where
       go (accepted s) f = rw (judge-parts s, ← f)
 
   module _ (ok : passed ≡ lentIn o) (old copy : Sheet) (put : copy ≡ after old o) where
-    -- what was copied fits
-    pub copy-roomy : Roomy copy
-    unfolding lentIn after
-    copy-roomy = subst Roomy (sym put) (go o (sym is) ok)
-      where
-        go : (q : Outcome file.Sheet) → decode b ≡ q → passed ≡ (q >>= lentOf) → Roomy (after old q)
-        go (refused j t) d f = not-both (sym f)
-        go (accepted s) d f = let fit = read-fits b s d in roomy s (sheet-held s fit f) fit
-
     abbrev Answers : Sheet → Type 0
-    Answers t = (heldRules (t .stage) t ≡ answerOf (openCall b)) × ((first : Sheet) → replaced (heldRules (t .stage) t) first t ≡ after first (openCall b))
+    Answers t = (rulesFrom8 (reads t) ≡ answerOf (openCall b)) × ((first : Sheet) → replaced (rulesFrom8 (reads t)) first t ≡ after first (openCall b))
 
     -- 8 to 12 decide
     pub open-late : Answers copy
-    unfolding openCall lentIn after replaced
+    unfolding openCall lentIn after
     open-late = subst Answers (sym put) (go o (sym is) ok)
       where
         go : (q : Outcome file.Sheet) → decode b ≡ q → passed ≡ (q >>= lentOf) → Answers (after old q)
         go (refused j t) d f = not-both (sym f)
         go (accepted s) d f =
             let fit = read-fits b s d in
-            let rules : heldRules (packed s .stage) (packed s) ≡ judge s = rules-packed s (sheet-held s fit f) fit ∙ sym (judge-parts s ∙ ap (λ (l : Outcome (Unit {0})). l >> restOf s) (sym f)) in
+            let rules : rulesFrom8 (reads (packed s)) ≡ judge s = ap rulesFrom8 (reads-packed s (sheet-held s fit f)) ∙ sym (judge-parts s ∙ ap (λ (l : Outcome (Unit {0})). l >> rulesFrom8 s) (sym f)) in
             let call : openCall b ≡ (judge s >> accepted s) = ap (λ (r : Outcome file.Sheet). r >>= λ (t : file.Sheet). judge t >> accepted t) d in (
               rules ∙ as-answer (judge s) s ∙ ap answerOf (sym call),
               λ first. ap (λ (r : Outcome (Unit {0})). replaced r first (packed s)) rules ∙ as-sheet (judge s) first s ∙ ap (after first) (sym call),
@@ -359,40 +296,3 @@ module _ (b sizes es : List ℕ) (n : ℕ) (whole : sizes ≡ padded 200 (stretc
     xs = (x ∙ ap (padded 200) (xs-in b at n)) i;
     ys = (y ∙ ap (padded 200) (ys-in b at n)) i;
   }
-
--- ---- 11 and 12
-not-yes : (a : Bool) → not a ≡ true → a ≡ false
-not-yes true e = sym e
-not-yes false e = refl
-
-not-no : (a : Bool) → not a ≡ false → a ≡ true
-not-no true e = refl
-not-no false e = sym e
-
-module _ (sizes es : List ℕ) (n : ℕ) (ls : List ℕ) (few : n ≤ 200) (room : startOf sizes n ≤ 1186) where
-  chart-for : chartFor sizes es n ls ≡ chart (table sizes es n) ls
-  unfolding chartFor inBounds chart
-  chart-for = rw (le-leb n 200 few, le-leb (startOf sizes n) 1186 room)
-
-  module _ (r : Drawn) (is : drawnAs r n ≡ chartFor sizes es n ls) (c : Chart) where
-    abbrev Drew : Chart
-    Drew = chartOn n (r .w) (r .h) (r .xs) (r .ys)
-
-    told : (t : Bool) → r .found ≡ t → cond t (accepted Drew) (refused 11 0) ≡ chart (table sizes es n) ls
-    unfolding drawnAs
-    told t e = ap (λ (q : Bool). cond q (accepted Drew) (refused 11 0)) (sym e) ∙ is ∙ chart-for
-
-    abbrev Compare : Outcome Chart → Outcome (Unit {0})
-    Compare o = o >>= λ (d : Chart). require (sameChart c d) 12 0
-
-    pub eleven-refused : not (r .found) ≡ true → refused 11 0 ≡ chartRules (table sizes es n) ls c
-    unfolding chartRules
-    eleven-refused e = ap Compare (told false (not-yes (r .found) e))
-
-    pub twelve-refused : not (r .found) ≡ false → {t : Bool} → t ≡ sameChart c Drew → t ≡ false → refused 12 0 ≡ chartRules (table sizes es n) ls c
-    unfolding chartRules
-    twelve-refused e q f = ap (λ (t : Bool). require t 12 0) (sym f ∙ q) ∙ ap Compare (told true (not-no (r .found) e))
-
-    pub chart-kept : not (r .found) ≡ false → {t : Bool} → t ≡ sameChart c Drew → t ≡ true → passed ≡ chartRules (table sizes es n) ls c
-    unfolding chartRules
-    chart-kept e q f = ap (λ (t : Bool). require t 12 0) (sym f ∙ q) ∙ ap Compare (told true (not-no (r .found) e))

@@ -2,7 +2,7 @@
 use Prim.Native.Nat.{ℕ, _-_, _*_, _≤_, _<_, min}
 use mathlib.Core.Path.{_≡_, refl, sym, ap, _∙_, subst}
 use mathlib.Core.List.{List, [], map}
-use mathlib.Core.Bool.{true, false}
+use mathlib.Core.Bool.{Bool, true, false, cond}
 use native.Mathlib.Omega.{arith}
 use lib.ListN.{length}
 use lib.Dec.{eqb, leb}
@@ -15,7 +15,6 @@ use Rattle.model.specs.Plan.{Plan, count, dartCount}
 use Rattle.model.specs.Chart.{Chart}
 use Rattle.model.specs.File as file
 use Rattle.rings.specs.Tables.{startOf, startsOf, table}
-use Rattle.rings.proofs.Rows.{count-rows}
 use Rattle.lent.proofs.Rings.{count-lent}
 use Rattle.lent.proofs.Copied.{copied-padded, entry-count-lent}
 use Rattle.framing.specs.Layouts.{planIn, labelsIn, chartFrom, foundAs, sheetIn, tidyAs, tidied}
@@ -24,13 +23,15 @@ use Rattle.framing.specs.declared.Found.the-variants as Found
 use Rattle.framing.specs.declared.Layout.{Layout}
 use Rattle.sheet.specs.declared.Sheet.{Sheet}
 use Rattle.sheet.specs.declared.Stage.{Stage}
-use Rattle.sheet.specs.declared.Stage.the-variants.{Open, Labelled, Charted}
-use Rattle.sheet.specs.Sheets.{heldPlan, pack, noChart, packed}
+use Rattle.sheet.specs.declared.Stage.the-variants.{Empty, Open, Labelled, Charted}
+use Rattle.sheet.specs.Sheets.{heldPlan, held, fits, reads, pack, noChart, packed}
 use Rattle.sheet.specs.Answers.{after}
 use Rattle.sound.specs.Sound.{sound}
 use Rattle.sound.proofs.Sound.{four-kept, five-kept, six-kept, eight-kept, nine-kept}
-use Rattle.opening.specs.Opening.{lentRules, flatRules, lentOf, lentIn, drawnRules, heldRules, due, LaidOut}
-use Rattle.opening.proofs.Judging.{lent-passed, flat-passed, first-passed}
+use Rattle.opening.specs.Opening.{lentRules, lentOf, lentIn, due, LaidOut}
+use Rattle.judging.specs.Rules.{flatRules, flatOf, rulesFrom10, rulesFrom8}
+use Rattle.judging.proofs.Rules.{flat-passed, first-passed}
+use Rattle.opening.proofs.Lent.{lent-passed}
 use Rattle.opening.proofs.Opened.{There, sizes-found, sizes-lent}
 
 -- ---- the tests as the code makes them
@@ -55,17 +56,20 @@ pub due-room : (sizes : List ℕ) (n : ℕ) → n ≤ 200 → due sizes n ≡ tr
 due-room sizes n few e = let (a, b) = due-says sizes n few e in omega arith
 
 -- 8 and 9
-quick-flat : (t : Sheet) → sound (heldPlan t) ≡ true → passed ≡ flatRules (t .n) (heldPlan t)
-unfolding heldPlan table
-quick-flat t e =
-    let p = heldPlan t in
-    let size = count-rows (startsOf (t .sizes)) (t .sizes) (t .entries) (t .n) in
-    flat-passed (count p) p refl (eight-kept p e) (nine-kept p e) (omega arith) ∙ ap (λ (n : ℕ). flatRules n p) size
+quick-flat : (p : Plan) → sound p ≡ true → passed ≡ flatRules (count p) p
+quick-flat p e = flat-passed (count p) p refl (eight-kept p e) (nine-kept p e) (omega arith)
 
 -- so 10 to 12 are what is left
-pub quick-held : (t : Sheet) → sound (heldPlan t) ≡ true → drawnRules (t .stage) t ≡ heldRules (t .stage) t
-unfolding heldRules
-quick-held t e = first-passed (flatRules (t .n) (heldPlan t)) (drawnRules (t .stage) t) (quick-flat t e) refl
+pub quick-held : (t : Sheet) → sound (heldPlan t) ≡ true → rulesFrom10 (reads t) ≡ rulesFrom8 (reads t)
+unfolding reads held flatOf rulesFrom8
+quick-held t e = first-passed (flatOf (reads t)) (rulesFrom10 (reads t)) (go (fits t) (t .stage)) refl
+  where
+    go : (b : Bool) (g : Stage) → passed ≡ flatOf (cond b (held g t) file.fresh)
+    go false g = refl
+    go true Empty = refl
+    go true Open = quick-flat (heldPlan t) e
+    go true Labelled = quick-flat (heldPlan t) e
+    go true Charted = quick-flat (heldPlan t) e
 
 -- ---- the plan of what is copied is the plan in the file
 module _ (b sizes : List ℕ) (n : ℕ) (few : n ≤ 200) where

@@ -1,4 +1,5 @@
 // Open: a file whose plan is sound is judged at once, any other part by part; what it holds replaces the sheet.
+use sheet::Answer;
 use sheet::Outcome;
 use sheet::Sheet;
 use sheet::Stage;
@@ -7,84 +8,48 @@ ghost use mathlib.Core.Bool.{true};
 ghost use Prim.Native.Nat.{_<_, _≤_, _^_};
 ghost use Rattle.lists.specs.Parts.{concat};
 ghost use Rattle.lists.specs.Spans.{stretch, padded};
-ghost use Rattle.model.specs.Labels.{labelRules};
-ghost use Rattle.placement.specs.Drawing.{chartOn};
 ghost use Rattle.model.specs.File.{fresh, opened, labelled, charted, decode};
 ghost use Rattle.model.specs.Calls.{openCall};
-ghost use Rattle.rings.specs.Tables.{startOf, startsOf, table};
+ghost use Rattle.rings.specs.Tables.{startOf, startsOf};
 ghost use Rattle.sound.specs.Sound.{sound};
 ghost use Rattle.framing.specs.Layouts.{planIn, labelsIn, chartFrom, sheetIn};
-ghost use Rattle.sheet.specs.Sheets.{heldPlan, heldLabels, heldChart, packed};
+ghost use Rattle.sheet.specs.Sheets.{heldPlan, packed};
 ghost use Rattle.sheet.specs.Answers.{answerAs, answerOf, after};
-ghost use Rattle.opening.specs.Opening.{judgedAs, lentRules, flatRules, chartRules, lentIn, labelChartRules, drawnRules, heldRules, due, Roomy, LaidOut, replaced, everyFour};
-
-// What rules say: they are kept, or the refusal's number and place.
-enum Judged {
-    Passed,
-    Refused(u8, usize),
-}
+ghost use Rattle.opening.specs.Opening.{lentRules, lentIn, due, LaidOut, replaced, everyFour};
 
 // 4 to 7, where the rings stand in the file and begin at these starts.
-fn lent_rules<'a>(file: &'a [u8], starts: &'a [u16], sizes: &'a [u8], n: usize) -> Judged
+fn lent_rules<'a>(file: &'a [u8], starts: &'a [u16], sizes: &'a [u8], n: usize) -> Answer
     requires { ⌜ 5 ≤ n ⌝ }
     requires { ⌜ n ≤ 200 ⌝ }
     requires { ⌜ now starts ≡ startsOf (now sizes) ⌝ }
-    ensures { λ r. ⌜ judgedAs r ≡ lentRules n (planIn (now (file .entry)) (now (sizes .entry)) n) ⌝ }
+    ensures { λ r. ⌜ answerAs r ≡ lentRules n (planIn (now (file .entry)) (now (sizes .entry)) n) ⌝ }
 {
     let four = lent::rule4_place(file, starts, sizes, n);
     if four < n {
-        return Judged::Refused(4, four);
+        return Answer::Refused(4, four);
     }
     let five = lent::rule5_place(file, starts, sizes, n);
     if five < n {
-        return Judged::Refused(5, five);
+        return Answer::Refused(5, five);
     }
     let six = lent::rule6_place(file, starts, sizes, n);
     if six < n {
-        return Judged::Refused(6, six);
+        return Answer::Refused(6, six);
     }
     if fit::total_of(sizes, n) != 6 * n - 14 {
-        return Judged::Refused(7, 0);
+        return Answer::Refused(7, 0);
     }
-    Judged::Passed
+    Answer::Accepted
 }
 
 // 4 to 7, where the rings stand in the file.
-fn ring_rules<'a>(file: &'a [u8], sizes: &'a [u8], n: usize) -> Judged
+fn ring_rules<'a>(file: &'a [u8], sizes: &'a [u8], n: usize) -> Answer
     requires { ⌜ 5 ≤ n ⌝ }
     requires { ⌜ n ≤ 200 ⌝ }
-    ensures { λ r. ⌜ judgedAs r ≡ lentRules n (planIn (now (file .entry)) (now (sizes .entry)) n) ⌝ }
+    ensures { λ r. ⌜ answerAs r ≡ lentRules n (planIn (now (file .entry)) (now (sizes .entry)) n) ⌝ }
 {
     let starts = rings::starts_of(sizes);
     lent_rules(file, &starts, sizes, n)
-}
-
-// 8 and 9 in flat arrays, where the rings begin at these starts.
-fn flat_rules<'a>(starts: &'a [u16], sizes: &'a [u8], entries: &'a [u16], n: usize) -> Judged
-    requires { ⌜ now starts ≡ startsOf (now sizes) ⌝ }
-    ensures { λ r. ⌜ judgedAs r ≡ flatRules n (table (now (sizes .entry)) (now (entries .entry)) n) ⌝ }
-{
-    let eight = faces::rule8_place(starts, sizes, entries, n);
-    if eight < 4 {
-        return Judged::Refused(8, eight);
-    }
-    let nine = faces::rule9_place(starts, sizes, entries, n);
-    if nine < n {
-        return Judged::Refused(9, nine);
-    }
-    Judged::Passed
-}
-
-// 10 in flat arrays.
-fn label_rule<'a>(sizes: &'a [u8], entries: &'a [u16], n: usize, labels: &'a [u8]) -> Judged
-    requires { ⌜ n ≤ 200 ⌝ }
-    ensures { λ r. ⌜ judgedAs r ≡ labelRules (table (now (sizes .entry)) (now (entries .entry)) n) (now (labels .entry)) ⌝ }
-{
-    let ten = labels::rules::rules_place(sizes, entries, n, labels);
-    if ten < n {
-        return Judged::Refused(10, ten);
-    }
-    Judged::Passed
 }
 
 // The entries of all rings, in context order.
@@ -138,118 +103,6 @@ fn copy_chart(file: &[u8], at: usize, n: usize) -> [u16; 200]
         u += 1;
     }
     points
-}
-
-// 11 and 12 in flat arrays: the chart given is the plan's chart.
-fn chart_rule<'a>(
-    sizes: &'a [u8],
-    entries: &'a [u16],
-    n: usize,
-    labels: &'a [u8],
-    w: u16,
-    h: u16,
-    xs: &'a [u16],
-    ys: &'a [u16],
-) -> Judged
-    requires { ⌜ n ≤ 200 ⌝ }
-    requires { ⌜ startOf (now sizes) n ≤ 1186 ⌝ }
-    ensures { λ r. ⌜ judgedAs r ≡ chartRules (table (now (sizes .entry)) (now (entries .entry)) n) (now (labels .entry)) (chartOn n w h (now (xs .entry)) (now (ys .entry))) ⌝ }
-{
-    let drawn = placement::chart_of(sizes, entries, n, labels);
-    if !drawn.found {
-        return Judged::Refused(11, 0);
-    }
-    let dx = drawn.xs;
-    let dy = drawn.ys;
-    if placement::same_chart(n, w, h, xs, ys, drawn.w, drawn.h, &dx, &dy) {
-        return Judged::Passed;
-    }
-    Judged::Refused(12, 0)
-}
-
-// 8 and 9 of a sheet.
-fn flat_part(sheet: Sheet) -> Judged
-    ensures { λ r. ⌜ judgedAs r ≡ flatRules (sheet .n) (heldPlan sheet) ⌝ }
-{
-    let sizes = sheet.sizes;
-    let entries = sheet.entries;
-    let starts = rings::starts_of(&sizes);
-    flat_rules(&starts, &sizes, &entries, sheet.n as usize)
-}
-
-// 10 of a sheet.
-fn label_part(sheet: Sheet) -> Judged
-    requires { ⌜ Roomy sheet ⌝ }
-    ensures { λ r. ⌜ judgedAs r ≡ labelRules (heldPlan sheet) (heldLabels sheet) ⌝ }
-{
-    let n = sheet.n as usize;
-    let sizes = sheet.sizes;
-    let entries = sheet.entries;
-    let labels = sheet.labels;
-    let count = fit::total_of(&sizes, n);
-    label_rule(&sizes, &entries, n, &labels[0..count])
-}
-
-// 11 and 12 of a sheet.
-fn chart_part(sheet: Sheet) -> Judged
-    requires { ⌜ Roomy sheet ⌝ }
-    ensures { λ r. ⌜ judgedAs r ≡ chartRules (heldPlan sheet) (heldLabels sheet) (heldChart sheet) ⌝ }
-{
-    let n = sheet.n as usize;
-    let sizes = sheet.sizes;
-    let entries = sheet.entries;
-    let labels = sheet.labels;
-    let xs = sheet.xs;
-    let ys = sheet.ys;
-    let count = fit::total_of(&sizes, n);
-    chart_rule(
-        &sizes,
-        &entries,
-        n,
-        &labels[0..count],
-        sheet.w,
-        sheet.h,
-        &xs,
-        &ys,
-    )
-}
-
-// 10 of a sheet, then 11 and 12.
-fn charted_part(sheet: Sheet) -> Judged
-    requires { ⌜ Roomy sheet ⌝ }
-    ensures { λ r. ⌜ judgedAs r ≡ labelChartRules sheet ⌝ }
-{
-    let judged = label_part(sheet);
-    match judged {
-        Judged::Refused(number, place) => Judged::Refused(number, place),
-        Judged::Passed => chart_part(sheet),
-    }
-}
-
-// 10 to 12 of a sheet, as far as its stage has come.
-fn drawn_part(sheet: Sheet) -> Judged
-    requires { ⌜ Roomy sheet ⌝ }
-    ensures { λ r. ⌜ judgedAs r ≡ drawnRules (sheet .stage) sheet ⌝ }
-{
-    let stage = sheet.stage;
-    match stage {
-        Stage::Empty => Judged::Passed,
-        Stage::Open => Judged::Passed,
-        Stage::Labelled => label_part(sheet),
-        Stage::Charted => charted_part(sheet),
-    }
-}
-
-// 8 to 12 of a sheet, as far as its stage has come.
-fn held_rules(sheet: Sheet) -> Judged
-    requires { ⌜ Roomy sheet ⌝ }
-    ensures { λ r. ⌜ judgedAs r ≡ heldRules (sheet .stage) sheet ⌝ }
-{
-    let judged = flat_part(sheet);
-    match judged {
-        Judged::Refused(number, place) => Judged::Refused(number, place),
-        Judged::Passed => drawn_part(sheet),
-    }
 }
 
 // The sheet at stage OPEN that a file holds.
@@ -344,9 +197,9 @@ fn copy_sheet(file: &[u8], layout: framing::Layout) -> Sheet
 }
 
 // What framing refuses, then 4 to 7, where the rings stand in the file.
-fn lent_part(file: &[u8], layout: framing::Layout) -> Judged
+fn lent_part(file: &[u8], layout: framing::Layout) -> Answer
     requires { ⌜ LaidOut layout ⌝ }
-    ensures { λ r. ⌜ judgedAs r ≡ lentIn (sheetIn (now (file .entry)) layout) ⌝ }
+    ensures { λ r. ⌜ answerAs r ≡ lentIn (sheetIn (now (file .entry)) layout) ⌝ }
 {
     let found = layout.found;
     let n = layout.n;
@@ -355,18 +208,18 @@ fn lent_part(file: &[u8], layout: framing::Layout) -> Judged
         framing::Found::Opened => ring_rules(file, &sizes, n),
         framing::Found::Labelled => ring_rules(file, &sizes, n),
         framing::Found::Charted => ring_rules(file, &sizes, n),
-        framing::Found::Refused(number, place) => Judged::Refused(number, place),
+        framing::Found::Refused(number, place) => Answer::Refused(number, place),
     }
 }
 
 // The new sheet in place of the old one, if it was judged to keep the rules.
-fn replace(old: Sheet, new: Sheet, judged: Judged) -> Outcome
-    ensures { λ r. ⌜ answerAs (r .answer) ≡ judgedAs judged ⌝ }
-    ensures { λ r. ⌜ r .sheet ≡ replaced (judgedAs judged) old new ⌝ }
+fn replace(old: Sheet, new: Sheet, judged: Answer) -> Outcome
+    ensures { λ r. ⌜ answerAs (r .answer) ≡ answerAs judged ⌝ }
+    ensures { λ r. ⌜ r .sheet ≡ replaced (answerAs judged) old new ⌝ }
 {
     match judged {
-        Judged::Refused(number, place) => sheet::refuse(old, number, place),
-        Judged::Passed => sheet::accept(new),
+        Answer::Refused(number, place) => sheet::refuse(old, number, place),
+        Answer::Accepted => sheet::accept(new),
     }
 }
 
@@ -399,10 +252,10 @@ fn open_by_rules(sheet: Sheet, file: &[u8], layout: framing::Layout) -> Outcome
 {
     let judged = lent_part(file, layout);
     match judged {
-        Judged::Refused(number, place) => sheet::refuse(sheet, number, place),
-        Judged::Passed => {
+        Answer::Refused(number, place) => sheet::refuse(sheet, number, place),
+        Answer::Accepted => {
             let new = copy_sheet(file, layout);
-            replace(sheet, new, held_rules(new))
+            replace(sheet, new, judging::rules_from_8(new))
         }
     }
 }
@@ -417,7 +270,7 @@ fn open_at_once(sheet: Sheet, file: &[u8], layout: framing::Layout) -> Outcome
 {
     let new = copy_sheet(file, layout);
     if is_sound(new) {
-        return replace(sheet, new, drawn_part(new));
+        return replace(sheet, new, judging::rules_from_10(new));
     }
     open_by_rules(sheet, file, layout)
 }

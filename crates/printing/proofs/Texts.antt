@@ -25,8 +25,9 @@ use Rattle.sheet.specs.Sheets.{heldPlan, fits, reads, stageRead, rank, pack, pa
 use Rattle.sheet.specs.Answers.{answerOf, after}
 use Rattle.sheet.proofs.Reading.{plan-early, plan-there, fits-there, count-held, few}
 use Rattle.sheet.proofs.Packed.{reads-packed}
+use Rattle.judging.specs.Rules.{rulesFrom8}
 use Rattle.opening.specs.Opening.{lentOf}
-use Rattle.opening.proofs.Opened.{restOf, judge-parts, sheet-held}
+use Rattle.opening.proofs.Opened.{judge-parts, sheet-held}
 use Rattle.printing.specs.Text.{planLine, triangleLine, sizeLine, pointLine, pointLines, chartLines, refusalLine, told, chartText, sweepText, scanText, planText, fileText}
 
 -- ---- refusals
@@ -177,7 +178,7 @@ open-accepted-on b first t e q = go (openCall b) refl e q
     go (accepted s) d f r =
         let (is, ok) = open-accepted b s d in
         let fit = read-fits b s is in
-        let kept = then-accepted (lentOf s) (restOf s) tt (sym (judge-parts s) ∙ ok) .0 in
+        let kept = then-accepted (lentOf s) (rulesFrom8 s) tt (sym (judge-parts s) ∙ ok) .0 in
         let read = ap reads r ∙ reads-packed s (sheet-held s fit (sym kept)) in
         let (p, plan) = plan-of s fit in
         let there = ap planOf read ∙ plan in

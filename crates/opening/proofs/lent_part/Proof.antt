@@ -1,7 +1,8 @@
 -- lent_part meets its contract.
 use mathlib.Core.Path.{_≡_, refl, sym, ap, _∙_}
 use Rattle.framing.specs.declared.Found.the-variants.{Opened, Labelled, Charted, Refused}
-use Rattle.opening.specs.Opening.{judgedAs, lentOf, lentIn}
+use Rattle.sheet.specs.Answers.{answerAs}
+use Rattle.opening.specs.Opening.{lentOf, lentIn}
 use Rattle.opening.proofs.Opened.{enough-found, lent-found, lent-judged}
 use native.Mathlib.Omega.{arith}
 use borrow.Author.Needs.{needs}
@@ -42,25 +43,25 @@ enum-known-found : tie.Need-enum-known-found
 enum-known-found c = search needs
 
 returns : tie.Need-returns
-unfolding judgedAs lentOf lentIn
+unfolding answerAs lentOf lentIn
 returns c =
     let a = c .before .before .before .before .before .before .args in
     c .ring-rules .ensures ∙ lent-judged (a .file .now) (a .layout .sizes) (a .layout .n) ∙ ap lentIn (lent-found (a .file .now) (a .layout) Opened (c .before .before .enum-told .given .1))
 
 returns-2 : tie.Need-returns-2
-unfolding judgedAs lentOf lentIn
+unfolding answerAs lentOf lentIn
 returns-2 c =
     let a = c .before .before .before .before .before .before .args in
     c .ring-rules2 .ensures ∙ lent-judged (a .file .now) (a .layout .sizes) (a .layout .n) ∙ ap lentIn (lent-found (a .file .now) (a .layout) Labelled (c .before .before .enum-told2 .given .1))
 
 returns-3 : tie.Need-returns-3
-unfolding judgedAs lentOf lentIn
+unfolding answerAs lentOf lentIn
 returns-3 c =
     let a = c .before .before .before .before .before .before .args in
     c .ring-rules3 .ensures ∙ lent-judged (a .file .now) (a .layout .sizes) (a .layout .n) ∙ ap lentIn (lent-found (a .file .now) (a .layout) Charted (c .before .before .enum-told3 .given .1))
 
 returns-4 : tie.Need-returns-4
-unfolding judgedAs lentOf lentIn
+unfolding answerAs lentOf lentIn
 returns-4 c =
     let a = c .before .before .before .before .before .args in
     ap lentIn (lent-found (a .file .now) (a .layout) (Refused _ _) (c .before .found .given .1))

@@ -8,8 +8,8 @@ use Rattle.rings.specs.Tables.{startsOf}
 use Rattle.rings.specs.Lent.{lent}
 use Rattle.lent.proofs.Copied.{entry-count-lent}
 use Rattle.framing.specs.Layouts.{planIn}
-use Rattle.opening.specs.Opening.{judgedAs}
-use Rattle.opening.proofs.Judging.{four-refused, five-refused, six-refused, seven-refused, lent-passed}
+use Rattle.sheet.specs.Answers.{answerAs}
+use Rattle.opening.proofs.Lent.{four-refused, five-refused, six-refused, seven-refused, lent-passed}
 use Rattle.fit.proofs.Fits.{all-counted}
 use native.Mathlib.Omega.{arith}
 use borrow.Author.Needs.{needs}
@@ -26,7 +26,7 @@ rule4-place-requires : tie.Need-rule4-place-requires
 rule4-place-requires c κs = search needs
 
 returns : tie.Need-returns
-unfolding judgedAs
+unfolding answerAs
 returns c =
     let a = c .before .before .before .before .before .args in
     let s = c .before .before .before .before .before .pre .1 .1 in
@@ -37,7 +37,7 @@ rule5-place-requires : tie.Need-rule5-place-requires
 rule5-place-requires c κs = search needs
 
 returns-2 : tie.Need-returns-2
-unfolding judgedAs
+unfolding answerAs
 returns-2 c =
     let a = c .before .before .before .before .before .before .before .args in
     let s = c .before .before .before .before .before .before .before .pre .1 .1 in
@@ -48,7 +48,7 @@ rule6-place-requires : tie.Need-rule6-place-requires
 rule6-place-requires c κs = search needs
 
 returns-3 : tie.Need-returns-3
-unfolding judgedAs
+unfolding answerAs
 returns-3 c =
     let a = c .before .before .before .before .before .before .before .before .before .args in
     let s = c .before .before .before .before .before .before .before .before .before .pre .1 .1 in
@@ -65,7 +65,7 @@ sub-if4 : tie.Need-sub-if4
 sub-if4 c = search needs
 
 returns-4 : tie.Need-returns-4
-unfolding judgedAs
+unfolding answerAs
 returns-4 c =
     let a = c .before .before .before .before .before .before .before .before .before .before .before .args in
     let s = c .before .before .before .before .before .before .before .before .before .before .before .pre .1 .1 in
@@ -74,7 +74,7 @@ returns-4 c =
     seven-refused (a .n) p (c .before .before .before .before .before .before .before .rule4-place .ensures ∙ ap (λ (l : List ℕ). lowest (badEntry (lent l (a .sizes .now) (a .file .now) (a .n))) (a .n)) s) (c .before .before .before .before .before .before .if1 .left) (c .before .before .before .before .before .rule5-place .ensures ∙ ap (λ (l : List ℕ). lowest (badRepeat (lent l (a .sizes .now) (a .file .now) (a .n))) (a .n)) s) (c .before .before .before .before .if2 .left) (c .before .before .before .rule6-place .ensures ∙ ap (λ (l : List ℕ). lowest (unreturned (lent l (a .sizes .now) (a .file .now) (a .n))) (a .n)) s) (c .before .before .if3 .left) (entry-count-lent (startsOf (a .sizes .now)) (a .sizes .now) (a .file .now) (a .n) ∙ sym (all-counted (a .sizes .now) few (c .before .total-of .ensures .0))) (c .if4 .taken)
 
 returns-5 : tie.Need-returns-5
-unfolding judgedAs
+unfolding answerAs
 returns-5 c =
     let a = c .before .before .before .before .before .before .before .before .before .before .before .args in
     let s = c .before .before .before .before .before .before .before .before .before .before .before .pre .1 .1 in

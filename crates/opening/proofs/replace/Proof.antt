@@ -1,7 +1,8 @@
 -- replace meets its contract.
 use mathlib.Core.Path.{sym, ap, _∙_}
 use Rattle.model.specs.Outcome.{Outcome}
-use Rattle.opening.specs.Opening.{judgedAs, replaced}
+use Rattle.sheet.specs.Answers.{answerAs}
+use Rattle.opening.specs.Opening.{replaced}
 use borrow.Author.Needs.{needs}
 use Rattle.opening.proofs.replace.Statement.{statement}
 use Rattle.opening.proofs.replace.Tie as tie
@@ -23,17 +24,17 @@ accept-requires : tie.Need-accept-requires
 accept-requires c κs = search needs
 
 returns : tie.Need-returns
-unfolding judgedAs replaced
+unfolding answerAs replaced
 returns c =
     let a = c .before .before .before .before .args in
-    let e = sym (ap judgedAs (c .before .before .judged .given .1)) in
+    let e = sym (ap answerAs (c .before .before .judged .given .1)) in
     (c .refuse .ensures .0 ∙ e, c .refuse .ensures .1 ∙ ap (λ (o : Outcome (Unit {0})). replaced o (a .old) (a .new)) e)
 
 returns-2 : tie.Need-returns-2
-unfolding judgedAs replaced
+unfolding answerAs replaced
 returns-2 c =
     let a = c .before .before .before .args in
-    let e = sym (ap judgedAs (c .before .enum-told .given .1)) in
+    let e = sym (ap answerAs (c .before .enum-told .given .1)) in
     (c .accept .ensures .0 ∙ e, c .accept .ensures .1 ∙ ap (λ (o : Outcome (Unit {0})). replaced o (a .old) (a .new)) e)
 
 pub replace-spec : {M : Type 1} → statement M

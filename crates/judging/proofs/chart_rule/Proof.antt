@@ -1,13 +1,12 @@
 -- chart_rule meets its contract.
-use Rattle.opening.specs.Opening.{judgedAs}
+use Rattle.sheet.specs.Answers.{answerAs}
 use Rattle.placement.specs.Drawing.{chartOn}
-use Rattle.opening.proofs.Opened.{eleven-refused, twelve-refused, chart-kept}
-use native.Mathlib.Omega.{arith}
+use Rattle.judging.proofs.Rules.{eleven-refused, twelve-refused, chart-kept}
 use borrow.Author.Needs.{needs}
-use Rattle.opening.proofs.chart_rule.Statement.{statement}
-use Rattle.opening.proofs.chart_rule.Tie as tie
-use Rattle.opening.proofs.chart_rule.Reads as reads
-use Rattle.opening.proofs.chart_rule.Lts as lts
+use Rattle.judging.proofs.chart_rule.Statement.{statement}
+use Rattle.judging.proofs.chart_rule.Tie as tie
+use Rattle.judging.proofs.chart_rule.Reads as reads
+use Rattle.judging.proofs.chart_rule.Lts as lts
 use Rattle.placement.proofs.chart_of.Reads as chart-of-reads
 use Rattle.placement.proofs.same_chart.Reads as same-chart-reads
 
@@ -15,7 +14,7 @@ chart-of-requires : tie.Need-chart-of-requires
 chart-of-requires c κs = search needs
 
 returns : tie.Need-returns
-unfolding judgedAs
+unfolding answerAs
 returns c =
     let a = c .before .before .before .before .before .before .before .before .args in
     let r = c .before .before .chart-of in
@@ -32,7 +31,7 @@ same-chart-requires : tie.Need-same-chart-requires
 same-chart-requires c κs = search needs
 
 returns-2 : tie.Need-returns-2
-unfolding judgedAs
+unfolding answerAs
 returns-2 c =
     let a = c .before .before .before .before .before .before .before .before .before .before .before .before .before .before .args in
     let r = c .before .before .before .before .before .before .before .before .chart-of in
@@ -40,7 +39,7 @@ returns-2 c =
     chart-kept (a .sizes .now) (a .entries .now) (a .n) (a .labels .now) (c .before .before .before .before .before .before .before .before .before .before .before .before .before .before .pre .0) (c .before .before .before .before .before .before .before .before .before .before .before .before .before .before .pre .1) (r .result) (r .ensures .0) k (c .before .before .before .before .before .before .if1 .left) (c .before .same-chart .ensures) (c .if2 .taken)
 
 returns-3 : tie.Need-returns-3
-unfolding judgedAs
+unfolding answerAs
 returns-3 c =
     let a = c .before .before .before .before .before .before .before .before .before .before .before .before .before .before .args in
     let r = c .before .before .before .before .before .before .before .before .chart-of in

@@ -1,18 +1,17 @@
 -- flat_rules meets its contract.
-use mathlib.Core.Path.{_≡_, refl, sym, ap, _∙_}
+use mathlib.Core.Path.{ap, _∙_}
 use mathlib.Core.List.{List}
 use Prim.Native.Nat.{ℕ}
 use Rattle.lists.specs.Ranges.{lowest}
 use Rattle.model.specs.Plan.{badBorder, badFace}
 use Rattle.rings.specs.Tables.{rows, table}
-use Rattle.opening.specs.Opening.{judgedAs}
-use Rattle.opening.proofs.Judging.{eight-refused, nine-refused, flat-passed}
-use native.Mathlib.Omega.{arith}
+use Rattle.sheet.specs.Answers.{answerAs}
+use Rattle.judging.proofs.Rules.{eight-refused, nine-refused, flat-passed}
 use borrow.Author.Needs.{needs}
-use Rattle.opening.proofs.flat_rules.Statement.{statement}
-use Rattle.opening.proofs.flat_rules.Tie as tie
-use Rattle.opening.proofs.flat_rules.Reads as reads
-use Rattle.opening.proofs.flat_rules.Lts as lts
+use Rattle.judging.proofs.flat_rules.Statement.{statement}
+use Rattle.judging.proofs.flat_rules.Tie as tie
+use Rattle.judging.proofs.flat_rules.Reads as reads
+use Rattle.judging.proofs.flat_rules.Lts as lts
 use Rattle.faces.proofs.rule8_place.Reads as rule8-place-reads
 use Rattle.faces.proofs.rule9_place.Reads as rule9-place-reads
 
@@ -20,7 +19,7 @@ rule8-place-requires : tie.Need-rule8-place-requires
 rule8-place-requires c κs = search needs
 
 returns : tie.Need-returns
-unfolding judgedAs table
+unfolding answerAs table
 returns c =
     let a = c .before .before .before .before .before .args in
     let s = c .before .before .before .before .before .pre in
@@ -31,7 +30,7 @@ rule9-place-requires : tie.Need-rule9-place-requires
 rule9-place-requires c κs = search needs
 
 returns-2 : tie.Need-returns-2
-unfolding judgedAs table
+unfolding answerAs table
 returns-2 c =
     let a = c .before .before .before .before .before .before .before .args in
     let s = c .before .before .before .before .before .before .before .pre in
@@ -39,7 +38,7 @@ returns-2 c =
     nine-refused (a .n) p (c .before .before .before .rule8-place .ensures ∙ ap (λ (l : List ℕ). lowest (badBorder (rows l (a .sizes .now) (a .entries .now) (a .n))) 4) s) (c .before .before .if1 .left) (c .before .rule9-place .ensures ∙ ap (λ (l : List ℕ). lowest (badFace (rows l (a .sizes .now) (a .entries .now) (a .n))) (a .n)) s) (c .if2 .taken)
 
 returns-3 : tie.Need-returns-3
-unfolding judgedAs table
+unfolding answerAs table
 returns-3 c =
     let a = c .before .before .before .before .before .before .before .args in
     let s = c .before .before .before .before .before .before .before .pre in

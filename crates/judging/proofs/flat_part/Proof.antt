@@ -1,13 +1,12 @@
 -- flat_part meets its contract.
 use Rattle.sheet.specs.Sheets.{heldPlan}
-use native.Mathlib.Omega.{arith}
 use borrow.Author.Needs.{needs}
-use Rattle.opening.proofs.flat_part.Statement.{statement}
-use Rattle.opening.proofs.flat_part.Tie as tie
-use Rattle.opening.proofs.flat_part.Reads as reads
-use Rattle.opening.proofs.flat_part.Lts as lts
+use Rattle.judging.proofs.flat_part.Statement.{statement}
+use Rattle.judging.proofs.flat_part.Tie as tie
+use Rattle.judging.proofs.flat_part.Reads as reads
+use Rattle.judging.proofs.flat_part.Lts as lts
 use Rattle.rings.proofs.starts_of.Reads as starts-of-reads
-use Rattle.opening.proofs.flat_rules.Reads as flat-rules-reads
+use Rattle.judging.proofs.flat_rules.Reads as flat-rules-reads
 
 slice-aggregate-starts-of : tie.Need-slice-aggregate-starts-of
 slice-aggregate-starts-of c = search needs
