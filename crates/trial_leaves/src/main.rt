@@ -64,12 +64,12 @@ fn print_flat_rules<'a>(starts: &'a [u16], sizes: &'a [u8], entries: &'a [u16], 
 
 // The smallest triple of mutual neighbours that are no inner face.
 fn print_scan<'a>(starts: &'a [u16], sizes: &'a [u8], entries: &'a [u16], n: usize) {
-    let scanned = faces::scan::scan(starts, sizes, entries, n);
+    let scanned = triples::scan(starts, sizes, entries, n);
     match scanned {
-        faces::Scanned::Nothing => {
+        triples::Scanned::Nothing => {
             io::write_all(1, b" triangle none");
         }
-        faces::Scanned::Triple(a, b, c) => {
+        triples::Scanned::Triple(a, b, c) => {
             console::show(b" triangle #,#,#", a, b, c, 0, 0);
         }
     }
