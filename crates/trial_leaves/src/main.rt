@@ -223,7 +223,7 @@ fn print_labels<'a>(
         return;
     }
     let labels = framing::ring_part(file, at, lists::minus(6 * n, 14));
-    let ten = labels::rules::rules_place(sizes, entries, n, labels);
+    let ten = conditions::rules_place(sizes, entries, n, labels);
     console::show(b" 10:#", ten, 0, 0, 0, 0);
     if n <= ten {
         print_chart(file, sizes, entries, n, labels, chart);

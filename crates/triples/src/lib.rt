@@ -235,16 +235,30 @@ fn first_for<'a>(
     a
 }
 
+// The triple of the lowest first context, then the lowest second, then the lowest third, by the plan's own table of followers.
+fn scan_by<'a>(
+    table: &'a [u8],
+    starts: &'a [u16],
+    sizes: &'a [u8],
+    entries: &'a [u16],
+    n: usize,
+) -> Scanned
+    requires { ⌜ now table ≡ followersOf (rows (now starts) (now sizes) (now entries) n) ⌝ }
+    ensures { λ r. ⌜ scannedAs r ≡ scan (rows (now (starts .entry)) (now (sizes .entry)) (now (entries .entry)) n) ⌝ }
+{
+    let a = first_for(table, starts, sizes, entries, n);
+    if n <= a {
+        return Scanned::Nothing;
+    }
+    let b = second_for(table, starts, sizes, entries, n, a);
+    Scanned::Triple(a, b, third_for(table, starts, sizes, entries, n, a, b))
+}
+
 // The smallest triple a < b < c, by a, then b, then c, of mutual neighbours that are no inner face.
 pub fn scan<'a>(starts: &'a [u16], sizes: &'a [u8], entries: &'a [u16], n: usize) -> Scanned
     ensures { λ r. ⌜ scannedAs r ≡ scan (rows (now (starts .entry)) (now (sizes .entry)) (now (entries .entry)) n) ⌝ }
 {
     let mut table = [0u8; 40000];
     followers::fill(&mut table, starts, sizes, entries, n);
-    let a = first_for(&table, starts, sizes, entries, n);
-    if n <= a {
-        return Scanned::Nothing;
-    }
-    let b = second_for(&table, starts, sizes, entries, n, a);
-    Scanned::Triple(a, b, third_for(&table, starts, sizes, entries, n, a, b))
+    scan_by(&table, starts, sizes, entries, n)
 }

@@ -1,12 +1,12 @@
--- rules::breaks_at meets its contract.
+-- breaks_at meets its contract.
 use mathlib.Core.Path.{_∙_}
 use Rattle.rings.specs.Tables.{rows}
-use Rattle.labels.proofs.Places.{ring-there, around-there}
-use Rattle.labels.proofs.Breaks.{breaks-dart, breaks-due, breaks-runs}
+use Rattle.conditions.proofs.ByTable.{ring-there, around-there}
+use Rattle.conditions.proofs.Breaks.{breaks-dart, breaks-due, breaks-runs}
 use native.Mathlib.Omega.{arith}
 use borrow.Author.Needs.{needs}
-use Rattle.labels.proofs.rules.breaks_at.Statement.{statement}
-use Rattle.labels.proofs.rules.breaks_at.Tie as tie
+use Rattle.conditions.proofs.breaks_at.Statement.{statement}
+use Rattle.conditions.proofs.breaks_at.Tie as tie
 
 num-requires : tie.Need-num-requires
 num-requires c κs = search needs

@@ -1,13 +1,13 @@
--- rules::place_by meets its contract.
+-- place_by meets its contract.
 use mathlib.Core.Path.{sym, _∙_}
 use Prim.Native.Nat.{_-_}
 use Rattle.lists.proofs.Loops.{Looks, looks-start, looks-hit, looks-on, looks-end}
 use Rattle.rings.specs.Tables.{rows}
-use Rattle.labels.specs.LabelBy.{breaksBy}
+use Rattle.conditions.specs.LabelBy.{breaksBy}
 use native.Mathlib.Omega.{arith}
 use borrow.Author.Needs.{needs}
-use Rattle.labels.proofs.rules.place_by.Statement.{statement}
-use Rattle.labels.proofs.rules.place_by.Tie as tie
+use Rattle.conditions.proofs.place_by.Statement.{statement}
+use Rattle.conditions.proofs.place_by.Tie as tie
 
 abbrev Inv-loop : tie.InvT-loop
 Inv-loop places starts sizes entries n labels u₀ u = Looks (breaksBy places starts (rows starts sizes entries n) labels) n u

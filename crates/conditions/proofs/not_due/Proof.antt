@@ -1,9 +1,9 @@
--- rules::not_due meets its contract.
-use Rattle.labels.proofs.Breaks.{due-border, due-inner}
+-- not_due meets its contract.
+use Rattle.conditions.proofs.Breaks.{due-border, due-inner}
 use native.Mathlib.Omega.{arith}
 use borrow.Author.Needs.{needs}
-use Rattle.labels.proofs.rules.not_due.Statement.{statement}
-use Rattle.labels.proofs.rules.not_due.Tie as tie
+use Rattle.conditions.proofs.not_due.Statement.{statement}
+use Rattle.conditions.proofs.not_due.Tie as tie
 
 returns : tie.Need-returns
 returns c = due-border (c .before .before .args .places .now) (c .before .before .args .starts .now) (c .before .before .args .labels .now) (c .before .before .args .u) (c .before .before .args .v) (c .if1 .taken)

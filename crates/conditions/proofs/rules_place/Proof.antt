@@ -1,14 +1,14 @@
--- rules::rules_place meets its contract.
+-- rules_place meets its contract.
 use mathlib.Core.Path.{_∙_, refl}
 use Rattle.lists.specs.Ranges.{lowest}
 use Rattle.model.specs.Labels.{breaks}
 use Rattle.rings.specs.Tables.{table, held}
 use Rattle.places.proofs.Notes.{filled-zeros}
-use Rattle.labels.proofs.Breaks.{rules-own}
+use Rattle.conditions.proofs.Breaks.{rules-own}
 use native.Mathlib.Omega.{arith}
 use borrow.Author.Needs.{needs}
-use Rattle.labels.proofs.rules.rules_place.Statement.{statement}
-use Rattle.labels.proofs.rules.rules_place.Tie as tie
+use Rattle.conditions.proofs.rules_place.Statement.{statement}
+use Rattle.conditions.proofs.rules_place.Tie as tie
 
 starts-of-requires : tie.Need-starts-of-requires
 starts-of-requires c κs = search needs

@@ -1,10 +1,10 @@
--- rules::label_by meets its contract.
+-- label_by meets its contract.
 use mathlib.Core.Path.{_∙_}
-use Rattle.labels.proofs.Breaks.{label-high, label-wide, label-zero, label-place}
+use Rattle.conditions.proofs.Breaks.{label-high, label-wide, label-zero, label-place}
 use native.Mathlib.Omega.{arith}
 use borrow.Author.Needs.{needs}
-use Rattle.labels.proofs.rules.label_by.Statement.{statement}
-use Rattle.labels.proofs.rules.label_by.Tie as tie
+use Rattle.conditions.proofs.label_by.Statement.{statement}
+use Rattle.conditions.proofs.label_by.Tie as tie
 
 returns : tie.Need-returns
 returns c = (label-high (c .before .before .args .places .now) (c .before .before .args .starts .now) (c .before .before .args .labels .now) (c .before .before .args .u) (c .before .before .args .v) (c .if1 .taken), omega arith)

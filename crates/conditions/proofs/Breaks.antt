@@ -3,9 +3,8 @@ use Prim.Native.Nat.{ℕ, zero, suc, _+_, _-_, _%_, _≤_, _<_}
 use mathlib.Core.Path.{_≡_, refl, sym, ap, _∙_}
 use mathlib.Core.List.{List, [], _∷_}
 use mathlib.Core.Bool.{Bool, true, false, cond, not, _&&_, _||_, true≢false}
-use mathlib.Core.Logic.{_≢_}
 use native.Mathlib.Omega.{arith}
-use lib.ListN.{getD, List·getD-eq-default}
+use lib.ListN.{getD}
 use lib.Dec.{eqb, ltb}
 use borrow.Author.Tests.{ltb-true, ltb-false, lt-ltb, le-ltb, ne-eqb}
 use Rattle.lists.specs.Tests.{any}
@@ -15,21 +14,14 @@ use Rattle.model.specs.Plan.{Plan, ring, border}
 use Rattle.model.specs.Labels.{unlabelled, labelOf, labelsAround, due, badDart, notDue, fourRuns, badRing, breaks}
 use Rattle.rings.specs.Tables.{startsOf, rows, table}
 use Rattle.places.specs.Places.{cell, placesOf}
-use Rattle.labels.specs.LabelBy.{labelAt, labelBy, badDartBy, notDueBy, aroundBy, breaksBy}
-use Rattle.labels.proofs.Places.{is-table, label-own, label-outside, around-own}
+use Rattle.conditions.specs.LabelBy.{labelAt, labelBy, badDartBy, notDueBy, aroundBy, breaksBy}
+use Rattle.labels.proofs.Places.{is-table}
+use Rattle.conditions.proofs.ByTable.{label-own, label-outside, around-own}
 
 -- nothing holds together with what does not
 and-false : (a : Bool) → (a && false) ≡ false
 and-false true = refl
 and-false false = refl
-
--- no label is due at an inner context
-pub due-none : (u : ℕ) → u ≢ 0 → u ≢ 1 → u ≢ 2 → u ≢ 3 → unlabelled ≡ due u
-unfolding due
-due-none u a b c d = sym (List·getD-eq-default (2 ∷ 3 ∷ 0 ∷ 1 ∷ []) 5 (inner u a b c d))
-  where
-    inner : (u : ℕ) → u ≢ 0 → u ≢ 1 → u ≢ 2 → u ≢ 3 → 4 ≤ u
-    inner u a b c d = omega arith
 
 -- ---- what the code tests, case by case
 module _ (t starts ls : List ℕ) (u : ℕ) where

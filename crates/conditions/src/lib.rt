@@ -8,7 +8,7 @@ ghost use Rattle.lists.specs.Spans.{span};
 ghost use Rattle.model.specs.Plan.{neighbour};
 ghost use Rattle.model.specs.Labels.{breaks};
 ghost use Rattle.rings.specs.Tables.{rows, held};
-ghost use Rattle.labels.specs.LabelBy.{labelBy, badDartBy, notDueBy, breaksBy};
+ghost use Rattle.conditions.specs.LabelBy.{labelBy, badDartBy, notDueBy, breaksBy};
 
 // The label of the dart from u to v, where the labels of the rings begin at these starts; 5 where there is no dart, and from 200 on.
 fn label_by<'a>(
@@ -31,7 +31,7 @@ fn label_by<'a>(
     if place == 0 {
         return 5;
     }
-    crate::label_at(labels, lists::wide_word(starts[u]) + place - 1)
+    labels::label_at(labels, lists::wide_word(starts[u]) + place - 1)
 }
 
 // Does the dart from u to v break the rules? 4 stands between border contexts, and only there; elsewhere a dart and its reverse differ by two quarters.
@@ -45,7 +45,7 @@ fn bad_dart<'a>(
     ensures { λ r. ⌜ r ≡ badDartBy (now (places .entry)) (now (starts .entry)) (now (labels .entry)) u v ⌝ }
 {
     let l = label_by(places, starts, labels, u, v);
-    if crate::both_border(u, v) {
+    if labels::both_border(u, v) {
         return l != 4;
     }
     if l >= 4 {
@@ -90,7 +90,7 @@ fn not_due<'a>(
     if v < 4 {
         return false;
     }
-    label_by(places, starts, labels, u, v) != crate::due_label(u)
+    label_by(places, starts, labels, u, v) != labels::due_label(u)
 }
 
 // Has an inner dart of the border context u a label that is not due? u's ring stands from a up to e among the entries.
@@ -136,7 +136,7 @@ fn breaks_at<'a>(
     if u < 4 {
         return not_dues(places, starts, entries, labels, u, a, e);
     }
-    !crate::runs::four_runs(labels, a, e)
+    !labels::runs::four_runs(labels, a, e)
 }
 
 // The lowest of n contexts that breaks the rules by a table of positions, or n, where the rings begin at these starts.

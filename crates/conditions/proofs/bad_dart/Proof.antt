@@ -1,9 +1,9 @@
--- rules::bad_dart meets its contract.
-use Rattle.labels.proofs.Breaks.{dart-border, dart-high, dart-inner}
+-- bad_dart meets its contract.
+use Rattle.conditions.proofs.Breaks.{dart-border, dart-high, dart-inner}
 use native.Mathlib.Omega.{arith}
 use borrow.Author.Needs.{needs}
-use Rattle.labels.proofs.rules.bad_dart.Statement.{statement}
-use Rattle.labels.proofs.rules.bad_dart.Tie as tie
+use Rattle.conditions.proofs.bad_dart.Statement.{statement}
+use Rattle.conditions.proofs.bad_dart.Tie as tie
 
 label-by-requires : tie.Need-label-by-requires
 label-by-requires c κs = search needs
