@@ -37,9 +37,9 @@ fn entries_of<'a>(file: &'a [u8], starts: &'a [u16], sizes: &'a [u8], n: usize) 
 
 // The places that rules 4, 5 and 6 give; whether all are kept.
 fn print_lent_rules<'a>(file: &'a [u8], starts: &'a [u16], sizes: &'a [u8], n: usize) -> bool {
-    let four = lent::rule4_place(file, starts, sizes, n);
-    let five = lent::rule5_place(file, starts, sizes, n);
-    let six = lent::rule6_place(file, starts, sizes, n);
+    let four = single::rule4_place(file, starts, sizes, n);
+    let five = single::rule5_place(file, starts, sizes, n);
+    let six = mutual::rule6_place(file, starts, sizes, n);
     console::show(
         b" 4:# 5:# 6:# entries #",
         four,

@@ -9,15 +9,15 @@ use Rattle.lists.specs.Tests.{repeats}
 use Rattle.lists.specs.Spans.{span}
 use Rattle.model.specs.Plan.{ring}
 use Rattle.rings.specs.Lent.{lent}
-use Rattle.lent.proofs.Rings.{whole-repeat}
+use Rattle.single.proofs.Entries.{whole-repeat}
 use native.Mathlib.Omega.{arith}
 use borrow.Author.Needs.{needs}
-use Rattle.lent.proofs.repeats_at.Statement.{statement}
-use Rattle.lent.proofs.repeats_at.Tie as tie
-use Rattle.lent.proofs.repeats_at.Reads as reads
-use Rattle.lent.proofs.repeats_at.Lts as lts
+use Rattle.single.proofs.repeats_at.Statement.{statement}
+use Rattle.single.proofs.repeats_at.Tie as tie
+use Rattle.single.proofs.repeats_at.Reads as reads
+use Rattle.single.proofs.repeats_at.Lts as lts
 use Rattle.lent.proofs.is_from.Reads as is-from-reads
 use Rattle.lent.proofs.neighbour_in.Reads as neighbour-in-reads
 use Rattle.rings.proofs.size_of.Reads as size-of-reads
 
 abbrev Inv-loop : tie.InvT-loop

@@ -4,14 +4,14 @@ use Prim.Native.Nat.{_-_}
 use Rattle.lists.proofs.Loops.{Sees, sees-start, sees-hit, sees-on, sees-end}
 use Rattle.model.specs.Plan.{ring}
 use Rattle.rings.specs.Lent.{lent}
-use Rattle.lent.proofs.Rings.{badIn, bad-high, bad-self, bad-none, whole-entry}
+use Rattle.single.proofs.Entries.{badIn, bad-high, bad-self, bad-none, whole-entry}
 use native.Mathlib.Omega.{arith}
 use borrow.Author.Needs.{needs}
-use Rattle.lent.proofs.rule4_at.Statement.{statement}
-use Rattle.lent.proofs.rule4_at.Tie as tie
-use Rattle.lent.proofs.rule4_at.Reads as reads
-use Rattle.lent.proofs.rule4_at.Lts as lts
+use Rattle.single.proofs.rule4_at.Statement.{statement}
+use Rattle.single.proofs.rule4_at.Tie as tie
+use Rattle.single.proofs.rule4_at.Reads as reads
+use Rattle.single.proofs.rule4_at.Lts as lts
 use Rattle.lent.proofs.neighbour_in.Reads as neighbour-in-reads
 use Rattle.rings.proofs.size_of.Reads as size-of-reads
 
 abbrev Inv-loop : tie.InvT-loop

@@ -4,17 +4,17 @@ use Prim.Native.Nat.{ℕ, _-_, _*_, _≤_, min}
 use Rattle.model.specs.Plan.{ring}
 use Rattle.rings.specs.Lent.{lent}
 use Rattle.rings.proofs.Rows.{size-outside}
 use Rattle.lent.proofs.Rings.{lent-size}
 use Rattle.places.proofs.Notes.{Notes, notes-start, notes-on, notes-next, notes-end}
 use native.Mathlib.Omega.{arith}
 use borrow.Author.Needs.{needs}
-use Rattle.lent.proofs.fill_in.Statement.{statement}
-use Rattle.lent.proofs.fill_in.Tie as tie
-use Rattle.lent.proofs.fill_in.Reads as reads
-use Rattle.lent.proofs.fill_in.Lts as lts
+use Rattle.mutual.proofs.fill_in.Statement.{statement}
+use Rattle.mutual.proofs.fill_in.Tie as tie
+use Rattle.mutual.proofs.fill_in.Reads as reads
+use Rattle.mutual.proofs.fill_in.Lts as lts
 use Rattle.lists.proofs.lesser.Reads as lesser-reads
 use Rattle.rings.proofs.size_of.Reads as size-of-reads
 use Rattle.lent.proofs.neighbour_in.Reads as neighbour-in-reads
 use Rattle.places.proofs.note.Reads as note-reads
 
 abbrev Inv-loop : tie.InvT-loop

@@ -4,15 +4,15 @@ use Prim.Native.Nat.{_-_}
 use Rattle.lists.proofs.Marks.{Marks, marks-start, marks-hit, marks-on, marks-end}
 use Rattle.model.specs.Plan.{ring}
 use Rattle.rings.specs.Lent.{lent}
-use Rattle.lent.proofs.Rings.{whole-repeat}
+use Rattle.single.proofs.Entries.{whole-repeat}
 use native.Mathlib.Omega.{arith}
 use borrow.Author.Needs.{needs}
-use Rattle.lent.proofs.rule5_at.Statement.{statement}
-use Rattle.lent.proofs.rule5_at.Tie as tie
-use Rattle.lent.proofs.rule5_at.Reads as reads
-use Rattle.lent.proofs.rule5_at.Lts as lts
+use Rattle.single.proofs.rule5_at.Statement.{statement}
+use Rattle.single.proofs.rule5_at.Tie as tie
+use Rattle.single.proofs.rule5_at.Reads as reads
+use Rattle.single.proofs.rule5_at.Lts as lts
 use Rattle.lent.proofs.neighbour_in.Reads as neighbour-in-reads
-use Rattle.lent.proofs.repeats_at.Reads as repeats-at-reads
+use Rattle.single.proofs.repeats_at.Reads as repeats-at-reads
 use Rattle.rings.proofs.size_of.Reads as size-of-reads
 
 abbrev Inv-loop : tie.InvT-loop

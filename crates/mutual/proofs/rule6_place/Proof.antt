@@ -7,12 +7,12 @@ use Rattle.model.specs.Plan.{unreturned}
 use Rattle.rings.specs.Lent.{lent}
 use native.Mathlib.Omega.{arith}
 use borrow.Author.Needs.{needs}
-use Rattle.lent.proofs.rule6_place.Statement.{statement}
-use Rattle.lent.proofs.rule6_place.Tie as tie
-use Rattle.lent.proofs.rule6_place.Reads as reads
-use Rattle.lent.proofs.rule6_place.Lts as lts
-use Rattle.lent.proofs.fill_in.Reads as fill-in-reads
-use Rattle.lent.proofs.rule6_at.Reads as rule6-at-reads
+use Rattle.mutual.proofs.rule6_place.Statement.{statement}
+use Rattle.mutual.proofs.rule6_place.Tie as tie
+use Rattle.mutual.proofs.rule6_place.Reads as reads
+use Rattle.mutual.proofs.rule6_place.Lts as lts
+use Rattle.mutual.proofs.fill_in.Reads as fill-in-reads
+use Rattle.mutual.proofs.rule6_at.Reads as rule6-at-reads
 
 abbrev Inv-loop : tie.InvT-loop
 Inv-loop file starts sizes n places u₀ u = Looks (unreturned (lent starts sizes file n)) n u

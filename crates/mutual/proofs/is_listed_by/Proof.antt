@@ -3,11 +3,11 @@ use Rattle.rings.specs.Lent.{lent}
 use Rattle.places.proofs.Look.{adjacent-cell, adjacent-told}
 use native.Mathlib.Omega.{arith}
 use borrow.Author.Needs.{needs}
-use Rattle.lent.proofs.is_listed_by.Statement.{statement}
-use Rattle.lent.proofs.is_listed_by.Tie as tie
-use Rattle.lent.proofs.is_listed_by.Reads as reads
-use Rattle.lent.proofs.is_listed_by.Lts as lts
-use Rattle.lent.proofs.is_listed.Reads as is-listed-reads
+use Rattle.mutual.proofs.is_listed_by.Statement.{statement}
+use Rattle.mutual.proofs.is_listed_by.Tie as tie
+use Rattle.mutual.proofs.is_listed_by.Reads as reads
+use Rattle.mutual.proofs.is_listed_by.Lts as lts
+use Rattle.mutual.proofs.is_listed.Reads as is-listed-reads
 use Rattle.lists.proofs.byte.Reads as byte-reads
 
 is-listed-requires : tie.Need-is-listed-requires

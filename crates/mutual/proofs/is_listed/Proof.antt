@@ -1,13 +1,13 @@
 -- is_listed meets its contract.
 use mathlib.Core.Path.{refl, _∙_}
-use Rattle.lent.proofs.Rings.{whole-adjacent}
+use Rattle.mutual.proofs.Returns.{whole-adjacent}
 use native.Mathlib.Omega.{arith}
 use borrow.Author.Needs.{needs}
-use Rattle.lent.proofs.is_listed.Statement.{statement}
-use Rattle.lent.proofs.is_listed.Tie as tie
-use Rattle.lent.proofs.is_listed.Reads as reads
-use Rattle.lent.proofs.is_listed.Lts as lts
+use Rattle.mutual.proofs.is_listed.Statement.{statement}
+use Rattle.mutual.proofs.is_listed.Tie as tie
+use Rattle.mutual.proofs.is_listed.Reads as reads
+use Rattle.mutual.proofs.is_listed.Lts as lts
 use Rattle.lent.proofs.is_from.Reads as is-from-reads
 
 is-from-requires : tie.Need-is-from-requires
 is-from-requires c κs = search needs

@@ -5,15 +5,15 @@ use Prim.Native.Nat.{ℕ, _-_}
 use Rattle.lists.proofs.Loops.{Sees, sees-start, sees-hit, sees-on, sees-end}
 use Rattle.model.specs.Plan.{ring, adjacent}
 use Rattle.rings.specs.Lent.{lent}
-use Rattle.lent.proofs.Rings.{return-same, whole-return}
+use Rattle.mutual.proofs.Returns.{return-same, whole-return}
 use native.Mathlib.Omega.{arith}
 use borrow.Author.Needs.{needs}
-use Rattle.lent.proofs.rule6_at.Statement.{statement}
-use Rattle.lent.proofs.rule6_at.Tie as tie
-use Rattle.lent.proofs.rule6_at.Reads as reads
-use Rattle.lent.proofs.rule6_at.Lts as lts
-use Rattle.lent.proofs.is_listed_by.Reads as is-listed-by-reads
+use Rattle.mutual.proofs.rule6_at.Statement.{statement}
+use Rattle.mutual.proofs.rule6_at.Tie as tie
+use Rattle.mutual.proofs.rule6_at.Reads as reads
+use Rattle.mutual.proofs.rule6_at.Lts as lts
+use Rattle.mutual.proofs.is_listed_by.Reads as is-listed-by-reads
 use Rattle.lent.proofs.neighbour_in.Reads as neighbour-in-reads
 use Rattle.rings.proofs.size_of.Reads as size-of-reads
 
 abbrev Inv-loop : tie.InvT-loop

@@ -6,11 +6,11 @@ use Rattle.model.specs.Plan.{badEntry}
 use Rattle.rings.specs.Lent.{lent}
 use native.Mathlib.Omega.{arith}
 use borrow.Author.Needs.{needs}
-use Rattle.lent.proofs.rule4_place.Statement.{statement}
-use Rattle.lent.proofs.rule4_place.Tie as tie
-use Rattle.lent.proofs.rule4_place.Reads as reads
-use Rattle.lent.proofs.rule4_place.Lts as lts
-use Rattle.lent.proofs.rule4_at.Reads as rule4-at-reads
+use Rattle.single.proofs.rule4_place.Statement.{statement}
+use Rattle.single.proofs.rule4_place.Tie as tie
+use Rattle.single.proofs.rule4_place.Reads as reads
+use Rattle.single.proofs.rule4_place.Lts as lts
+use Rattle.single.proofs.rule4_at.Reads as rule4-at-reads
 
 abbrev Inv-loop : tie.InvT-loop
 Inv-loop file starts sizes n u₀ u = Looks (badEntry (lent starts sizes file n)) n u
