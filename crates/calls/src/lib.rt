@@ -116,7 +116,7 @@ fn breach_of(sheet: Sheet, labels: &[u8]) -> usize
 {
     let sizes = sheet.sizes;
     let entries = sheet.entries;
-    labels::rules::rules_place(&sizes, &entries, lists::wide_word(sheet.n), labels)
+    conditions::rules_place(&sizes, &entries, lists::wide_word(sheet.n), labels)
 }
 
 // Offer (OPEN up): labels for all rings in context order, checked and stored; the chart is dropped.

@@ -14,16 +14,12 @@ use Rattle.lists.proofs.Tests.{any-map}
 use Rattle.lists.proofs.Spans.{length-stretch, getD-stretch}
 use Rattle.rings.specs.Tables.{sizeOf, rows}
 use Rattle.faces.proofs.Flags.{flag-yes, flag-no}
-use Rattle.rings.proofs.Rows.{ring-size, ring-at}
-use Rattle.model.specs.Plan.{Plan, Dart, neighbour, ring, next, adjacent, dartsFrom, step, outer, closes, badBorder, badFace}
+use Rattle.rings.proofs.Rows.{ring-size}
+use Rattle.model.specs.Plan.{Plan, Dart, ring, next, adjacent, dartsFrom, step, outer, closes, badBorder, badFace}
 
 -- the size that the code reads is the ring's length
 pub ring-long : (starts sizes es : List ℕ) (n u : ℕ) {k : ℕ} → k ≡ sizeOf sizes n u → k ≡ length (ring (rows starts sizes es n) u)
 ring-long starts sizes es n u e = e ∙ sym (ring-size starts sizes es n u)
-
--- the entry that the code reads from a ring's start on is the ring's
-pub ring-entry : (starts sizes es : List ℕ) (n u i : ℕ) {s x v : ℕ} → s ≡ getD starts u 0 → i < sizeOf sizes n u → x ≡ getD es (s + i) 0 → v ≡ neighbour x → v ≡ getD (ring (rows starts sizes es n) u) i 0
-ring-entry starts sizes es n u i q h e f = f ∙ ap neighbour (e ∙ ap (λ (k : ℕ). getD es (k + i) 0) q) ∙ sym (ring-at starts sizes es n u i h)
 
 -- ---- outer darts leave border contexts
 pub outer-border : (u v : ℕ) → u < 4 → eqb v ((u + 1) % 4) ≡ outer (u, v)

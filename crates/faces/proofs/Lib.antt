@@ -1,4 +1,2 @@
 pub mod FaceTests
 pub mod Flags
-pub mod Scans
-pub mod Nearest

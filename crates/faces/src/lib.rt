@@ -1,18 +1,10 @@
-// Faces over flat arrays: the face step, the outer darts, the places of plan rules 8 and 9, and the scan.
+// Faces over flat arrays: the face step, the outer darts and the places of plan rules 8 and 9.
 ghost use mathlib.Core.Path.{_≡_};
 ghost use mathlib.Core.Bool.{not, _||_};
 ghost use Prim.Native.Nat.{_<_};
 ghost use Rattle.lists.specs.Ranges.{lowest};
 ghost use Rattle.model.specs.Plan.{step, outer, closes, badBorder, badFace};
 ghost use Rattle.rings.specs.Tables.{rows};
-
-pub mod scan;
-
-// What a scan says: a triple, or that there is none.
-pub enum Scanned {
-    Triple(usize, usize, usize),
-    Nothing,
-}
 
 // Is the dart from u to v one of the four outer darts?
 pub fn is_outer(u: usize, v: usize) -> bool

@@ -35,7 +35,7 @@ fn label_rule<'a>(sizes: &'a [u8], entries: &'a [u16], n: usize, labels: &'a [u8
     requires { ⌜ n ≤ 200 ⌝ }
     ensures { λ r. ⌜ answerAs r ≡ labelRules (table (now (sizes .entry)) (now (entries .entry)) n) (now (labels .entry)) ⌝ }
 {
-    let ten = labels::rules::rules_place(sizes, entries, n, labels);
+    let ten = conditions::rules_place(sizes, entries, n, labels);
     if ten < n {
         return Answer::Refused(10, ten);
     }

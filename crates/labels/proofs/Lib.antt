@@ -1,4 +1,3 @@
 pub mod Places
 pub mod Rounds
-pub mod Breaks
 pub mod Darts

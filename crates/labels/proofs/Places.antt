@@ -2,25 +2,21 @@
 use Prim.Native.Nat.{ℕ, zero, suc, _+_, _-_, _≤_, _<_, min}
 use mathlib.Core.Path.{_≡_, refl, sym, ap, _∙_}
 use mathlib.Core.List.{List, [], _∷_, map}
-use mathlib.Core.Bool.{Bool, true, false, cond}
+use mathlib.Core.Bool.{Bool, true, false}
 use native.Mathlib.Omega.{arith}
 use lib.ListN.{length, getD, set, take, drop, length-append, length-take, List·getD-eq-default}
-use lib.Seq.{slice, take-nil, getD-take, getD-drop}
+use lib.Seq.{getD-take, getD-drop}
 use lib.Dec.{ltb}
-use borrow.Author.Tests.{ltb-true, ltb-false, lt-ltb, le-ltb, ne-eqb}
-use Rattle.lists.specs.Tests.{member}
+use borrow.Author.Tests.{ltb-true, ltb-false, lt-ltb, le-ltb}
 use Rattle.lists.specs.Ranges.{from}
 use Rattle.lists.specs.Parts.{concat, indexOf}
-use Rattle.lists.specs.Spans.{stretch, span}
+use Rattle.lists.specs.Spans.{stretch}
 use Rattle.lists.proofs.Ranges.{getD-map-from}
 use Rattle.lists.proofs.Spans.{length-stretch}
-use Rattle.model.specs.Plan.{Plan, neighbour, entries, ring, adjacent}
+use Rattle.model.specs.Plan.{Plan, entries, ring, adjacent}
 use Rattle.model.specs.Labels.{unlabelled, start, labelsAround, labelOf, put}
 use Rattle.rings.specs.Tables.{startOf, startsOf, sizeOf, rows, table, held}
-use Rattle.rings.proofs.Rows.{start-first, start-more, size-outside, entries-rows, ring-rows, ring-size, member-index}
-use Rattle.places.specs.Places.{place, cell, placesOf}
-use Rattle.places.proofs.Notes.{places-cell, place-absent, place-present}
-use Rattle.labels.specs.LabelBy.{labelAt, labelBy, aroundBy}
+use Rattle.rings.proofs.Rows.{start-first, start-more, size-outside, entries-rows, ring-size, member-index}
 
 -- inside a list it does not matter what lies outside
 pub getD-inside : (l : List ℕ) (i d e : ℕ) → i < length l → getD l i d ≡ getD l i e
@@ -46,21 +42,6 @@ module _ (sizes : List ℕ) (f : ℕ → List ℕ) (long : (w : ℕ) → length 
       let z : startOf sizes (suc a + u) ≡ startOf sizes (a + suc u) = ap (startOf sizes) (omega arith) in
       omega arith
 
-drop-take : (s k : ℕ) (l : List ℕ) → drop s (take (s + k) l) ≡ take k (drop s l)
-drop-take zero k l = let z : 0 + k ≡ k = omega arith in rw z
-drop-take (suc s) k [] = let z : suc s + k ≡ suc (s + k) = omega arith in rw z (sym (take-nil k))
-drop-take (suc s) k (x ∷ l) = let z : suc s + k ≡ suc (s + k) = omega arith in rw z (drop-take s k l)
-
--- at place 0 stands no label
-at-none : (ls : List ℕ) (s : ℕ) → labelAt ls s 0 ≡ unlabelled
-unfolding labelAt
-at-none ls s = refl
-
--- at a place, the label of the index before it
-at-some : (ls : List ℕ) (s i : ℕ) → labelAt ls s (suc i) ≡ getD ls (s + i) unlabelled
-unfolding labelAt
-at-some ls s i = rw (ne-eqb (suc i) 0 (λ z. omega arith)) (ap (λ (j : ℕ). getD ls (s + j) unlabelled) (omega arith))
-
 module _ (starts sizes es : List ℕ) (n : ℕ) (same : starts ≡ startsOf sizes) (small : n ≤ 200) where
   -- the plan that these starts give
   abbrev Rows : Plan
@@ -75,12 +56,12 @@ module _ (starts sizes es : List ℕ) (n : ℕ) (same : starts ≡ startsOf size
       let e : startOf sizes (0 + u) ≡ startOf sizes u = ap (startOf sizes) (omega arith) in
       omega arith
 
-  start-held : (u : ℕ) → u < n → getD starts u 0 ≡ start Rows u
+  pub start-held : (u : ℕ) → u < n → getD starts u 0 ≡ start Rows u
   unfolding startsOf
   start-held u h =
       ap (λ (l : List ℕ). getD l u 0) same ∙ getD-map-from (startOf sizes) 0 200 u 0 (omega arith) ∙ ap (startOf sizes) (omega arith) ∙ sym (start-rows u (omega arith))
 
-  size-rows : (u : ℕ) → length (entries Rows u) ≡ sizeOf sizes n u
+  pub size-rows : (u : ℕ) → length (entries Rows u) ≡ sizeOf sizes n u
   size-rows u = ap length (entries-rows starts sizes es n u) ∙ length-stretch es (getD starts u 0) (sizeOf sizes n u)
 
   -- these starts are those of the table
@@ -115,7 +96,7 @@ module _ (starts sizes es : List ℕ) (n : ℕ) (same : starts ≡ startsOf size
         ∙ ap (λ (p : Plan). labelOf p ls u v) is-table
 
     -- there is none, and no label
-    label-none : (ls : List ℕ) → k ≤ i → unlabelled ≡ labelOf (table sizes es n) ls u v
+    pub label-none : (ls : List ℕ) → k ≤ i → unlabelled ≡ labelOf (table sizes es n) ls u v
     unfolding labelOf labelsAround
     label-none ls h =
         let l = length-take (length (entries Rows u)) (drop (start Rows u) ls) in
@@ -142,44 +123,3 @@ module _ (starts sizes es : List ℕ) (n : ℕ) (same : starts ≡ startsOf size
     pub put-none : (ls : List ℕ) (l : ℕ) → k ≤ i → ls ≡ put (table sizes es n) u v l ls
     unfolding put
     put-none ls l h = sym (rw (is-dart ∙ le-ltb i k h)) ∙ ap (λ (p : Plan). put p u v l ls) is-table
-
-  -- By the plan's own table, what is found for contexts below 200 is the label of the dart
-  pub label-own : {t : List ℕ} → t ≡ placesOf Rows → (ls : List ℕ) (u v : ℕ) → u < 200 → v < 200 → labelBy t starts ls u v ≡ labelOf (table sizes es n) ls u v
-  unfolding labelBy
-  label-own {t} own ls u v h k = rw (lt-ltb u 200 h, lt-ltb v 200 k) (go (member v (ring Rows u)) refl)
-    where
-      at : getD t (cell u v) 0 ≡ place v (ring Rows u)
-      at = ap (λ (s : List ℕ). getD s (cell u v) 0) own ∙ places-cell Rows u v h k
-
-      go : (b : Bool) → member v (ring Rows u) ≡ b → labelAt ls (getD starts u 0) (getD t (cell u v) 0) ≡ labelOf (table sizes es n) ls u v
-      go true q =
-          ap (labelAt ls (getD starts u 0)) (at ∙ place-present v (ring Rows u) q)
-          ∙ at-some ls (getD starts u 0) (indexOf v (ring Rows u))
-          ∙ label-there u v refl refl (ring-size starts sizes es n u) ls (ltb-true (indexOf v (ring Rows u)) (length (ring Rows u)) (sym (member-index v (ring Rows u)) ∙ q))
-      go false q =
-          ap (labelAt ls (getD starts u 0)) (at ∙ place-absent v (ring Rows u) q)
-          ∙ at-none ls (getD starts u 0)
-          ∙ label-none u v refl refl (ring-size starts sizes es n u) ls (ltb-false (indexOf v (ring Rows u)) (length (ring Rows u)) (sym (member-index v (ring Rows u)) ∙ q))
-
-  -- a dart that leaves no context has no label
-  pub label-outside : (ls : List ℕ) (u v : ℕ) → n ≤ u → labelOf (table sizes es n) ls u v ≡ unlabelled
-  label-outside ls u v h = sym (label-none u v {s = getD starts u 0} {i = indexOf v (ring Rows u)} {k = 0} refl refl (sym (size-outside sizes n u h)) ls (omega arith))
-
-  -- the labels around u
-  pub around-own : (ls : List ℕ) (u : ℕ) → u < n → aroundBy starts Rows ls u ≡ labelsAround (table sizes es n) ls u
-  unfolding aroundBy labelsAround
-  around-own ls u h =
-      (λ j. take ((ring-size starts sizes es n u ∙ sym (size-rows u)) j) (drop (start-held u h j) ls)) ∙ ap (λ (p : Plan). labelsAround p ls u) is-table
-
--- ---- a ring and its labels, where they stand in the arrays
-module _ (starts sizes es : List ℕ) (n u : ℕ) {s k : ℕ} (from-s : s ≡ getD starts u 0) (size : k ≡ sizeOf sizes n u) where
-  -- the ring
-  pub ring-there : map neighbour (span es s (s + k)) ≡ ring (rows starts sizes es n) u
-  ring-there =
-      let z : s + k - s ≡ k = omega arith in
-      (λ j. map neighbour (stretch es (from-s j) ((z ∙ size) j))) ∙ sym (ring-rows starts sizes es n u)
-
-  -- its labels
-  pub around-there : (ls : List ℕ) → slice s (s + k) ls ≡ aroundBy starts (rows starts sizes es n) ls u
-  unfolding aroundBy
-  around-there ls = drop-take s k ls ∙ (λ j. take ((size ∙ sym (ring-size starts sizes es n u)) j) (drop (from-s j) ls))

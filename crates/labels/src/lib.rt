@@ -1,4 +1,4 @@
-// Labels of darts in a flat array: the label of a dart, four runs and the label rules, each equal to a definition of the model.
+// Labels of darts in a flat array: the label at a place, the label due at a context, and four runs, each equal to a definition of the model.
 ghost use mathlib.Core.Path.{_≡_};
 ghost use mathlib.Core.Bool.{_&&_};
 ghost use Prim.Native.Nat.{_<_, _^_};
@@ -6,8 +6,7 @@ ghost use lib.ListN.{getD};
 ghost use Rattle.model.specs.Plan.{border};
 ghost use Rattle.model.specs.Labels.{unlabelled, due};
 
-pub mod rules;
-mod runs;
+pub mod runs;
 
 // The label at i; past the last there is none, which is 5.
 pub fn label_at(labels: &[u8], i: usize) -> usize

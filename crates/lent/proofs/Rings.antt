@@ -2,17 +2,12 @@
 use Prim.Native.Nat.{ℕ, zero, suc, _+_, _*_, _/_, _≤_, _<_}
 use mathlib.Core.Path.{_≡_, refl, sym, ap, _∙_}
 use mathlib.Core.List.{List, map}
-use mathlib.Core.Bool.{Bool, true, false, not, _||_, or-true}
 use native.Mathlib.Omega.{arith}
 use lib.ListN.{length, getD}
-use lib.Dec.{eqb, leb}
-use borrow.Author.Tests.{eq-eqb, ne-eqb, le-leb, lt-leb}
-use Rattle.lists.specs.Tests.{any, member, repeats}
 use Rattle.lists.specs.Spans.{span}
-use Rattle.lists.proofs.Bools.{no-or}
 use Rattle.lists.proofs.Spans.{past-word}
 use Rattle.lists.proofs.Stretches.{span-whole}
-use Rattle.model.specs.Plan.{Plan, count, neighbour, entries, ring, adjacent, badEntry, badRepeat, unreturned}
+use Rattle.model.specs.Plan.{count, neighbour, entries, ring}
 use Rattle.rings.specs.Tables.{sizeOf}
 use Rattle.rings.specs.Lent.{wordsAt, bodyAt, lent}
 use Rattle.rings.proofs.Made.{Reads, entries-made, ring-made, count-made, size-made, past-made, at-made}
@@ -36,23 +31,6 @@ getD-words-at file at (suc k) (suc i) h = getD-words-at file (at + 2) k i (omega
 pub word-past : (file starts : List ℕ) (u i : ℕ) → length file / 4 < u → 0 ≡ wordOf file (bodyAt starts u + 2 * i)
 unfolding bodyAt
 word-past file starts u i h = past-word file (bodyAt starts u + 2 * i) (omega arith)
-
--- 4: an entry w is bad, or good
-abbrev pub badIn : ℕ → ℕ → ℕ → Bool
-badIn n u w = leb n w || eqb w u
-
-pub bad-high : (n u : ℕ) {v w : ℕ} → v ≡ w → n ≤ v → badIn n u w ≡ true
-bad-high n u {v} {w} q h = rw (le-leb n w (omega arith))
-
-pub bad-self : (n u : ℕ) {v w : ℕ} → v ≡ w → v ≡ u → badIn n u w ≡ true
-bad-self n u {v} {w} q h = rw (eq-eqb w u (sym q ∙ h)) (or-true (leb n w))
-
-pub bad-none : (n u : ℕ) {v w : ℕ} → v ≡ w → v < n → (v ≡ u → ⊥) → badIn n u w ≡ false
-bad-none n u {v} {w} q h k = no-or (leb n w) (eqb w u) (lt-leb n w (omega arith)) (ne-eqb w u (λ e. k (q ∙ e)))
-
--- 6: t says whether v lists u, of the entry w that is v
-pub return-same : (p : Plan) (u : ℕ) {v w : ℕ} {t : Bool} → v ≡ w → t ≡ adjacent p v u → not (adjacent p w u) ≡ not t
-return-same p u q e = sym (ap not (e ∙ ap (λ (a : ℕ). adjacent p a u) q))
 
 -- the words from each body on
 pub lent-reads : (starts file : List ℕ) → Reads (λ (u k : ℕ). wordsAt file (bodyAt starts u) k) (λ (u i : ℕ). wordOf file (bodyAt starts u + 2 * i))
@@ -90,21 +68,5 @@ module _ (starts sizes file : List ℕ) (n : ℕ) where
   lent-at u i h = at-made (lent-reads starts file) sizes n u i h
 
   -- ---- a ring gone through from 0 to its size is the ring
-  ring-whole : (u e : ℕ) → e ≡ sizeOf sizes n u → span (ring (lent starts sizes file n) u) 0 e ≡ ring (lent starts sizes file n) u
+  pub ring-whole : (u e : ℕ) → e ≡ sizeOf sizes n u → span (ring (lent starts sizes file n) u) 0 e ≡ ring (lent starts sizes file n) u
   ring-whole u e q = span-whole (ring (lent starts sizes file n) u) e (q ∙ sym (lent-size u))
-
-  pub whole-adjacent : (u v e : ℕ) → e ≡ sizeOf sizes n u → member v (span (ring (lent starts sizes file n) u) 0 e) ≡ adjacent (lent starts sizes file n) u v
-  unfolding adjacent
-  whole-adjacent u v e q = ap (member v) (ring-whole u e q)
-
-  pub whole-entry : (u e : ℕ) → e ≡ sizeOf sizes n u → any (badIn n u) (span (ring (lent starts sizes file n) u) 0 e) ≡ badEntry (lent starts sizes file n) u
-  unfolding badEntry
-  whole-entry u e q = λ i. any (badIn (sym count-lent i) u) (ring-whole u e q i)
-
-  pub whole-repeat : (u e : ℕ) → e ≡ sizeOf sizes n u → repeats (span (ring (lent starts sizes file n) u) 0 e) ≡ badRepeat (lent starts sizes file n) u
-  unfolding badRepeat
-  whole-repeat u e q = ap repeats (ring-whole u e q)
-
-  pub whole-return : (u e : ℕ) → e ≡ sizeOf sizes n u → any (λ (v : ℕ). not (adjacent (lent starts sizes file n) v u)) (span (ring (lent starts sizes file n) u) 0 e) ≡ unreturned (lent starts sizes file n) u
-  unfolding unreturned
-  whole-return u e q = ap (any (λ (v : ℕ). not (adjacent (lent starts sizes file n) v u))) (ring-whole u e q)

@@ -24,15 +24,15 @@ fn lent_rules<'a>(file: &'a [u8], starts: &'a [u16], sizes: &'a [u8], n: usize) 
     requires { ⌜ now starts ≡ startsOf (now sizes) ⌝ }
     ensures { λ r. ⌜ answerAs r ≡ lentRules n (planIn (now (file .entry)) (now (sizes .entry)) n) ⌝ }
 {
-    let four = lent::rule4_place(file, starts, sizes, n);
+    let four = single::rule4_place(file, starts, sizes, n);
     if four < n {
         return Answer::Refused(4, four);
     }
-    let five = lent::rule5_place(file, starts, sizes, n);
+    let five = single::rule5_place(file, starts, sizes, n);
     if five < n {
         return Answer::Refused(5, five);
     }
-    let six = lent::rule6_place(file, starts, sizes, n);
+    let six = mutual::rule6_place(file, starts, sizes, n);
     if six < n {
         return Answer::Refused(6, six);
     }

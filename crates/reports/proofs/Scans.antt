@@ -6,9 +6,9 @@ use Rattle.model.specs.Outcome.{accepted, refused}
 use Rattle.model.specs.Plan.{Plan}
 use Rattle.model.specs.Scan.{Triple, scan}
 use Rattle.model.specs.Calls.{planOf, scanCall}
-use Rattle.faces.specs.declared.Scanned as rings
-use Rattle.faces.specs.declared.Scanned.the-variants as Rings
-use Rattle.faces.specs.Scanned as said
+use Rattle.triples.specs.declared.Scanned as rings
+use Rattle.triples.specs.declared.Scanned.the-variants as Rings
+use Rattle.triples.specs.Scanned as said
 use Rattle.sheet.specs.declared.Sheet.{Sheet}
 use Rattle.sheet.specs.Sheets.{heldPlan, reads}
 use Rattle.sheet.specs.Sheets.{rank, stageRead}

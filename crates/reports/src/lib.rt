@@ -10,7 +10,7 @@ ghost use lib.Dec.{eqb};
 ghost use Rattle.model.specs.Chart.{sameChart};
 ghost use Rattle.model.specs.Scan.{scan};
 ghost use Rattle.model.specs.Calls.{writeCall, scanCall, sameCall};
-ghost use Rattle.faces.specs.Scanned as plans;
+ghost use Rattle.triples.specs.Scanned as plans;
 ghost use Rattle.placement.specs.Drawing.{chartOn};
 ghost use Rattle.writing.specs.Files.{sheetHeld, outcomeOf, bufferAfter};
 ghost use Rattle.sheet.specs.Sheets.{heldPlan, heldChart, reads};
@@ -71,13 +71,13 @@ pub fn write(sheet: Sheet, out: &mut [u8]) -> Written
 }
 
 // The scan of the sheet's plan.
-fn scan_plan(sheet: Sheet) -> faces::Scanned
+fn scan_plan(sheet: Sheet) -> triples::Scanned
     ensures { λ r. ⌜ plans.scannedAs r ≡ scan (heldPlan sheet) ⌝ }
 {
     let sizes = sheet.sizes;
     let entries = sheet.entries;
     let starts = rings::starts_of(&sizes);
-    faces::scan::scan(&starts, &sizes, &entries, lists::wide_word(sheet.n))
+    triples::scan(&starts, &sizes, &entries, lists::wide_word(sheet.n))
 }
 
 // Scan (OPEN up): the smallest triple of mutual neighbours that are no inner face, or that there is none.
@@ -89,8 +89,8 @@ pub fn scan(sheet: Sheet) -> Scanned
     }
     let found = scan_plan(sheet);
     match found {
-        faces::Scanned::Triple(a, b, c) => Scanned::Triple(a, b, c),
-        faces::Scanned::Nothing => Scanned::Nothing,
+        triples::Scanned::Triple(a, b, c) => Scanned::Triple(a, b, c),
+        triples::Scanned::Nothing => Scanned::Nothing,
     }
 }
 

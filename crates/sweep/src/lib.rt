@@ -57,7 +57,7 @@ pub fn sweep_labels<'a>(sizes: &'a [u8], entries: &'a [u16], n: usize) -> Swept
     if !ended.finished {
         return bare(SweepAnswer::Stuck);
     }
-    let place = labels::rules::rules_place(sizes, entries, n, &labels);
+    let place = conditions::rules_place(sizes, entries, n, &labels);
     if place < n {
         return bare(SweepAnswer::Broken(place));
     }

@@ -37,9 +37,9 @@ fn entries_of<'a>(file: &'a [u8], starts: &'a [u16], sizes: &'a [u8], n: usize) 
 
 // The places that rules 4, 5 and 6 give; whether all are kept.
 fn print_lent_rules<'a>(file: &'a [u8], starts: &'a [u16], sizes: &'a [u8], n: usize) -> bool {
-    let four = lent::rule4_place(file, starts, sizes, n);
-    let five = lent::rule5_place(file, starts, sizes, n);
-    let six = lent::rule6_place(file, starts, sizes, n);
+    let four = single::rule4_place(file, starts, sizes, n);
+    let five = single::rule5_place(file, starts, sizes, n);
+    let six = mutual::rule6_place(file, starts, sizes, n);
     console::show(
         b" 4:# 5:# 6:# entries #",
         four,
@@ -64,12 +64,12 @@ fn print_flat_rules<'a>(starts: &'a [u16], sizes: &'a [u8], entries: &'a [u16], 
 
 // The smallest triple of mutual neighbours that are no inner face.
 fn print_scan<'a>(starts: &'a [u16], sizes: &'a [u8], entries: &'a [u16], n: usize) {
-    let scanned = faces::scan::scan(starts, sizes, entries, n);
+    let scanned = triples::scan(starts, sizes, entries, n);
     match scanned {
-        faces::Scanned::Nothing => {
+        triples::Scanned::Nothing => {
             io::write_all(1, b" triangle none");
         }
-        faces::Scanned::Triple(a, b, c) => {
+        triples::Scanned::Triple(a, b, c) => {
             console::show(b" triangle #,#,#", a, b, c, 0, 0);
         }
     }
@@ -223,7 +223,7 @@ fn print_labels<'a>(
         return;
     }
     let labels = framing::ring_part(file, at, lists::minus(6 * n, 14));
-    let ten = labels::rules::rules_place(sizes, entries, n, labels);
+    let ten = conditions::rules_place(sizes, entries, n, labels);
     console::show(b" 10:#", ten, 0, 0, 0, 0);
     if n <= ten {
         print_chart(file, sizes, entries, n, labels, chart);

@@ -166,7 +166,7 @@ pub fn turn_labels<'a>(
         return kept(TurnAnswer::BadList(pairs), labels);
     }
     let turned = passed.labels;
-    let place = labels::rules::place_by(&places, &starts, sizes, entries, n, &turned);
+    let place = conditions::place_by(&places, &starts, sizes, entries, n, &turned);
     if place < n {
         return kept(TurnAnswer::Broken(place), labels);
     }

@@ -6,7 +6,7 @@ use Rattle.judging.proofs.label_rule.Statement.{statement}
 use Rattle.judging.proofs.label_rule.Tie as tie
 use Rattle.judging.proofs.label_rule.Reads as reads
 use Rattle.judging.proofs.label_rule.Lts as lts
-use Rattle.labels.proofs.rules.rules_place.Reads as rules-place-reads
+use Rattle.conditions.proofs.rules_place.Reads as rules-place-reads
 
 rules-place-requires : tie.Need-rules-place-requires
 rules-place-requires c κs = search needs

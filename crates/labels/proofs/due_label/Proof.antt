@@ -1,9 +1,21 @@
 -- due_label meets its contract.
-use mathlib.Core.Path.{sym, ap}
-use Rattle.model.specs.Labels.{due}
-use Rattle.labels.proofs.Breaks.{due-none}
+use Prim.Native.Nat.{ℕ, _≤_}
+use mathlib.Core.Path.{_≡_, sym, ap}
+use mathlib.Core.List.{[], _∷_}
+use mathlib.Core.Logic.{_≢_}
+use native.Mathlib.Omega.{arith}
+use lib.ListN.{List·getD-eq-default}
+use Rattle.model.specs.Labels.{unlabelled, due}
 use Rattle.labels.proofs.due_label.Statement.{statement}
 use Rattle.labels.proofs.due_label.Tie as tie
+
+-- no label is due at an inner context
+due-none : (u : ℕ) → u ≢ 0 → u ≢ 1 → u ≢ 2 → u ≢ 3 → unlabelled ≡ due u
+unfolding due
+due-none u a b c d = sym (List·getD-eq-default (2 ∷ 3 ∷ 0 ∷ 1 ∷ []) 5 (inner u a b c d))
+  where
+    inner : (u : ℕ) → u ≢ 0 → u ≢ 1 → u ≢ 2 → u ≢ 3 → 4 ≤ u
+    inner u a b c d = omega arith
 
 returns : tie.Need-returns
 unfolding due

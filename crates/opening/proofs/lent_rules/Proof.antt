@@ -17,9 +17,9 @@ use Rattle.opening.proofs.lent_rules.Statement.{statement}
 use Rattle.opening.proofs.lent_rules.Tie as tie
 use Rattle.opening.proofs.lent_rules.Reads as reads
 use Rattle.opening.proofs.lent_rules.Lts as lts
-use Rattle.lent.proofs.rule4_place.Reads as rule4-place-reads
-use Rattle.lent.proofs.rule5_place.Reads as rule5-place-reads
-use Rattle.lent.proofs.rule6_place.Reads as rule6-place-reads
+use Rattle.single.proofs.rule4_place.Reads as rule4-place-reads
+use Rattle.single.proofs.rule5_place.Reads as rule5-place-reads
+use Rattle.mutual.proofs.rule6_place.Reads as rule6-place-reads
 use Rattle.fit.proofs.total_of.Reads as total-of-reads
 
 rule4-place-requires : tie.Need-rule4-place-requires

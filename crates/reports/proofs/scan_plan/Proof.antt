@@ -9,7 +9,7 @@ use Rattle.reports.proofs.scan_plan.Tie as tie
 use Rattle.reports.proofs.scan_plan.Reads as reads
 use Rattle.reports.proofs.scan_plan.Lts as lts
 use Rattle.lists.proofs.wide_word.Reads as wide-word-reads
-use Rattle.faces.proofs.scan.scan.Reads as scan-reads
+use Rattle.triples.proofs.scan.Reads as scan-reads
 use Rattle.rings.proofs.starts_of.Reads as starts-of-reads
 
 slice-aggregate-starts-of : tie.Need-slice-aggregate-starts-of

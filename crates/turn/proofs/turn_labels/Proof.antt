@@ -2,7 +2,7 @@
 use mathlib.Core.Path.{refl, sym, _∙_}
 use borrow.Author.Tests.{not-true, not-false}
 use Rattle.places.proofs.Notes.{filled-zeros}
-use Rattle.labels.proofs.Breaks.{rules-own}
+use Rattle.conditions.proofs.Breaks.{rules-own}
 use Rattle.fit.proofs.Fits.{bounds-say}
 use Rattle.turn.specs.Run.{kept}
 use Rattle.turn.proofs.Answers.{answer-unfit, answer-pair, answer-odd, answer-direction, answer-broken, answer-labelled}

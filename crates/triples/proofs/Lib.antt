@@ -1,0 +1,3 @@
+pub mod Flags
+pub mod Scans
+pub mod Nearest
