@@ -163,14 +163,11 @@ room-in b l few e = go (l .found) e
     go Found.Charted f = kept f
     go (Found.Refused k at) f = not-both (sym f)
 
--- 4 to 7 of the plan in the file, by what was found
+-- the sheet in the file, by what was found
 pub lent-found : (b : List ℕ) (l : Layout) (g : Found) → l .found ≡ g
     → foundAs g (planIn b (l .sizes) (l .n)) (labelsIn b (l .n) (l .labels)) (chartFrom b (l .n) (l .chart)) ≡ sheetIn b l
 unfolding sheetIn
 lent-found b l g e = ap (λ (f : Found). foundAs f (planIn b (l .sizes) (l .n)) (labelsIn b (l .n) (l .labels)) (chartFrom b (l .n) (l .chart))) (sym e)
-
-pub lent-judged : (b : List ℕ) (sizes : List ℕ) (n : ℕ) → lentRules n (planIn b sizes n) ≡ lentRules (count (planIn b sizes n)) (planIn b sizes n)
-lent-judged b sizes n = ap (λ (k : ℕ). lentRules k (planIn b sizes n)) (sym (count-lent (startsOf sizes) sizes b n))
 
 -- what was found is no refusal
 abbrev pub There : Found → Type 0
@@ -178,6 +175,20 @@ There Found.Opened = Unit {0}
 There Found.Labelled = Unit {0}
 There Found.Charted = Unit {0}
 There (Found.Refused k at) = ⊥
+
+-- 4 to 7 of what was found
+pub lent-there : (b : List ℕ) (l : Layout) → There (l .found) → lentRules (l .n) (planIn b (l .sizes) (l .n)) ≡ lentIn (sheetIn b l)
+unfolding sheetIn lentIn lentOf
+lent-there b l h = ap (λ (k : ℕ). lentRules k p) (sym (count-lent (startsOf (l .sizes)) (l .sizes) b (l .n))) ∙ go (l .found) h
+  where
+    p : Plan
+    p = planIn b (l .sizes) (l .n)
+
+    go : (g : Found) → There g → lentRules (count p) p ≡ (foundAs g p (labelsIn b (l .n) (l .labels)) (chartFrom b (l .n) (l .chart)) >>= lentOf)
+    go Found.Opened h = refl
+    go Found.Labelled h = refl
+    go Found.Charted h = refl
+    go (Found.Refused k at) h = absurd h
 
 pub sizes-found : (l : Layout) → l ≡ tidied l → (g : Found) → l .found ≡ g → There g → l .sizes ≡ padded 200 (stretch (l .sizes) 0 (l .n))
 unfolding tidied

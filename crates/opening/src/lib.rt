@@ -205,10 +205,8 @@ fn lent_part(file: &[u8], layout: framing::Layout) -> Answer
     let n = layout.n;
     let sizes = layout.sizes;
     match found {
-        framing::Found::Opened => ring_rules(file, &sizes, n),
-        framing::Found::Labelled => ring_rules(file, &sizes, n),
-        framing::Found::Charted => ring_rules(file, &sizes, n),
         framing::Found::Refused(number, place) => Answer::Refused(number, place),
+        _ => ring_rules(file, &sizes, n),
     }
 }
 
