@@ -63,10 +63,9 @@ fn put_drawn(out: &mut [u8], at: usize, sheet: Sheet) -> usize
 {
     let outcome = calls::chart(sheet);
     let answer = outcome.answer;
-    let drawn = outcome.sheet;
     match answer {
         Answer::Refused(number, place) => put_refusal(out, at, number, place),
-        Answer::Accepted => put_chart(out, at, drawn),
+        Answer::Accepted => put_chart(out, at, outcome.sheet),
     }
 }
 
@@ -76,10 +75,9 @@ fn put_swept(out: &mut [u8], at: usize, sheet: Sheet) -> usize
 {
     let outcome = calls::sweep(sheet);
     let answer = outcome.answer;
-    let swept = outcome.sheet;
     match answer {
         Answer::Refused(number, place) => put_refusal(out, at, number, place),
-        Answer::Accepted => put_drawn(out, at, swept),
+        Answer::Accepted => put_drawn(out, at, outcome.sheet),
     }
 }
 
@@ -116,10 +114,9 @@ fn put_file<'a>(out: &mut [u8], file: &'a [u8]) -> usize
 {
     let outcome = opening::open_file(sheet::fresh_sheet(), file);
     let answer = outcome.answer;
-    let opened = outcome.sheet;
     match answer {
         Answer::Refused(number, place) => put_refusal(out, 0, number, place),
-        Answer::Accepted => put_opened(out, 0, opened),
+        Answer::Accepted => put_opened(out, 0, outcome.sheet),
     }
 }
 
