@@ -1,4 +1,3 @@
-pub mod Digits
-pub mod Puts
+pub mod Prints
 pub mod Texts
 pub mod Shown

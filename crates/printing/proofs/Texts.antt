@@ -28,7 +28,26 @@ use Rattle.sheet.proofs.Packed.{reads-packed}
 use Rattle.judging.specs.Rules.{rulesFrom8}
 use Rattle.opening.specs.Opening.{lentOf}
 use Rattle.opening.proofs.Opened.{judge-parts, sheet-held}
+use Rattle.forms.specs.Words.{letters}
+use Rattle.forms.specs.Forms.{mark, stands, filled, line}
 use Rattle.printing.specs.Text.{planLine, triangleLine, sizeLine, pointLine, pointLines, chartLines, refusalLine, told, chartText, sweepText, scanText, planText, fileText}
+
+-- ---- lines of fewer than three numbers, with zeros for the others
+pub plan-form : (n : ℕ) → filled (letters "plan #\n") (n ∷ 0 ∷ 0 ∷ []) ≡ planLine n
+unfolding planLine line letters filled stands mark
+plan-form n = refl
+
+pub none-form : filled (letters "triangle none\n") (0 ∷ 0 ∷ 0 ∷ []) ≡ triangleLine none
+unfolding triangleLine letters filled stands mark
+none-form = refl
+
+pub size-form : (w h : ℕ) → filled (letters "size # #\n") (w ∷ h ∷ 0 ∷ []) ≡ sizeLine w h
+unfolding sizeLine line letters filled stands mark
+size-form w h = refl
+
+pub refusal-form : (k at : ℕ) → filled (letters "refused # at #\n") (k ∷ at ∷ 0 ∷ []) ≡ refusalLine k at
+unfolding refusalLine line letters filled stands mark
+refusal-form k at = refl
 
 -- ---- refusals
 -- a refused call ends the text

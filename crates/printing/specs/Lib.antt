@@ -1,3 +1,2 @@
-pub mod Words
 pub mod Text
-pub mod Puts
+pub mod Prints

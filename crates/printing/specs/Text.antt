@@ -1,6 +1,6 @@
--- The text of sheetprint, as 01 has it: open, scan, sweep, chart, and a line or more for each but the sweep.
+-- The text of sheetprint, as 01 has it: open, scan, sweep, chart, and a line or more for each but the sweep. In each line `#` stands for the next number.
 use Prim.Native.Nat.{ℕ, zero, suc}
-use mathlib.Core.List.{List, [], _++_}
+use mathlib.Core.List.{List, [], _∷_, _++_}
 use mathlib.Core.Bool.{cond}
 use mathlib.Core.Option.{Option, none, some}
 use lib.ListN.{length, getD, take, drop}
@@ -11,24 +11,25 @@ use Rattle.model.specs.Chart.{Chart}
 use Rattle.model.specs.Scan.{Triple}
 use Rattle.model.specs.File.{Sheet}
 use Rattle.model.specs.Calls.{planOf, chartOf, openCall, scanCall, sweepCall, chartCall}
-use Rattle.printing.specs.Words.{letters, said, newline}
+use Rattle.forms.specs.Words.{letters}
+use Rattle.forms.specs.Forms.{line}
 
 -- n
 unfoldable pub planLine : ℕ → List ℕ
-planLine n = said "plan " n ++ newline
+planLine n = line "plan #\n" (n ∷ [])
 
 -- the scan: three numbers if found
 unfoldable pub triangleLine : Option Triple → List ℕ
 triangleLine none = letters "triangle none\n"
-triangleLine (some (a, b, c)) = said "triangle " a ++ said " " b ++ said " " c ++ newline
+triangleLine (some (a, b, c)) = line "triangle # # #\n" (a ∷ b ∷ c ∷ [])
 
 -- w and h
 unfoldable pub sizeLine : ℕ → ℕ → List ℕ
-sizeLine w h = said "size " w ++ said " " h ++ newline
+sizeLine w h = line "size # #\n" (w ∷ h ∷ [])
 
 -- number, x, y
 unfoldable pub pointLine : ℕ → ℕ → ℕ → List ℕ
-pointLine u x y = said "" u ++ said " " x ++ said " " y ++ newline
+pointLine u x y = line "# # #\n" (u ∷ x ∷ y ∷ [])
 
 -- the points of the first n contexts, in their order
 unfoldable pub pointLines : List ℕ → List ℕ → ℕ → List ℕ
@@ -41,7 +42,7 @@ chartLines n c = sizeLine (c .w) (c .h) ++ pointLines (c .xs) (c .ys) n
 
 -- a refusal: its number and its place
 unfoldable pub refusalLine : ℕ → ℕ → List ℕ
-refusalLine k at = said "refused " k ++ said " at " at ++ newline
+refusalLine k at = line "refused # at #\n" (k ∷ at ∷ [])
 
 -- what is printed from a call on: of an accepted one, what follows it; of a refused one, the refusal, which ends the text
 unfoldable pub told : {A : Type 0} → Outcome A → (A → List ℕ) → List ℕ

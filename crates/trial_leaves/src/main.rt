@@ -5,32 +5,17 @@
 // chart, and for a chart record 0 if it is that chart, else 12. A leaf that the ones before it rule out is not asked.
 ghost use Prim.Native.Nat.{_≤_};
 
-// The entries of u's ring, copied behind those of the rings before it.
-fn copy_ring<'a>(
-    entries: &mut [u16],
-    file: &'a [u8],
-    starts: &'a [u16],
-    sizes: &'a [u8],
-    n: usize,
-    u: usize,
-) {
-    let from = lists::num(starts, u);
-    let k = rings::size_of(sizes, n, u);
-    let mut i = 0;
-    while i < k {
-        let v = lent::neighbour_in(file, starts, sizes, n, u, i);
-        lists::set_word(entries, from + i, (v % 65536) as u16);
-        i += 1;
-    }
-}
-
-// The entries of all rings.
-fn entries_of<'a>(file: &'a [u8], starts: &'a [u16], sizes: &'a [u8], n: usize) -> [u16; 1186] {
+// The entries of all rings, copied for each context and each number below 256: behind the end of a ring that is 0, and the next ring is copied over it.
+fn entries_of<'a>(file: &'a [u8], starts: &'a [u16], sizes: &'a [u8], n: usize) -> [u16; 1186]
+    requires { ⌜ n ≤ 200 ⌝ }
+{
     let mut entries = [0u16; 1186];
-    let mut u = 0;
-    while u < n {
-        copy_ring(&mut entries, file, starts, sizes, n, u);
-        u += 1;
+    let mut i = 0;
+    while i < 256 * n {
+        let v = lent::neighbour_in(file, starts, sizes, n, i / 256, i % 256);
+        let at = lists::num(starts, i / 256) + i % 256;
+        lists::set_word(&mut entries, at, (v % 65536) as u16);
+        i += 1;
     }
     entries
 }
@@ -75,22 +60,6 @@ fn print_scan<'a>(starts: &'a [u16], sizes: &'a [u8], entries: &'a [u16], n: usi
     }
 }
 
-// How many bytes are written; 0 where the buffer is short.
-fn length_in(answer: writing::Written) -> usize {
-    match answer {
-        writing::Written::Length(k) => k,
-        writing::Written::Short(_) => 0,
-    }
-}
-
-// How many bytes a short buffer would need; 0 where it is not short.
-fn short_in(answer: writing::Written) -> usize {
-    match answer {
-        writing::Written::Length(_) => 0,
-        writing::Written::Short(k) => k,
-    }
-}
-
 // The plan alone, written as a file into the first bytes of a buffer; in place of the labels and points that it does not have stand its sizes and entries.
 fn write_part<'a>(
     space: &mut [u8],
@@ -117,26 +86,35 @@ fn write_part<'a>(
     )
 }
 
-// How many bytes the plan alone takes when it is written into a buffer, how many of them are the file's, and what a buffer gives that just fits and one that is a byte short.
-fn print_written<'a>(
-    space: &mut [u8],
+// The plan written into so many bytes, with what is said of it where they suffice: how many it takes, and how many of them are the file's; else how many it needs. Either number.
+fn print_part<'a>(
+    text: &'a [u8],
+    size: usize,
     file: &'a [u8],
     sizes: &'a [u8],
     entries: &'a [u16],
     n: usize,
-) {
-    let size = length_in(write_part(space, 4096, sizes, entries, n));
-    let same = console::agreeing(file, space, size);
-    let just = length_in(write_part(space, size, sizes, entries, n));
-    let short = short_in(write_part(space, lists::minus(size, 1), sizes, entries, n));
-    console::show(
-        b" bytes # same # length # short #",
-        size,
-        same,
-        just,
-        short,
-        0,
-    );
+) -> usize {
+    let mut space = io::buffer();
+    let written = write_part(&mut space, size, sizes, entries, n);
+    match written {
+        writing::Written::Length(k) => {
+            console::show(text, k, console::agreeing(file, &space, k), 0, 0, 0);
+            k
+        }
+        writing::Written::Short(k) => {
+            console::show(b" short #", k, 0, 0, 0, 0);
+            k
+        }
+    }
+}
+
+// The plan written into a buffer, into one that just fits, and into one that is a byte short.
+fn print_written<'a>(file: &'a [u8], sizes: &'a [u8], entries: &'a [u16], n: usize) {
+    let size = print_part(b" bytes # same #", 4096, file, sizes, entries, n);
+    print_part(b" length #", size, file, sizes, entries, n);
+    let less = lists::minus(size, 1);
+    print_part(b" length #", less, file, sizes, entries, n);
 }
 
 // The points of n contexts.
@@ -230,19 +208,6 @@ fn print_labels<'a>(
     }
 }
 
-// The scan, and the plan written.
-fn print_whole<'a>(
-    file: &'a [u8],
-    starts: &'a [u16],
-    sizes: &'a [u8],
-    entries: &'a [u16],
-    n: usize,
-) {
-    print_scan(starts, sizes, entries, n);
-    let mut space = io::buffer();
-    print_written(&mut space, file, sizes, entries, n);
-}
-
 // The rules 8 and 9, and on a plan that keeps them the scan, the plan written and the labels.
 fn print_flat<'a>(
     file: &'a [u8],
@@ -256,7 +221,8 @@ fn print_flat<'a>(
     requires { ⌜ n ≤ 200 ⌝ }
 {
     if print_flat_rules(starts, sizes, entries, n) {
-        print_whole(file, starts, sizes, entries, n);
+        print_scan(starts, sizes, entries, n);
+        print_written(file, sizes, entries, n);
         print_labels(file, sizes, entries, n, labels, chart);
     }
 }

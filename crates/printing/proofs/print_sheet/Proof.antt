@@ -5,17 +5,12 @@ use mathlib.Core.List.{List}
 use Prim.Native.Nat.{ℕ}
 use lib.ListN.{length}
 use Rattle.printing.specs.Text.{fileText, text, written}
-use Rattle.printing.proofs.Puts.{put-long, put-front, put-size}
+use Rattle.forms.proofs.Puts.{put-long}
+use Rattle.printing.proofs.Prints.{put-front, prints-size}
 use native.Mathlib.Omega.{arith}
 use borrow.Author.Needs.{needs}
 use Rattle.printing.proofs.print_sheet.Statement.{statement}
 use Rattle.printing.proofs.print_sheet.Tie as tie
-use Rattle.printing.proofs.print_sheet.Reads as reads
-use Rattle.printing.proofs.print_sheet.Lts as lts
-use Rattle.printing.proofs.copy_text.Reads as copy-text-reads
-use Rattle.printing.proofs.plan_file.Reads as plan-file-reads
-use Rattle.printing.proofs.put_file.Reads as put-file-reads
-use Rattle.printing.proofs.room.Reads as room-reads
 
 room-requires : tie.Need-room-requires
 room-requires c κs = search needs
@@ -32,27 +27,21 @@ put-file-requires c κs = search needs
 array-share-prefix-space : tie.Need-array-share-prefix-space
 array-share-prefix-space c =
     let f = c .before .before .put-file .ensures in
-    let size = put-size (f .0) in
+    let size = prints-size f in
     let room = c .before .before .before .before .before .room .ensures in
-    let few = f .1 in
+    let few = f .put .behind in
     omega arith
 
 slice-aggregate-copy-text : tie.Need-slice-aggregate-copy-text
 slice-aggregate-copy-text c =
     let f = c .before .before .before .put-file .ensures in
-    let size = put-size (f .0) in
+    let size = prints-size f in
     let room = c .before .before .before .before .before .before .room .ensures in
-    let few = f .1 in
+    let few = f .put .behind in
     sym (length-take-le _ (c .before .before .before .put-file .last .0) (omega arith))
 
 copy-text-requires : tie.Need-copy-text-requires
-copy-text-requires c κs =
-    let f = c .before .before .before .put-file .ensures in
-    let size = put-size (f .0) in
-    let room = c .before .before .before .before .before .before .room .ensures in
-    let few = f .1 in
-    let all = length-take-le (c .before .before .before .put-file .result) (c .before .before .before .put-file .last .0) (omega arith) in
-    omega arith
+copy-text-requires c κs = search needs
 
 same-length : tie.Need-same-length
 same-length c = search needs
@@ -63,8 +52,10 @@ returns c =
     let f = c .before .before .before .before .before .before .put-file .ensures in
     let room = c .before .before .before .before .before .before .before .before .before .room .ensures in
     let is = ap fileText (c .before .before .before .before .before .before .before .plan-file .ensures) in
-    let front = put-front (f .0) (omega arith) ∙ is in
-    (put-long (f .0) ∙ ap length is, (f .1, c .before .before .copy-text .ensures ∙ ap (λ (t : List ℕ). written t (c .before .before .before .before .before .before .before .before .before .before .before .before .args .out .now)) front))
+    let few = f .few in
+    let front = put-front (f .put) (omega arith) ∙ is in
+    let long = put-long (f .put) (omega arith) in
+    (long ∙ ap length is, (omega arith, c .before .before .copy-text .ensures ∙ ap (λ (t : List ℕ). written t (c .before .before .before .before .before .before .before .before .before .before .before .before .args .out .now)) front))
 
 pub print-sheet-spec : {M : Type 1} → statement M
 print-sheet-spec =

@@ -2,17 +2,12 @@
 use mathlib.Core.Path.{sym, ap, _∙_}
 use Rattle.sheet.specs.Sheets.{reads as readsAs}
 use Rattle.sheet.specs.Answers.{answerAs}
-use Rattle.printing.proofs.Puts.{put-as}
+use Rattle.printing.proofs.Prints.{prints-as}
 use Rattle.printing.proofs.Texts.{sweep-refused, sweep-accepted}
 use native.Mathlib.Omega.{arith}
 use borrow.Author.Needs.{needs}
 use Rattle.printing.proofs.put_swept.Statement.{statement}
 use Rattle.printing.proofs.put_swept.Tie as tie
-use Rattle.printing.proofs.put_swept.Reads as reads
-use Rattle.printing.proofs.put_swept.Lts as lts
-use Rattle.calls.proofs.sweep.Reads as sweep-reads
-use Rattle.printing.proofs.put_drawn.Reads as put-drawn-reads
-use Rattle.printing.proofs.put_refusal.Reads as put-refusal-reads
 
 sweep-requires : tie.Need-sweep-requires
 sweep-requires c κs = search needs
@@ -34,11 +29,7 @@ same-length c = search needs
 
 returns : tie.Need-returns
 unfolding answerAs
-returns c =
-    let s = c .before .before .before .before .before .before .before .before .before .before .args .sheet in
-    let l = c .before .before .put-refusal .ensures in
-    let end = l .1 in
-    (put-as (l .0) (sweep-refused (readsAs s) (sym (ap answerAs (c .before .before .before .before .before .answer .given .1)) ∙ c .before .before .before .before .before .before .before .before .sweep .ensures .0)), omega arith)
+returns c = prints-as (c .before .before .put-refusal .ensures) (sweep-refused (readsAs (c .before .before .before .before .before .before .before .before .before .args .sheet)) (sym (ap answerAs (c .before .before .before .before .before .answer .given .1)) ∙ c .before .before .before .before .before .before .before .sweep .ensures .0)) (omega arith)
 
 same-length-2 : tie.Need-same-length-2
 same-length-2 c = search needs
@@ -46,10 +37,8 @@ same-length-2 c = search needs
 returns-2 : tie.Need-returns-2
 unfolding answerAs
 returns-2 c =
-    let s = c .before .before .before .before .before .before .before .before .before .args .sheet in
-    let o = c .before .before .before .before .before .before .before .sweep in
-    let l = c .before .before .put-drawn .ensures in
-    (put-as (l .0) (sweep-accepted s (o .result .sheet) (sym (ap answerAs (c .before .before .before .before .enum-told .given .1)) ∙ o .ensures .0) (o .ensures .1)), l .1)
+    let o = c .before .before .before .before .before .before .sweep in
+    prints-as (c .before .before .put-drawn .ensures) (sweep-accepted (c .before .before .before .before .before .before .before .before .args .sheet) (o .result .sheet) (sym (ap answerAs (c .before .before .before .before .enum-told .given .1)) ∙ o .ensures .0) (o .ensures .1)) (omega arith)
 
 pub put-swept-spec : {M : Type 1} → statement M
 put-swept-spec =

@@ -1,18 +1,18 @@
 -- put_number meets its contract; the number falls at each call of itself.
 use mathlib.Core.Path.{sym}
-use Rattle.printing.proofs.Digits.{digits-low, digits-high, digits-wide}
-use Rattle.printing.proofs.Puts.{put-join, put-as}
+use Rattle.forms.proofs.Digits.{digits-low, digits-high}
+use Rattle.forms.proofs.Puts.{put-join, put-as}
 use native.Mathlib.Omega.{arith}
 use borrow.Author.Needs.{needs}
-use Prim.Native.Nat.{ℕ, _/_, _<_}
+use Prim.Native.Nat.{ℕ, _<_}
 use borrow.Fn.Kinds.{In}
 use borrow.Fn.PlainCycle.{Measures, is, falls, and}
-use Rattle.printing.proofs.put_number.Reads as put-number
-use Rattle.printing.proofs.put_number.Kinds as put-number-kinds
-use Rattle.printing.proofs.+put_number.Lts-put_number as put-number-lts
-use Rattle.printing.proofs.put_byte.Reads as put-byte-reads
-use Rattle.printing.proofs.+put_number.{statement}
-use Rattle.printing.proofs.+put_number.Tie.{close}
+use Rattle.forms.proofs.put_number.Reads as put-number
+use Rattle.forms.proofs.put_number.Kinds as put-number-kinds
+use Rattle.forms.proofs.+put_number.Lts-put_number as put-number-lts
+use Rattle.forms.proofs.put_byte.Reads as put-byte-reads
+use Rattle.forms.proofs.+put_number.{statement}
+use Rattle.forms.proofs.+put_number.Tie.{close}
 
 abbrev μ-put-number : Measures 1 put-number-kinds.ps ℕ
 μ-put-number κs a = a .1 .1 .0
@@ -32,6 +32,14 @@ put-number-add-put-byte : (t : ℕ) → put-number-lts.Need-add-put-byte (
   put-number.Post,
 ) (put-number-at t) put-number.Post
 put-number-add-put-byte t c = search needs
+
+put-number-cast-put-byte : (t : ℕ) → put-number-lts.Need-cast-put-byte (
+  put-byte-reads.Asked,
+  put-byte-reads.Learnt,
+  put-number-below t,
+  put-number.Post,
+) (put-number-at t) put-number.Post
+put-number-cast-put-byte t c = search needs
 
 put-number-put-byte-requires : (t : ℕ) → put-number-lts.Need-put-byte-requires (
   put-byte-reads.Asked,
@@ -73,17 +81,21 @@ put-number-add-put-byte-2 : (t : ℕ) → put-number-lts.Need-add-put-byte-2 (
 ) (put-number-at t) put-number.Post
 put-number-add-put-byte-2 t c = search needs
 
+put-number-cast-put-byte-2 : (t : ℕ) → put-number-lts.Need-cast-put-byte-2 (
+  put-byte-reads.Asked,
+  put-byte-reads.Learnt,
+  put-number-below t,
+  put-number.Post,
+) (put-number-at t) put-number.Post
+put-number-cast-put-byte-2 t c = search needs
+
 put-number-put-byte-requires-2 : (t : ℕ) → put-number-lts.Need-put-byte-requires-2 (
   put-byte-reads.Asked,
   put-byte-reads.Learnt,
   put-number-below t,
   put-number.Post,
 ) (put-number-at t) put-number.Post
-put-number-put-byte-requires-2 t c κs =
-    let x = c .before .before .before .before .before .before .before .args .x in
-    let to = c .before .before .before .put-number .ensures .behind in
-    let few = digits-wide (x / 10) (omega arith) in
-    (omega arith, omega arith)
+put-number-put-byte-requires-2 t c κs = search needs
 
 put-number-same-length-2 : (t : ℕ) → put-number-lts.Need-same-length-2 (
   put-byte-reads.Asked,
@@ -113,11 +125,13 @@ pub +put-number-spec : {M : Type 1} → statement M
     (put-number-at t)
     put-number.Post
     (put-number-add-put-byte t)
+    (put-number-cast-put-byte t)
     (put-number-put-byte-requires t)
     (put-number-same-length t)
     (put-number-returns t)
     (put-number-put-number-requires t)
     (put-number-add-put-byte-2 t)
+    (put-number-cast-put-byte-2 t)
     (put-number-put-byte-requires-2 t)
     (put-number-same-length-2 t)
     (put-number-returns-2 t)

@@ -7,7 +7,7 @@ use native.Mathlib.Omega.{arith}
 use lib.ListN.{length, length-append}
 use lib.Dec.{ltb}
 use borrow.Author.Tests.{ltb-true, ltb-false, lt-ltb, le-ltb}
-use Rattle.printing.specs.Words.{digitsBelow, digits, number}
+use Rattle.forms.specs.Words.{digitsBelow, digits, number}
 
 -- ---- the digits of a number from those of its tenth
 -- two lists that are the same where the test fails are the same behind the test

@@ -27,15 +27,7 @@ unfoldable pub number : ℕ → List ℕ → ℕ
 number a [] = a
 number a (d ∷ l) = number (10 * a + (d - 48)) l
 
--- a word, then a number
-unfoldable pub said : string.String → ℕ → List ℕ
-said word x = letters word ++ digits x
-
--- the end of a line
-abbrev pub newline : List ℕ
-newline = 10 ∷ []
-
 -- who unfolds this unfolds all of the above: for facts that are computed
 unfoldable pub words-computes : Unit {0}
-unfolding letters digitsBelow digits said
+unfolding letters digitsBelow digits
 words-computes = tt
