@@ -19,12 +19,6 @@ use sheet::Scanned;
 use sheet::Sheet;
 use sheet::Written;
 
-// How many checks there were, and how many of them were wrong.
-struct Tally {
-    checks: usize,
-    wrong: usize,
-}
-
 // The inner faces of a chart: how many there are, how many of them are positive, the least and the sum of their doubled areas.
 struct Areas {
     faces: usize,
@@ -33,19 +27,14 @@ struct Areas {
     sum: usize,
 }
 
-// The end of a check's line; the tally with it.
-fn judge(tally: Tally, right: bool) -> Tally {
-    let checks = std::num::wrapping_add_usize(tally.checks, 1);
-    let wrong = tally.wrong;
+// The end of a check's line; the tally with it: how many checks there were, and 65536 times how many of them were wrong.
+fn judge(tally: usize, right: bool) -> usize {
     if right {
         io::write_all(1, b": ok\n");
-        return Tally { checks, wrong };
+        return std::num::wrapping_add_usize(tally, 1);
     }
     io::write_all(1, b": WRONG\n");
-    Tally {
-        checks,
-        wrong: std::num::wrapping_add_usize(wrong, 1),
-    }
+    std::num::wrapping_add_usize(tally, 65537)
 }
 
 // A refusal as a number: its own, and 256 times its place.
@@ -77,16 +66,10 @@ fn stage_of(sheet: Sheet) -> usize {
     sheet::rank_of(sheet::stage_of(sheet))
 }
 
-// Writes a text from an index on, with an answer's number and place for its next two `#`.
-fn show_answer(text: &[u8], from: usize, answer: usize) {
-    let behind = console::show_part(text, from, answer % 256);
-    console::show_part(text, behind, answer / 256);
-}
-
-// Writes a text from an index on, with a sheet's width and height for its next two `#`.
-fn show_size(text: &[u8], from: usize, sheet: Sheet) {
-    let behind = console::show_part(text, from, lists::wide_word(sheet.w));
-    console::show_part(text, behind, lists::wide_word(sheet.h));
+// Writes a text from an index on, with two numbers for its next two `#`.
+fn show_two(text: &[u8], from: usize, a: usize, b: usize) {
+    let behind = console::show_part(text, from, a);
+    console::show_part(text, behind, b);
 }
 
 // Where the name of a stage stands in the text of show_sheet.
@@ -102,14 +85,23 @@ fn name_of(stage: usize) -> usize {
 // Writes a sheet's stage, width and height.
 fn show_sheet(sheet: Sheet) {
     let from = name_of(stage_of(sheet));
-    show_size(b"EMPTY #x#OPEN #x#LABELLED #x#CHARTED #x#", from, sheet);
+    let w = lists::wide_word(sheet.w);
+    let h = lists::wide_word(sheet.h);
+    show_two(b"EMPTY #x#OPEN #x#LABELLED #x#CHARTED #x#", from, w, h);
 }
 
 // The check that a sheet has no chart.
-fn check_undrawn(tally: Tally, sheet: Sheet) -> Tally {
+fn check_undrawn(tally: usize, sheet: Sheet) -> usize {
     show_sheet(sheet);
     let same = same_of(sheet, sheet);
-    show_answer(b", not drawn yet, same # at #", 0, same);
+    console::show(
+        b", not drawn yet, same # at #",
+        same % 256,
+        same / 256,
+        0,
+        0,
+        0,
+    );
     if lists::wide_word(sheet.w) + lists::wide_word(sheet.h) != 0 {
         return judge(tally, false);
     }
@@ -158,7 +150,7 @@ fn encloses(sheet: Sheet, a: usize, b: usize, c: usize) -> bool {
 }
 
 // The check of scan.
-fn check_scan(tally: Tally, sheet: Sheet) -> Tally {
+fn check_scan(tally: usize, sheet: Sheet) -> usize {
     let scanned = reports::scan(sheet);
     match scanned {
         Scanned::Triple(a, b, c) => {
@@ -192,16 +184,17 @@ fn said_of(stage: usize) -> usize {
 }
 
 // The check of sweep and chart.
-fn check_drawn(tally: Tally, swept: usize, charted: usize, sheet: Sheet) -> Tally {
+fn check_drawn(tally: usize, swept: usize, charted: usize, sheet: Sheet) -> usize {
     let stage = stage_of(sheet);
     io::write_all(1, b"  drawn: ");
     show_sheet(sheet);
-    show_answer(
+    show_two(
         b", no labels, sweep # at #, cannot be drawn, sweep # at #, drawn, sweep # at #",
         said_of(stage),
-        swept,
+        swept % 256,
+        swept / 256,
     );
-    show_answer(b", chart # at #", 0, charted);
+    console::show(b", chart # at #", charted % 256, charted / 256, 0, 0, 0);
     judge(tally, charted == chart_due(stage))
 }
 
@@ -268,7 +261,7 @@ fn doubled(w: u16, h: u16) -> usize {
 }
 
 // The check of the areas.
-fn check_areas(tally: Tally, sheet: Sheet) -> Tally {
+fn check_areas(tally: usize, sheet: Sheet) -> usize {
     let areas = areas_of(sheet);
     let whole = doubled(sheet.w, sheet.h);
     console::show(
@@ -315,7 +308,7 @@ fn write_into(sheet: Sheet, out: &mut [u8]) -> usize {
 }
 
 // The check that two sheets are written as the same file.
-fn check_written(tally: Tally, a: Sheet, b: Sheet) -> Tally {
+fn check_written(tally: usize, a: Sheet, b: Sheet) -> usize {
     let mut one = io::large_buffer();
     let size = write_into(a, &mut one);
     let mut other = io::large_buffer();
@@ -350,25 +343,30 @@ fn drawn_anew(opened: Sheet, sheet: Sheet) -> Sheet {
 }
 
 // The check that the chart drawn after a turn is the one that is drawn anew.
-fn check_same(tally: Tally, new: Sheet, anew: Sheet) -> Tally {
+fn check_same(tally: usize, new: Sheet, anew: Sheet) -> usize {
     let same = same_of(new, anew);
-    show_answer(b", same # at #", 0, same);
+    console::show(b", same # at #", same % 256, same / 256, 0, 0, 0);
     check_written(judge(tally, same == 0), new, anew)
 }
 
 // The checks of the chart that is drawn after a turn, behind the one before it.
-fn check_afresh<'a>(tally: Tally, file: &'a [u8], old: Sheet, turned: Sheet) -> Tally {
+fn check_afresh<'a>(tally: usize, file: &'a [u8], old: Sheet, turned: Sheet) -> usize {
     let charted = calls::chart(turned);
     let opened = open_anew(file);
-    show_size(b"  afresh: before #x#", 0, old);
-    show_size(b", after #x#", 0, charted.sheet);
+    console::show(
+        b"  afresh: before #x#, after #x#",
+        lists::wide_word(old.w),
+        lists::wide_word(old.h),
+        lists::wide_word(charted.sheet.w),
+        lists::wide_word(charted.sheet.h),
+        0,
+    );
     check_same(tally, charted.sheet, drawn_anew(opened.sheet, turned))
 }
 
 // The checks of the turn with this number.
-fn check_turned<'a>(tally: Tally, file: &'a [u8], sheet: Sheet, number: usize) -> Tally {
+fn check_turned<'a>(tally: usize, file: &'a [u8], sheet: Sheet, number: usize) -> usize {
     let outcome = turn_by(sheet, number);
-    let turned = outcome.sheet;
     console::show(
         b"  turned: edge #,# direction #, ",
         number / 512,
@@ -377,11 +375,16 @@ fn check_turned<'a>(tally: Tally, file: &'a [u8], sheet: Sheet, number: usize) -
         0,
         0,
     );
-    check_afresh(check_undrawn(tally, turned), file, sheet, turned)
+    check_afresh(
+        check_undrawn(tally, outcome.sheet),
+        file,
+        sheet,
+        outcome.sheet,
+    )
 }
 
 // The checks of a turn of a part of a chart.
-fn check_turn<'a>(tally: Tally, file: &'a [u8], sheet: Sheet) -> Tally {
+fn check_turn<'a>(tally: usize, file: &'a [u8], sheet: Sheet) -> usize {
     let number = first_turn(sheet);
     if number < 102400 {
         return check_turned(tally, file, sheet, number);
@@ -391,7 +394,7 @@ fn check_turn<'a>(tally: Tally, file: &'a [u8], sheet: Sheet) -> Tally {
 }
 
 // The check of a sheet as a file opens it, where that has no chart.
-fn check_opened(tally: Tally, sheet: Sheet) -> Tally {
+fn check_opened(tally: usize, sheet: Sheet) -> usize {
     if stage_of(sheet) == 3 {
         return tally;
     }
@@ -400,7 +403,7 @@ fn check_opened(tally: Tally, sheet: Sheet) -> Tally {
 }
 
 // The checks of sweep and chart, and of the chart where there is one.
-fn check_chart<'a>(tally: Tally, file: &'a [u8], sheet: Sheet) -> Tally {
+fn check_chart<'a>(tally: usize, file: &'a [u8], sheet: Sheet) -> usize {
     let swept = calls::sweep(sheet);
     let charted = calls::chart(swept.sheet);
     let drawn = charted.sheet;
@@ -412,7 +415,7 @@ fn check_chart<'a>(tally: Tally, file: &'a [u8], sheet: Sheet) -> Tally {
 }
 
 // A file: its number, its n, what open answers, and the checks where it is accepted.
-fn check_file<'a>(tally: Tally, number: usize, file: &'a [u8]) -> Tally {
+fn check_file<'a>(tally: usize, number: usize, file: &'a [u8]) -> usize {
     let outcome = open_anew(file);
     let answer = answer_of(outcome);
     let sheet = outcome.sheet;
@@ -431,18 +434,14 @@ fn check_file<'a>(tally: Tally, number: usize, file: &'a [u8]) -> Tally {
 }
 
 // The files of an input, one after another.
-fn check_files(input: &[u8]) -> Tally {
-    let mut tally = Tally {
-        checks: 0,
-        wrong: 0,
-    };
+fn check_files(input: &[u8]) -> usize {
+    let mut tally = 0;
     let mut number = 0;
     let mut at = 0;
     while at < input.len() {
         let size = lists::word_at(input, at);
         number = std::num::wrapping_add_usize(number, 1);
-        let more = check_file(tally, number, framing::ring_part(input, at + 2, size));
-        tally = more;
+        tally = check_file(tally, number, framing::ring_part(input, at + 2, size));
         at += 2 + size;
     }
     tally
@@ -453,5 +452,12 @@ fn main() {
     let mut space = io::large_buffer();
     let got = io::read_full(0, &mut space);
     let tally = check_files(framing::ring_part(&space, 0, got));
-    console::show(b"# checks, # wrong\n", tally.checks, tally.wrong, 0, 0, 0);
+    console::show(
+        b"# checks, # wrong\n",
+        tally % 65536,
+        tally / 65536,
+        0,
+        0,
+        0,
+    );
 }
