@@ -21,17 +21,17 @@ use Rattle.model.specs.Sweep.{sweep}
 use Rattle.sweep.specs.declared.SweepAnswer.{SweepAnswer}
 use Rattle.sweep.specs.declared.SweepAnswer.the-variants.{Labelled, Stuck, Broken, Unfit}
 use Rattle.sweep.specs.declared.Swept.{Swept}
-use Rattle.sweep.specs.declared.Ended.{Ended}
+use Rattle.steps.specs.declared.Ended.{Ended}
 use Rattle.fit.specs.Fits.{fit}
-use Rattle.sweep.specs.Swept.{sweepOf, outcomeOf}
-use Rattle.sweep.specs.Run.{bare, swept, endedAs}
+use Rattle.steps.specs.Run.{swept, stepsOf, endedAs}
+use Rattle.sweep.specs.Swept.{sweepOf, outcomeOf, bare, unswept}
 use Rattle.rings.specs.Tables.{startsOf, rows, table}
 use Rattle.rings.proofs.Rows.{count-rows}
 use Rattle.rings.specs.Tables.{held}
 use Rattle.labels.proofs.Places.{held-small}
 use Rattle.fit.proofs.Fits.{fit-says}
-use Rattle.sweep.proofs.Draws.{as-table, start-next, start-le}
-use Rattle.sweep.proofs.Steps.{swept-14}
+use Rattle.steps.proofs.Draws.{as-table, start-next, start-le}
+use Rattle.steps.proofs.Steps.{swept-14}
 
 -- ---- the label rules on labels with zeros after them
 -- a part of the labels
@@ -189,6 +189,31 @@ module _ (p : Plan) (fits : fit p ≡ true) where
           go (ls, z, y) =
               answers p r (accepted ls) (swept-then (accepted ls) z ∙ kept ls (place-is ls z y) most) (ap (λ (w : SweepAnswer). outcomeOf w ls) a) (l ∙ y)
 
+-- ---- the plan fits, or not
+module _ (p : Plan) {ended : Ended} (e : ended ≡ endedAs (stepsOf p)) where
+  -- how the steps of a plan that fits ended
+  pub ended-fit : fit p ≡ true → ended ≡ endedAs (swept p)
+  unfolding stepsOf
+  ended-fit fits = e ∙ ap (λ (t : Bool). endedAs (cond t (swept p) (refused 13 0))) fits
+
+  -- steps that finished are those of a plan that fits
+  pub finished-fit : ended .finished ≡ true → fit p ≡ true
+  unfolding stepsOf endedAs
+  finished-fit h = go (fit p) refl
+    where
+      go : (t : Bool) → fit p ≡ t → fit p ≡ true
+      go true q = q
+      go false q = absurd (false≢true (sym (ap (λ (d : Ended). d .finished) (e ∙ ap (λ (t : Bool). endedAs (cond t (swept p) (refused 13 0))) q)) ∙ h))
+
+  -- The steps did not finish: 13 or 14
+  pub answer-unswept : {r : Swept} → ended .finished ≡ false → r ≡ unswept (fit p) → Answers p r
+  unfolding unswept
+  answer-unswept {r} h q = go (fit p) refl
+    where
+      go : (t : Bool) → fit p ≡ t → Answers p r
+      go true f = answer-stuck p f (ended-fit f) h (q ∙ ap unswept f)
+      go false f = answer-unfit p f (q ∙ ap unswept f)
+
 -- ---- the same of a plan in flat arrays
 module _ (sizes es : List ℕ) (n : ℕ) where
   -- the plan
@@ -199,10 +224,6 @@ module _ (sizes es : List ℕ) (n : ℕ) where
   pub counted : count plan ≡ n
   unfolding table
   counted = count-rows (startsOf sizes) sizes es n
-
-  -- what the steps came to
-  pub ran : {starts : List ℕ} {ended : Ended} → starts ≡ startsOf sizes → ended ≡ endedAs (swept (rows starts sizes es n)) → ended ≡ endedAs (swept plan)
-  ran {starts} same e = e ∙ ap (λ (p : Plan). endedAs (swept p)) (as-table starts sizes es n same)
 
   -- the place of the label rules
   pub ruled : {place : ℕ} (ls : List ℕ) → fit plan ≡ true → place ≡ lowest (breaks (held sizes es n) ls) (min n 200) → place ≡ lowest (breaks plan ls) (count plan)

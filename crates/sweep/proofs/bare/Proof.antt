@@ -3,10 +3,10 @@ use mathlib.Core.Path.{refl}
 use Rattle.lists.specs.Spans.{zeros}
 use Rattle.sweep.proofs.bare.Statement.{statement}
 use Rattle.sweep.proofs.bare.Tie as tie
-use Rattle.sweep.specs.Run as run
+use Rattle.sweep.specs.Swept.{bare}
 
 returns : tie.Need-returns
-unfolding run.bare zeros
+unfolding bare zeros
 returns c = refl
 
 pub bare-spec : {M : Type 1} → statement M

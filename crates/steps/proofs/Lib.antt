@@ -1,0 +1,5 @@
+pub mod Draws
+pub mod Unlabelled
+pub mod Fits
+pub mod Steps
+pub mod Down

@@ -1,0 +1,50 @@
+-- mark::to_north meets its contract.
+use mathlib.Core.Path.{ap, _∙_}
+use mathlib.Core.List.{[], _∷_}
+use Prim.Native.Nat.{ℕ, _-_}
+use native.Mathlib.Omega.{arith}
+use lib.ListN.{getD}
+use borrow.Author.Needs.{needs}
+use Rattle.lists.specs.Spans.{span}
+use Rattle.model.specs.Labels.{up}
+use Rattle.model.specs.Sweep.{product}
+use Rattle.rings.specs.Tables.{rows}
+use Rattle.steps.proofs.Draws.{Draws, draws-start, draws-on, draws-end, draws-size, north-more, north-end}
+use Rattle.steps.proofs.mark.to_north.Statement.{statement}
+use Rattle.steps.proofs.mark.to_north.Tie as tie
+use Rattle.steps.specs.Run as run
+
+abbrev Inv-loop : tie.InvT-loop
+Inv-loop labels₀ places starts sizes entries n f a e k₀ labels k = Draws (rows starts sizes entries n) up (product (span f a e) (0 ∷ [])) labels₀ (product (span f k e) (0 ∷ [])) labels
+
+abbrev μ-loop : tie.MeasureT-loop
+μ-loop labels₀ places starts sizes entries n f a e k₀ labels k = e - k
+
+loop-holds : tie.Need-loop-holds Inv-loop μ-loop
+loop-holds c = draws-start
+
+num-requires : tie.Need-num-requires Inv-loop μ-loop
+num-requires c κs = search needs
+
+edge-requires : tie.Need-edge-requires Inv-loop μ-loop
+edge-requires c κs = (c .before .before .before .before .before .before .before .before .before .before .pre .0, (c .before .before .before .before .before .before .before .before .before .before .pre .1 .0, (c .before .before .before .before .before .before .before .before .before .before .pre .1 .1, omega arith)))
+
+add-k : tie.Need-add-k Inv-loop μ-loop
+add-k c = search needs
+
+loop-less : tie.Need-loop-less Inv-loop μ-loop
+loop-less c = search needs
+
+loop-again : tie.Need-loop-again Inv-loop μ-loop
+loop-again c =
+    let a = c .before .before .before .before .before .before .before .before .before .before .before .before .before .args in
+    draws-on (c .before .before .before .before .before .before .loop .inv) (getD (a .f .now) (c .before .before .before .before .before .before .loop .k) 0) 0 (north-more (a .f .now) (c .before .before .before .before .before .before .loop .k) (a .e) (omega arith)) (c .before .before .edge .ensures ∙ ap (λ (u : ℕ). run.edge (rows (a .starts .now) (a .sizes .now) (a .entries .now) (a .n)) 0 u 0 (c .before .before .before .before .before .before .loop .labels)) (c .before .before .before .num .ensures .0))
+
+same-length : tie.Need-same-length Inv-loop μ-loop
+same-length c = draws-size (c .before .loop .inv)
+
+returns : tie.Need-returns Inv-loop μ-loop
+returns c = let a = c .before .before .before .before .before .before .before .before .args in draws-end (c .before .loop .inv) (north-end (a .f .now) (c .before .loop .k) (a .e) (omega arith))
+
+pub to-north-spec : {M : Type 1} → statement M
+to-north-spec = tie.close (tie.spec Inv-loop μ-loop loop-holds num-requires edge-requires add-k loop-less loop-again same-length returns)
