@@ -1,9 +1,9 @@
--- chords::chord_new meets its contract.
+-- chord_new meets its contract.
 use mathlib.Core.Path.{sym, _∙_}
-use Rattle.pairs.specs.Run as run
+use Rattle.chords.specs.Run as run
 use borrow.Author.Needs.{needs}
-use Rattle.pairs.proofs.chords.chord_new.Statement.{statement}
-use Rattle.pairs.proofs.chords.chord_new.Tie as tie
+use Rattle.chords.proofs.chord_new.Statement.{statement}
+use Rattle.chords.proofs.chord_new.Tie as tie
 
 chord-left-requires : tie.Need-chord-left-requires
 chord-left-requires c κs = search needs
