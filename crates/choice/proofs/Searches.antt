@@ -25,14 +25,15 @@ use Rattle.model.proofs.Choices.{Positions, chosen-taken, none-taken}
 use Rattle.frontier.specs.declared.Line.{Line}
 use Rattle.choice.specs.declared.Found.the-variants.{At, Nothing}
 use Rattle.frontier.specs.Front.{Sane, Front}
-use Rattle.pairs.specs.Run.{fits}
+use Rattle.chords.specs.Run.{fits}
 use Rattle.choice.specs.Run.{Trail, placed, same, startTrail}
 use Rattle.choice.specs.Search.{foundAs, Trails, Reason, edge, old, twice, right, beside, later, split, Stops, bare, barred, Extends, Best}
 use Rattle.pairs.proofs.Dirt.{repeats-right, or-left, squeeze-before, clean-once}
 use Rattle.frontier.proofs.Lines.{getD-padded}
 use Rattle.pairs.proofs.Gather.{raw}
 use Rattle.frontier.proofs.Under.{below-mem}
-use Rattle.pairs.proofs.Pairs.{fits-is, gathered, unchorded}
+use Rattle.pairs.proofs.Pairs.{gathered, unchorded}
+use Rattle.chords.proofs.Eligibility.{fits-is}
 use Rattle.choice.proofs.Trails.{placed-real, trails-start}
 use Rattle.choice.proofs.Pockets.{apart}
 

@@ -388,7 +388,7 @@ fn search<'a>(
         k -= 1;
         let i = k - 1;
         if i <= t.lo {
-            if pairs::chords::fits(places, starts, sizes, entries, n, f, m, marks, clean, i, j) {
+            if chords::fits(places, starts, sizes, entries, n, f, m, marks, clean, i, j) {
                 return k;
             }
         }

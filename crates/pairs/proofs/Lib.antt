@@ -2,5 +2,4 @@ pub mod Moves
 pub mod Dirt
 pub mod Adding
 pub mod Gather
-pub mod Chordless
 pub mod Pairs

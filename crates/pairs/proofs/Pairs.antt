@@ -1,14 +1,13 @@
--- The engine's test of a pair of positions is the model's; and the frontier that it makes of an eligible pair is the model's.
+-- The frontier that the engine makes of an eligible pair of positions is the model's.
 use Prim.Native.Nat.{ℕ, zero, suc, _+_, _-_, _≤_, _<_}
 use mathlib.Core.Path.{_≡_, refl, ap, sym, _∙_, subst}
 use mathlib.Core.Logic.{_⊎_, ⊎-elim}
 use mathlib.Core.List.{List, [], _∷_, _++_, append-assoc, append-nil, List·Memᴰ, Memᴰ·append-left}
-use mathlib.Core.Bool.{Bool, true, false, cond, not, _&&_, _||_, Bool·not-not}
+use mathlib.Core.Bool.{Bool, true, false, _||_}
 use native.Mathlib.Omega.{arith}
 use lib.ListN.{length, getD, take, drop, length-append, length-drop}
 use lib.Seq.{take-all, append-snoc, length-take-le}
-use lib.Dec.{eqb, ltb}
-use borrow.Author.Tests.{lt-ltb}
+use lib.Dec.{eqb}
 use Rattle.lists.specs.Tests.{any, member, repeats}
 use Rattle.lists.specs.Spans.{stretch, zeros, padded}
 use Rattle.lists.proofs.Bools.{both, and-yes}
@@ -21,12 +20,11 @@ use Rattle.lists.specs.Folds.{each}
 use Rattle.frontier.specs.declared.Line.{Line}
 use Rattle.frontier.specs.Front.{Small, Sane, Rep, Marks, Front}
 use Rattle.frontier.specs.Run.{line, pushed, fresh}
-use Rattle.pairs.specs.Run.{appended, listing, chorded, chordLeft, chordRight, broken, chordNew, fits}
+use Rattle.pairs.specs.Run.{appended, listing}
 use Rattle.pairs.proofs.Dirt.{dirty, clean-once, clean-new}
-use Rattle.frontier.proofs.Lines.{small-append, small-mem, mem-small, no-longer, push-rep, marks-same, pushed-marks, fresh-rep, stretch-all, stretch-part, getD-padded}
+use Rattle.frontier.proofs.Lines.{small-append, small-mem, mem-small, no-longer, push-rep, marks-same, pushed-marks, fresh-rep, stretch-all, stretch-part}
 use Rattle.pairs.proofs.Adding.{Good}
 use Rattle.pairs.proofs.Gather.{listing-comes, allowed}
-use Rattle.pairs.proofs.Chordless.{chorded-is, fresh-is}
 use Rattle.pairs.specs.Run as run
 
 -- ---- contexts put at the end of a line
@@ -95,7 +93,7 @@ module _ (p : Plan) (sane : Sane p) (s : State) (v : Line) (fr : Front s v) wher
   okay i j = allowed p sane (s .seen) f (v .marks) (fr .marks) i j
 
   -- what the list comes to
-  comes : (i j : ℕ) → (Good (s .seen) (list i j) (listed p f i j) × (okay i j ≡ true)) ⊎ (((list i j) .ok ≡ false) × (okay i j ≡ false))
+  pub comes : (i j : ℕ) → (Good (s .seen) (list i j) (listed p f i j) × (okay i j ≡ true)) ⊎ (((list i j) .ok ≡ false) × (okay i j ≡ false))
   comes i j =
       subst (λ (a : List ℕ). (Good (s .seen) (listing p a (v .marks) (suc i) j) (listed p f i j) × (okay i j ≡ true)) ⊎ (((listing p a (v .marks) (suc i) j) .ok ≡ false) × (okay i j ≡ false)))
       (sym (fr .rep .at)) (listing-comes p sane (s .seen) f (v .marks) (fr .marks) i j)
@@ -135,7 +133,7 @@ module _ (p : Plan) (sane : Sane p) (s : State) (v : Line) (fr : Front s v) wher
     next = run.replaced (v .at) (v .len) (suc i) j (list i j)
 
     -- with a line of the list in place it holds the new frontier
-    new-rep-of : (w : Line) → Rep w l → Good (s .seen) (list i j) l → Rep (run.replaced (v .at) (v .len) (suc i) j w) (replaced f i j l)
+    pub new-rep-of : (w : Line) → Rep w l → Good (s .seen) (list i j) l → Rep (run.replaced (v .at) (v .len) (suc i) j w) (replaced f i j l)
     new-rep-of w r g =
         let fit = news-fit l (clean-once (s .seen) l (g .clean)) (clean-new (s .seen) l (g .clean)) (g .small) in
         subst (λ (a : List ℕ). Rep (run.replaced a (v .len) (suc i) j w) (replaced f i j l)) (sym (fr .rep .at))
@@ -145,36 +143,6 @@ module _ (p : Plan) (sane : Sane p) (s : State) (v : Line) (fr : Front s v) wher
     -- so it does with that of the pair
     new-rep : Good (s .seen) (list i j) l → Rep next (replaced f i j l)
     new-rep g = new-rep-of (list i j) (g .rep) g
-
-    -- the test for chords of a new frontier that is looked at whole
-    broken-is : (g : Good (s .seen) (list i j) l) → broken p (v .at) (v .len) i j (list i j .at) (list i j .len) ≡ not (chordless p (replaced f i j l))
-    unfolding broken
-    broken-is g =
-        let r = new-rep-of (line true (list i j .len) (list i j .at) (zeros 256)) (record { ok = refl; len = g .rep .len; at = g .rep .at; short = g .rep .short }) g in
-        (λ t. cond (r .ok t) (chorded p (r .at t) (r .len t)) true) ∙ chorded-is p (replaced f i j l)
-
-    -- the test of a new frontier is the model's
-    chord-is : (clean : Bool) → (clean ≡ true → chordless p f ≡ true) → Good (s .seen) (list i j) l → chordNew p clean (v .at) (v .len) i j (list i j .at) (list i j .len) ≡ not (chordless p (replaced f i j l))
-    unfolding chordNew
-    chord-is true c g =
-        let e = fr .rep in
-        let w = g .rep in
-        (λ t. cond (chordLeft p (e .at t) i (w .at t) (w .len t)) true (chordRight p (e .at t) (e .len t) j (w .at t) (w .len t)))
-        ∙ fresh-is p f l i j h q (padded 512 f) (padded 512 l) (getD-padded 512 f) (getD-padded 512 l) (c refl)
-    chord-is false c g = broken-is g
-
-    -- The engine's test is the model's; it may look at the list alone where the frontier has no chord
-    pub fits-is : (clean : Bool) → (clean ≡ true → chordless p f ≡ true) → fits p clean v i j ≡ eligible p s i j
-    unfolding fits eligible dirty
-    fits-is clean c =
-        let room : j < v .len = let e = fr .rep .len in omega arith in
-        let test = chordNew p clean (v .at) (v .len) i j (list i j .at) (list i j .len) in
-        ap (λ (b : Bool). cond b (cond (ltb j (v .len)) (cond (list i j .ok) (not test) false) false) false) (lt-ltb i j (omega arith))
-        ∙ ap (λ (b : Bool). cond b (cond (list i j .ok) (not test) false) false) (lt-ltb j (v .len) room)
-        ∙ ⊎-elim
-        (λ w. (λ t. cond (w .0 .rep .ok t) (not (chord-is clean c (w .0) t)) false) ∙ Bool·not-not (chordless p (replaced f i j l)) ∙ sym (ap (λ (b : Bool). b && chordless p (replaced f i j l)) (w .1)))
-        (λ w. ap (λ (b : Bool). cond b (not test) false) (w .0) ∙ sym (ap (λ (b : Bool). b && chordless p (replaced f i j l)) (w .1)))
-        (comes i j)
 
     -- an eligible pair's list is gathered whole
     pub gathered : eligible p s i j ≡ true → Good (s .seen) (list i j) l

@@ -34,7 +34,8 @@ returns : tie.Need-returns Inv-loop μ-loop
 unfolding run.backAdded run.failed
 returns c =
     let a = c .before .before .before .before .before .before .before .before .before .before .before .args in
-    λ own. rw (eq-eqb _ _ (sym (depth-told (rows (a .starts .now) (a .sizes .now) (a .entries .now) (a .n)) own (a .f .now) (a .k) (c .before .before .before .turn-by .ensures .0) (c .before .before .depth .ensures .0)) ∙ c .before .if1 .taken)) (ap (λ t. lines.lineOf t (a .at .now) (a .marks .now)) (c .failed .ensures))
+    let p = rows (a .starts .now) (a .sizes .now) (a .entries .now) (a .n) in
+    λ own. let none : lines.depth p (a .f .now) (a .k) ≡ 0 = sym (depth-told p own (a .f .now) (a .k) (c .before .before .before .turn-by .ensures .0) (c .before .before .depth .ensures .0)) ∙ c .before .if1 .taken in rw (eq-eqb _ _ none) (ap (λ t. lines.lineOf t (a .at .now) (a .marks .now)) (c .failed .ensures))
 
 num-requires : tie.Need-num-requires Inv-loop μ-loop
 num-requires c κs = search needs

@@ -1,14 +1,14 @@
--- chords::fits meets its contract.
+-- fits meets its contract.
 use mathlib.Core.Path.{refl}
 use mathlib.Core.Bool.{true}
 use Rattle.lists.specs.Spans.{zeros}
 use Rattle.rings.specs.Tables.{rows}
-use Rattle.pairs.proofs.Moves.{fits-none, fits-out, fits-on, fits-off}
+use Rattle.chords.proofs.Moves.{fits-none, fits-out, fits-on, fits-off}
 use Rattle.frontier.specs.Run as lines
 use native.Mathlib.Omega.{arith}
 use borrow.Author.Needs.{needs}
-use Rattle.pairs.proofs.chords.fits.Statement.{statement}
-use Rattle.pairs.proofs.chords.fits.Tie as tie
+use Rattle.chords.proofs.fits.Statement.{statement}
+use Rattle.chords.proofs.fits.Tie as tie
 
 returns : tie.Need-returns
 returns c =

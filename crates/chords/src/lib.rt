@@ -1,12 +1,11 @@
-// Chords of a frontier: neighbours that are not adjacent on it. Whether a pair of positions is eligible.
+// The chords of a new frontier, that is neighbours that are not adjacent on it: whether a pair of frontier positions is eligible.
 ghost use mathlib.Core.Path.{_≡_};
 ghost use mathlib.Core.Bool.{true};
-ghost use Prim.Native.Nat.{ℕ, suc, _+_, _-_, _<_, _≤_};
-ghost use lib.ListN.{getD};
+ghost use Prim.Native.Nat.{_<_};
 ghost use Rattle.rings.specs.Tables.{rows};
 ghost use Rattle.places.specs.Places.{placesOf};
 ghost use Rattle.frontier.specs.Run.{line};
-ghost use Rattle.pairs.specs.Run as run;
+ghost use Rattle.chords.specs.Run as run;
 
 // Does u list one of positions a to e - 1 of g?
 fn touches<'a>(
@@ -158,7 +157,7 @@ fn broken<'a>(
     ensures { λ r. ⌜ (now (places .entry) ≡ placesOf (rows (now (starts .entry)) (now (sizes .entry)) (now (entries .entry)) n) → r ≡ run.broken (rows (now (starts .entry)) (now (sizes .entry)) (now (entries .entry)) n) (now (f .entry)) m i j (now (list .entry)) q) ⌝ }
 {
     let mut next = [0u16; 512];
-    let v = crate::list::replaced(&mut next, f, m, i + 1, j, list, q);
+    let v = pairs::list::replaced(&mut next, f, m, i + 1, j, list, q);
     if v.ok {
         return chorded(places, starts, sizes, entries, n, &next, v.len);
     }
@@ -217,7 +216,7 @@ pub fn fits<'a>(
     }
     let mut list = [0u16; 512];
     let mut on = marks;
-    let g = crate::list::listed(
+    let g = pairs::list::listed(
         &mut list,
         &mut on,
         places,

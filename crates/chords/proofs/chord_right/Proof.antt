@@ -1,14 +1,14 @@
--- chords::chord_right meets its contract.
+-- chord_right meets its contract.
 use mathlib.Core.Path.{_≡_, sym, _∙_}
 use Prim.Native.Nat.{_-_}
 use Rattle.rings.specs.Tables.{rows}
 use Rattle.places.specs.Places.{placesOf}
 use Rattle.lists.proofs.Folds.{Seeks, seeks-start, seeks-hit, seeks-on, seeks-end}
-use Rattle.pairs.specs.Run as run
+use Rattle.chords.specs.Run as run
 use native.Mathlib.Omega.{arith}
 use borrow.Author.Needs.{needs}
-use Rattle.pairs.proofs.chords.chord_right.Statement.{statement}
-use Rattle.pairs.proofs.chords.chord_right.Tie as tie
+use Rattle.chords.proofs.chord_right.Statement.{statement}
+use Rattle.chords.proofs.chord_right.Tie as tie
 
 abbrev Inv-loop : tie.InvT-loop
 Inv-loop places starts sizes entries n f m j list q x₀ x = places ≡ placesOf (rows starts sizes entries n) → Seeks (run.chordAt (rows starts sizes entries n) f m j list q) 0 q x

@@ -1,15 +1,15 @@
--- chords::chorded meets its contract.
+-- chorded meets its contract.
 use mathlib.Core.Path.{_≡_, sym, ap, _∙_}
 use Prim.Native.Nat.{ℕ, _+_, _-_}
 use lib.ListN.{getD}
 use Rattle.rings.specs.Tables.{rows}
 use Rattle.places.specs.Places.{placesOf}
 use Rattle.lists.proofs.Folds.{Seeks, seeks-start, seeks-hit, seeks-on, seeks-end}
-use Rattle.pairs.specs.Run as run
+use Rattle.chords.specs.Run as run
 use native.Mathlib.Omega.{arith}
 use borrow.Author.Needs.{needs}
-use Rattle.pairs.proofs.chords.chorded.Statement.{statement}
-use Rattle.pairs.proofs.chords.chorded.Tie as tie
+use Rattle.chords.proofs.chorded.Statement.{statement}
+use Rattle.chords.proofs.chorded.Tie as tie
 
 abbrev Inv-loop : tie.InvT-loop
 Inv-loop places starts sizes entries n g m e k₀ k = (e ≡ m - 2) × (places ≡ placesOf (rows starts sizes entries n) → Seeks (λ (i : ℕ). run.touches (rows starts sizes entries n) (getD g i 0) g (i + 2) m) 0 (m - 2) k)

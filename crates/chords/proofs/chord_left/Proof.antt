@@ -1,16 +1,16 @@
--- chords::chord_left meets its contract.
+-- chord_left meets its contract.
 use mathlib.Core.Path.{_≡_, sym, ap, _∙_}
 use Prim.Native.Nat.{ℕ, _-_}
 use lib.ListN.{getD}
 use Rattle.rings.specs.Tables.{rows}
 use Rattle.places.specs.Places.{placesOf}
 use Rattle.lists.proofs.Folds.{Seeks, seeks-start, seeks-hit, seeks-on, seeks-end}
-use Rattle.pairs.proofs.Moves.{left-hit, left-on}
-use Rattle.pairs.specs.Run as run
+use Rattle.chords.proofs.Moves.{left-hit, left-on}
+use Rattle.chords.specs.Run as run
 use native.Mathlib.Omega.{arith}
 use borrow.Author.Needs.{needs}
-use Rattle.pairs.proofs.chords.chord_left.Statement.{statement}
-use Rattle.pairs.proofs.chords.chord_left.Tie as tie
+use Rattle.chords.proofs.chord_left.Statement.{statement}
+use Rattle.chords.proofs.chord_left.Tie as tie
 
 abbrev Inv-loop : tie.InvT-loop
 Inv-loop places starts sizes entries n f i list q u k₀ k = places ≡ placesOf (rows starts sizes entries n) → Seeks (λ (w : ℕ). run.touches (rows starts sizes entries n) (getD f w 0) list 0 q) 0 i k

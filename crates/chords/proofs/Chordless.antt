@@ -19,7 +19,7 @@ use Rattle.model.specs.Plan.{Plan, adjacent}
 use Rattle.model.specs.Sweep.{chordless, replaced}
 use Rattle.model.proofs.Eligible.{mem-getD, chordless-apart, replaced-left, replaced-list, replaced-right, replaced-length}
 use Rattle.frontier.proofs.Lines.{getD-padded}
-use Rattle.pairs.specs.Run.{touches, chorded, chordLeft, chordAt, chordRight}
+use Rattle.chords.specs.Run.{touches, chorded, chordLeft, chordAt, chordRight}
 
 -- one number is below the other, or not
 lt-or-le : (a b : ℕ) → (a < b) ⊎ (b ≤ a)

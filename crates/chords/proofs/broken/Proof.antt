@@ -1,11 +1,11 @@
--- chords::broken meets its contract.
+-- broken meets its contract.
 use mathlib.Core.Path.{refl}
 use Rattle.lists.specs.Spans.{zeros}
 use Rattle.rings.specs.Tables.{rows}
-use Rattle.pairs.proofs.Moves.{broken-on, broken-off}
+use Rattle.chords.proofs.Moves.{broken-on, broken-off}
 use borrow.Author.Needs.{needs}
-use Rattle.pairs.proofs.chords.broken.Statement.{statement}
-use Rattle.pairs.proofs.chords.broken.Tie as tie
+use Rattle.chords.proofs.broken.Statement.{statement}
+use Rattle.chords.proofs.broken.Tie as tie
 
 slice-aggregate-replaced : tie.Need-slice-aggregate-replaced
 slice-aggregate-replaced c = search needs

@@ -1,4 +1,4 @@
--- chords::touches meets its contract.
+-- touches meets its contract.
 use mathlib.Core.Path.{_≡_, sym, ap, _∙_}
 use Prim.Native.Nat.{ℕ, _-_}
 use lib.ListN.{getD}
@@ -7,11 +7,11 @@ use Rattle.rings.specs.Tables.{rows}
 use Rattle.places.specs.Places.{placesOf}
 use Rattle.places.proofs.Look.{adjacent-told}
 use Rattle.lists.proofs.Folds.{Seeks, seeks-start, seeks-hit, seeks-on, seeks-end}
-use Rattle.pairs.specs.Run as run
+use Rattle.chords.specs.Run as run
 use native.Mathlib.Omega.{arith}
 use borrow.Author.Needs.{needs}
-use Rattle.pairs.proofs.chords.touches.Statement.{statement}
-use Rattle.pairs.proofs.chords.touches.Tie as tie
+use Rattle.chords.proofs.touches.Statement.{statement}
+use Rattle.chords.proofs.touches.Tie as tie
 
 abbrev Inv-loop : tie.InvT-loop
 Inv-loop places starts sizes entries n u g a e k₀ k = places ≡ placesOf (rows starts sizes entries n) → Seeks (λ (i : ℕ). adjacent (rows starts sizes entries n) u (getD g i 0)) a e k

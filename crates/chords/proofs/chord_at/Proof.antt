@@ -1,10 +1,10 @@
--- chords::chord_at meets its contract.
+-- chord_at meets its contract.
 use Rattle.rings.specs.Tables.{rows}
-use Rattle.pairs.proofs.Moves.{at-last, at-hit, at-on}
+use Rattle.chords.proofs.Moves.{at-last, at-hit, at-on}
 use native.Mathlib.Omega.{arith}
 use borrow.Author.Needs.{needs}
-use Rattle.pairs.proofs.chords.chord_at.Statement.{statement}
-use Rattle.pairs.proofs.chords.chord_at.Tie as tie
+use Rattle.chords.proofs.chord_at.Statement.{statement}
+use Rattle.chords.proofs.chord_at.Tie as tie
 
 num-requires : tie.Need-num-requires
 num-requires c κs = search needs
