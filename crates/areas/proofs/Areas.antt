@@ -18,7 +18,7 @@ use Rattle.lists.specs.Spans.{stretch}
 use Rattle.lists.proofs.Spans.{getD-stretch}
 use Rattle.model.specs.Chart.{Chart, x, y}
 use Rattle.model.specs.Geometry.{positive, isZero, corner, fan, area}
-use Rattle.placement.specs.Drawing.{chartOn}
+use Rattle.charts.specs.Charts.{chartOn}
 use Rattle.areas.specs.Corners.{points, negative, cornerAt, ahead, behind, counterclockwise, flat, clockwise}
 
 -- ---- a difference is a number or the negative of one

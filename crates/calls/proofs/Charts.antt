@@ -17,7 +17,8 @@ use Rattle.model.specs.File as file
 use Rattle.model.specs.Calls.{labelsOf, chartCall}
 use Rattle.rings.specs.Tables.{startOf, table, inBounds}
 use Rattle.placement.specs.declared.Drawn.{Drawn}
-use Rattle.placement.specs.Drawing.{chartOn, chartFor, drawnAs, drawnOf}
+use Rattle.charts.specs.Charts.{chartOn}
+use Rattle.placement.specs.Drawing.{chartFor, drawnAs, drawnOf}
 use Rattle.sheet.specs.declared.Sheet.{Sheet}
 use Rattle.sheet.specs.declared.Stage.the-variants.{Charted}
 use Rattle.sheet.specs.Sheets.{heldCount, heldPlan, heldLabels, fits, reads, pack, packed}

@@ -19,7 +19,8 @@ use Rattle.rings.specs.Tables as flat
 use Rattle.rings.specs.Tables.{startOf, startsOf, table, inBounds}
 use Rattle.rings.proofs.Rows.{count-rows}
 use Rattle.fit.proofs.Fits.{all-counted}
-use Rattle.placement.specs.Drawing.{chartOn, chartFor, drawnAs}
+use Rattle.charts.specs.Charts.{chartOn}
+use Rattle.placement.specs.Drawing.{chartFor, drawnAs}
 use Rattle.placement.specs.declared.Drawn.{Drawn}
 use Rattle.sheet.specs.declared.Sheet.{Sheet}
 use Rattle.sheet.specs.declared.Stage.{Stage}

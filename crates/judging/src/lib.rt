@@ -9,7 +9,7 @@ ghost use lib.ListN.{length, take};
 ghost use Rattle.model.specs.Labels.{labelRules};
 ghost use Rattle.model.specs.File.{charted};
 ghost use Rattle.rings.specs.Tables.{startOf, startsOf, table};
-ghost use Rattle.placement.specs.Drawing.{chartOn};
+ghost use Rattle.charts.specs.Charts.{chartOn};
 ghost use Rattle.sheet.specs.Sheets.{heldPlan, heldLabels, heldChart, fits, reads};
 ghost use Rattle.sheet.specs.Answers.{answerAs};
 ghost use Rattle.judging.specs.Rules.{flatRules, chartRules, rulesFrom10, rulesFrom8};
@@ -63,7 +63,7 @@ fn chart_rule<'a>(
     }
     let dx = drawn.xs;
     let dy = drawn.ys;
-    if placement::same_chart(n, w, h, xs, ys, drawn.w, drawn.h, &dx, &dy) {
+    if charts::same_chart(n, w, h, xs, ys, drawn.w, drawn.h, &dx, &dy) {
         return Answer::Accepted;
     }
     Answer::Refused(12, 0)

@@ -1,4 +1,4 @@
--- The chart of a table: the numbers of both coordinates and the test that they are a placement give the answer of `leastPlacement`; and the comparison of charts.
+-- The chart of a table: the numbers of both coordinates and the test that they are a placement give the answer of `leastPlacement`.
 use Prim.Native.Nat.{ℕ, suc, _+_, _-_, _≤_, _<_}
 use mathlib.Core.Path.{_≡_, refl, sym, ap, _∙_}
 use mathlib.Core.List.{List, [], _∷_, map}
@@ -7,19 +7,20 @@ use native.Mathlib.Omega.{arith}
 use lib.ListN.{length, getD, drop}
 use lib.Dec.{eqb, leb}
 use borrow.Author.Tests.{eq-eqb, ne-eqb, le-leb}
-use Rattle.lists.specs.Tests.{all, sameList}
+use Rattle.lists.specs.Tests.{all}
 use Rattle.lists.specs.Ranges.{from}
 use Rattle.lists.specs.Spans.{stretch, padded}
 use Rattle.model.specs.Outcome.{Outcome, accepted, refused, _>>=_, _>>_, require}
 use Rattle.model.specs.Plan.{Plan, count, entryCount, dartCount, north, east, south, west}
-use Rattle.model.specs.Chart.{Chart, Constraint, x, y, meets, isAt, isPlacement, leastNumbers, leastPlacement, slope, chart, sameChart, tie}
+use Rattle.model.specs.Chart.{Chart, Constraint, x, y, meets, isAt, isPlacement, leastNumbers, leastPlacement, slope, chart, tie}
 use Rattle.model.proofs.Least.{least-length}
 use Rattle.model.proofs.Placements.{placed, chart-is, chart-11}
 use Rattle.rings.specs.Tables.{startOf, startsOf, rows, table, inBounds}
 use Rattle.rings.proofs.Rows.{count-rows}
 use Rattle.solver.specs.declared.Numbers.{Numbers}
 use Rattle.solver.specs.Constraints.{listedFrom, listed, constraintAt, solved, numbersOf, ties, compass, asked}
-use Rattle.placement.specs.Drawing.{chartOn, chartFor, drawnAs, drawnOf, drawnIf, standsAt, squared}
+use Rattle.charts.specs.Charts.{chartOn}
+use Rattle.placement.specs.Drawing.{chartFor, drawnAs, drawnOf, drawnIf, standsAt, squared}
 use Rattle.solver.proofs.Arrays.{getD-padded, stretch-padded}
 use Rattle.fit.proofs.Fits.{total-is}
 
@@ -234,29 +235,6 @@ after-ties lows highs gaps k upright p ls h e =
     two true = refl
     two false = refl
 
--- ---- while i < n { if a[i] != b[i] { return false; } i += 1; } true
-pub record Matches (a b : List ℕ) (n i : ℕ) : Type 0 where
-  pub same : sameList (stretch a 0 n) (stretch b 0 n) ≡ sameList (stretch a i (n - i)) (stretch b i (n - i))
-
-pub matches-start : {a b : List ℕ} {n : ℕ} → Matches a b n 0
-matches-start {a} {b} {n} = let z : n - 0 ≡ n = omega arith in record { same = rw z }
-
-module _ {a b : List ℕ} {n i : ℕ} (inv : Matches a b n i) where
-  one-more : i < n → sameList (stretch a i (n - i)) (stretch b i (n - i)) ≡ (eqb (getD a i 0) (getD b i 0) && sameList (stretch a (suc i) (n - suc i)) (stretch b (suc i) (n - suc i)))
-  unfolding stretch
-  one-more h = let s : n - i ≡ suc (n - suc i) = omega arith in rw s
-
-  module _ (h : i < n) {p q : ℕ} (e : p ≡ getD a i 0) (f : q ≡ getD b i 0) where
-    pub matches-hit : (p ≡ q → ⊥) → false ≡ sameList (stretch a 0 n) (stretch b 0 n)
-    matches-hit d = sym (inv .same ∙ one-more h ∙ rw (ne-eqb (getD a i 0) (getD b i 0) (λ r. d (e ∙ r ∙ sym f))))
-
-    pub matches-on : {i′ : ℕ} → i′ ≡ suc i → p ≡ q → Matches a b n i′
-    matches-on g d = record { same = inv .same ∙ one-more h ∙ rw (eq-eqb (getD a i 0) (getD b i 0) (sym e ∙ d ∙ f), g) }
-
-  pub matches-end : n ≤ i → true ≡ sameList (stretch a 0 n) (stretch b 0 n)
-  unfolding stretch
-  matches-end h = let z : n - i ≡ 0 = omega arith in sym (inv .same ∙ rw z)
-
 -- ---- what the functions hand on
 module _ (n : ℕ) (lows highs gaps : List ℕ) (k : ℕ) (upright : Bool) (sizes es ls : List ℕ) (small : n ≤ 200) (tied : 2 ≤ k) (same : listed lows highs gaps k ≡ asked upright (table sizes es n) ls) where
   axis-numbers : numbersOf (solved n (listed lows highs gaps k)) ≡ numbersOf (leastNumbers n (asked upright (table sizes es n) ls))
@@ -279,20 +257,3 @@ drawn-no t xs ys e f = sym (rw (sym e ∙ f))
 pub drawn-yes : (t : Bool) (xs ys : List ℕ) (w h : ℕ) → t ≡ squared xs ys → t ≡ true → w ≡ getD xs 0 0 → h ≡ getD ys 0 0 → record { found = true; w = w; h = h; xs = xs; ys = ys } ≡ drawnIf (squared xs ys) xs ys
 unfolding drawnIf
 drawn-yes t xs ys w h e f ew eh = (λ i. record { found = true; w = ew i; h = eh i; xs = xs; ys = ys }) ∙ sym (rw (sym e ∙ f))
-
-module _ (n aw ah : ℕ) (ax ay : List ℕ) (bw bh : ℕ) (bx by : List ℕ) where
-  pub charts-w : (aw ≡ bw → ⊥) → false ≡ sameChart (chartOn n aw ah ax ay) (chartOn n bw bh bx by)
-  unfolding sameChart chartOn
-  charts-w d = sym (rw (ne-eqb aw bw d))
-
-  pub charts-h : aw ≡ bw → (ah ≡ bh → ⊥) → false ≡ sameChart (chartOn n aw ah ax ay) (chartOn n bw bh bx by)
-  unfolding sameChart chartOn
-  charts-h e d = sym (rw (eq-eqb aw bw e, ne-eqb ah bh d))
-
-  pub charts-x : aw ≡ bw → ah ≡ bh → (t : Bool) → t ≡ sameList (stretch ax 0 n) (stretch bx 0 n) → t ≡ false → false ≡ sameChart (chartOn n aw ah ax ay) (chartOn n bw bh bx by)
-  unfolding sameChart chartOn
-  charts-x e f t q d = sym (rw (eq-eqb aw bw e, eq-eqb ah bh f, sym q ∙ d))
-
-  pub charts-y : aw ≡ bw → ah ≡ bh → (t r : Bool) → t ≡ sameList (stretch ax 0 n) (stretch bx 0 n) → t ≡ true → r ≡ sameList (stretch ay 0 n) (stretch by 0 n) → r ≡ sameChart (chartOn n aw ah ax ay) (chartOn n bw bh bx by)
-  unfolding sameChart chartOn
-  charts-y e f t r q d s = s ∙ sym (rw (eq-eqb aw bw e, eq-eqb ah bh f, sym q ∙ d))

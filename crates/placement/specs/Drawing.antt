@@ -1,19 +1,16 @@
--- The chart in flat arrays: the chart that arrays hold, the chart of a table, and the answer that stands for its outcome.
+-- The chart of a table in flat arrays, and the answer that stands for its outcome.
 use Prim.Native.Nat.{ℕ}
 use mathlib.Core.List.{List}
 use mathlib.Core.Bool.{Bool, true, false, cond, _&&_}
 use lib.ListN.{getD}
 use lib.Dec.{eqb, leb}
-use Rattle.lists.specs.Spans.{stretch, zeros, padded}
+use Rattle.lists.specs.Spans.{zeros, padded}
 use Rattle.model.specs.Outcome.{Outcome, accepted, refused}
 use Rattle.model.specs.Plan.{north, east, south, west}
 use Rattle.model.specs.Chart.{Chart, leastPlacement, slope}
 use Rattle.rings.specs.Tables.{table, inBounds}
+use Rattle.charts.specs.Charts.{chartOn}
 use Rattle.placement.specs.declared.Drawn.{Drawn}
-
--- the chart of n contexts that numbers and arrays hold; what lies outside an array reads as 0
-unfoldable pub chartOn : ℕ → ℕ → ℕ → List ℕ → List ℕ → Chart
-chartOn n w h xs ys = record { w = w; h = h; xs = stretch xs 0 n; ys = stretch ys 0 n }
 
 -- The chart of the plan that sizes and entries hold. A larger table than any accepted plan's is refused with 11.
 unfoldable pub chartFor : List ℕ → List ℕ → ℕ → List ℕ → Outcome Chart

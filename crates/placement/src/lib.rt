@@ -1,17 +1,17 @@
-// Placement: the chart of a labelled plan over flat arrays, and the comparison of two charts.
+// Placement: the chart of a labelled plan over flat arrays.
 ghost use mathlib.Core.Path.{_≡_};
 ghost use mathlib.Core.Bool.{true, false, _&&_};
 ghost use Prim.Native.Nat.{_+_, _-_, _≤_, _<_};
 ghost use lib.ListN.{set};
-ghost use Rattle.lists.specs.Tests.{all, sameList};
-ghost use Rattle.lists.specs.Spans.{stretch, zeros};
+ghost use Rattle.lists.specs.Tests.{all};
+ghost use Rattle.lists.specs.Spans.{zeros};
 ghost use Rattle.lists.specs.Parts.{indexOf};
 ghost use Rattle.model.specs.Outcome.{refused};
 ghost use Rattle.model.specs.Plan.{ring};
-ghost use Rattle.model.specs.Chart.{meets, sameChart};
+ghost use Rattle.model.specs.Chart.{meets};
 ghost use Rattle.rings.specs.Tables.{startOf, startsOf, rows, table, inBounds};
 ghost use Rattle.solver.specs.Constraints.{numbersOf, solved, listedFrom, listed, asked, endOf, gapOf, keptOf};
-ghost use Rattle.placement.specs.Drawing.{chartOn, chartFor, drawnAs, drawnOf, drawnIf, standsAt, squared};
+ghost use Rattle.placement.specs.Drawing.{chartFor, drawnAs, drawnOf, drawnIf, standsAt, squared};
 ghost use Rattle.placement.specs.Marking.{Marked, DartAt};
 
 // The slope that a line must at least have.
@@ -291,44 +291,4 @@ pub fn chart_of<'a>(sizes: &'a [u8], entries: &'a [u16], n: usize, labels: &'a [
     }
     let starts = rings::starts_of(sizes);
     chart_from(&starts, sizes, entries, n, labels)
-}
-
-// Are the first n numbers of two arrays equal?
-fn same_numbers<'a>(n: usize, a: &'a [u16], b: &'a [u16]) -> bool
-    ensures { λ r. ⌜ r ≡ sameList (stretch (now (a .entry)) 0 n) (stretch (now (b .entry)) 0 n) ⌝ }
-{
-    let mut i = 0;
-    while i < n {
-        if lists::num(a, i) != lists::num(b, i) {
-            return false;
-        }
-        i += 1;
-    }
-    true
-}
-
-// Are two charts of n contexts equal: width, height and all points?
-pub fn same_chart<'a>(
-    n: usize,
-    aw: u16,
-    ah: u16,
-    ax: &'a [u16],
-    ay: &'a [u16],
-    bw: u16,
-    bh: u16,
-    bx: &'a [u16],
-    by: &'a [u16],
-) -> bool
-    ensures { λ r. ⌜ r ≡ sameChart (chartOn n aw ah (now (ax .entry)) (now (ay .entry))) (chartOn n bw bh (now (bx .entry)) (now (by .entry))) ⌝ }
-{
-    if aw != bw {
-        return false;
-    }
-    if ah != bh {
-        return false;
-    }
-    if !same_numbers(n, ax, bx) {
-        return false;
-    }
-    same_numbers(n, ay, by)
 }

@@ -9,7 +9,7 @@ use Rattle.model.specs.Plan.{Plan, count}
 use Rattle.model.specs.Chart.{Chart, sameChart}
 use Rattle.model.specs.Calls.{chartOf, sameCall}
 use Rattle.model.proofs.Outcomes.{bind-at, bind-off}
-use Rattle.placement.specs.Drawing.{chartOn}
+use Rattle.charts.specs.Charts.{chartOn}
 use Rattle.sheet.specs.declared.Sheet.{Sheet}
 use Rattle.sheet.specs.Sheets.{heldPlan, heldChart, reads, stageRead, rank}
 use Rattle.sheet.proofs.Reading.{chart-early, chart-there, count-held}

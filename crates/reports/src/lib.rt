@@ -11,7 +11,7 @@ ghost use Rattle.model.specs.Chart.{sameChart};
 ghost use Rattle.model.specs.Scan.{scan};
 ghost use Rattle.model.specs.Calls.{writeCall, scanCall, sameCall};
 ghost use Rattle.triples.specs.Scanned as plans;
-ghost use Rattle.placement.specs.Drawing.{chartOn};
+ghost use Rattle.charts.specs.Charts.{chartOn};
 ghost use Rattle.writing.specs.Files.{sheetHeld, outcomeOf, bufferAfter};
 ghost use Rattle.sheet.specs.Sheets.{heldPlan, heldChart, reads};
 ghost use Rattle.sheet.specs.Answers.{writtenAs, lengthOf, scannedAs, comparedAs};
@@ -103,7 +103,7 @@ fn same_points(a: Sheet, b: Sheet) -> bool
     let bx = b.xs;
     let by = b.ys;
     let n = lists::wide_word(a.n);
-    placement::same_chart(n, a.w, a.h, &ax, &ay, b.w, b.h, &bx, &by)
+    charts::same_chart(n, a.w, a.h, &ax, &ay, b.w, b.h, &bx, &by)
 }
 
 // Have two sheets the same n, w, h and points?

@@ -157,7 +157,7 @@ fn refusal_of(chart: &[u8], n: usize, drawn: placement::Drawn) -> usize {
     let ys = points_in(chart, 6);
     let dx = drawn.xs;
     let dy = drawn.ys;
-    if placement::same_chart(n, w, h, &xs, &ys, drawn.w, drawn.h, &dx, &dy) {
+    if charts::same_chart(n, w, h, &xs, &ys, drawn.w, drawn.h, &dx, &dy) {
         return 0;
     }
     12

@@ -2,7 +2,8 @@
 use mathlib.Core.Path.{ap, _∙_}
 use Rattle.model.specs.File.{charted}
 use Rattle.model.specs.Calls.{chartCall}
-use Rattle.placement.specs.Drawing.{chartOn, drawnOf}
+use Rattle.charts.specs.Charts.{chartOn}
+use Rattle.placement.specs.Drawing.{drawnOf}
 use Rattle.sheet.specs.Sheets.{heldPlan, heldLabels, reads}
 use Rattle.sheet.proofs.Reading.{ranked, fits-there}
 use Rattle.sheet.proofs.Reading.{answer-refused, answer-accepted}

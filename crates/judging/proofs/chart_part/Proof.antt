@@ -2,7 +2,7 @@
 use mathlib.Core.Path.{ap, _∙_}
 use Prim.Native.Nat.{ℕ}
 use mathlib.Core.List.{List}
-use Rattle.placement.specs.Drawing.{chartOn}
+use Rattle.charts.specs.Charts.{chartOn}
 use Rattle.sheet.specs.Sheets.{heldPlan, heldChart}
 use Rattle.sheet.proofs.Reading.{few, room}
 use Rattle.judging.specs.Rules.{chartRules}

@@ -1,6 +1,6 @@
 -- chart_rule meets its contract.
 use Rattle.sheet.specs.Answers.{answerAs}
-use Rattle.placement.specs.Drawing.{chartOn}
+use Rattle.charts.specs.Charts.{chartOn}
 use Rattle.judging.proofs.Rules.{eleven-refused, twelve-refused, chart-kept}
 use borrow.Author.Needs.{needs}
 use Rattle.judging.proofs.chart_rule.Statement.{statement}
@@ -8,7 +8,7 @@ use Rattle.judging.proofs.chart_rule.Tie as tie
 use Rattle.judging.proofs.chart_rule.Reads as reads
 use Rattle.judging.proofs.chart_rule.Lts as lts
 use Rattle.placement.proofs.chart_of.Reads as chart-of-reads
-use Rattle.placement.proofs.same_chart.Reads as same-chart-reads
+use Rattle.charts.proofs.same_chart.Reads as same-chart-reads
 
 chart-of-requires : tie.Need-chart-of-requires
 chart-of-requires c κs = search needs

@@ -2,14 +2,14 @@
 use mathlib.Core.Path.{ap, _∙_}
 use Prim.Native.Nat.{ℕ}
 use Rattle.model.specs.Chart.{sameChart}
-use Rattle.placement.specs.Drawing.{chartOn}
+use Rattle.charts.specs.Charts.{chartOn}
 use borrow.Author.Needs.{needs}
 use Rattle.reports.proofs.same_points.Statement.{statement}
 use Rattle.reports.proofs.same_points.Tie as tie
 use Rattle.reports.proofs.same_points.Reads as reads
 use Rattle.reports.proofs.same_points.Lts as lts
 use Rattle.lists.proofs.wide_word.Reads as wide-word-reads
-use Rattle.placement.proofs.same_chart.Reads as same-chart-reads
+use Rattle.charts.proofs.same_chart.Reads as same-chart-reads
 
 wide-word-requires : tie.Need-wide-word-requires
 wide-word-requires c κs = search needs

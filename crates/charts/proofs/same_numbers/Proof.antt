@@ -1,12 +1,12 @@
 -- same_numbers meets its contract.
-use Rattle.placement.proofs.Draw.{Matches, matches-start, matches-hit, matches-on, matches-end}
+use Rattle.charts.proofs.Comparing.{Matches, matches-start, matches-hit, matches-on, matches-end}
 use Prim.Native.Nat.{_-_}
 use native.Mathlib.Omega.{arith}
 use borrow.Author.Needs.{needs}
-use Rattle.placement.proofs.same_numbers.Statement.{statement}
-use Rattle.placement.proofs.same_numbers.Tie as tie
-use Rattle.placement.proofs.same_numbers.Reads as reads
-use Rattle.placement.proofs.same_numbers.Lts as lts
+use Rattle.charts.proofs.same_numbers.Statement.{statement}
+use Rattle.charts.proofs.same_numbers.Tie as tie
+use Rattle.charts.proofs.same_numbers.Reads as reads
+use Rattle.charts.proofs.same_numbers.Lts as lts
 use Rattle.lists.proofs.num.Reads as num-reads
 
 abbrev Inv-loop : tie.InvT-loop
@@ -15,35 +15,27 @@ Inv-loop n a b i₀ i = Matches a b n i
 abbrev μ-loop : tie.MeasureT-loop
 μ-loop n a b i₀ i = n - i
 
--- src/lib.rt:307:5
 loop-holds : tie.Need-loop-holds Inv-loop μ-loop
 loop-holds c = matches-start
 
--- src/lib.rt:308:12
 num-requires : tie.Need-num-requires Inv-loop μ-loop
 num-requires c κs = search needs
 
--- src/lib.rt:308:32
 num-requires-2 : tie.Need-num-requires-2 Inv-loop μ-loop
 num-requires-2 c κs = search needs
 
--- src/lib.rt:309:13
 returns : tie.Need-returns Inv-loop μ-loop
 returns c = matches-hit (c .before .before .before .before .loop .inv) (c .before .before .before .loop-test .taken) (c .before .before .num .ensures .0) (c .before .num2 .ensures .0) (c .if1 .taken)
 
--- src/lib.rt:311:9
 add-i : tie.Need-add-i Inv-loop μ-loop
 add-i c = search needs
 
--- src/lib.rt:307:5
 loop-less : tie.Need-loop-less Inv-loop μ-loop
 loop-less c = search needs
 
--- src/lib.rt:307:5
 loop-again : tie.Need-loop-again Inv-loop μ-loop
 loop-again c = matches-on (c .before .before .before .before .loop .inv) (c .before .before .before .loop-test .taken) (c .before .before .num .ensures .0) (c .before .num2 .ensures .0) (omega arith) (c .if1 .left)
 
--- src/lib.rt:303:1
 returns-2 : tie.Need-returns-2 Inv-loop μ-loop
 returns-2 c = matches-end (c .before .loop .inv) (c .loop-test .left)
 
