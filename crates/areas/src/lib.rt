@@ -26,9 +26,9 @@ pub fn corner(ax: u16, ay: u16, bx: u16, by: u16, cx: u16, cy: u16) -> i64
 pub fn area_of<'a>(xs: &'a [u16], ys: &'a [u16], a: usize, b: usize, c: usize) -> i64
     ensures { λ r. ⌜ r ≡ area (points (now (xs .entry)) (now (ys .entry))) (a ∷ b ∷ c ∷ []) ⌝ }
 {
-    let ax = lists::word(xs, a);
-    let ay = lists::word(ys, a);
-    let bx = lists::word(xs, b);
-    let by = lists::word(ys, b);
-    corner(ax, ay, bx, by, lists::word(xs, c), lists::word(ys, c))
+    let ax = arrays::word(xs, a);
+    let ay = arrays::word(ys, a);
+    let bx = arrays::word(xs, b);
+    let by = arrays::word(ys, b);
+    corner(ax, ay, bx, by, arrays::word(xs, c), arrays::word(ys, c))
 }

@@ -74,7 +74,7 @@ fn relabelled(sheet: Sheet, labels: &[u8], k: usize) -> Sheet
 {
     let sizes = sheet.sizes;
     let entries = sheet.entries;
-    let n = lists::wide_word(sheet.n);
+    let n = numbers::wide_word(sheet.n);
     let total = fit::total_of(&sizes, n);
     let sizes_kept = first_sizes(&sizes, n);
     let entries_kept = first_entries(&entries, total);
@@ -98,7 +98,7 @@ fn with_labels(sheet: Sheet, labels: [u8; 1186]) -> Sheet
     ensures { λ r. ⌜ r ≡ packed (labelled (heldPlan sheet) (stretch labels 0 (heldCount sheet))) ⌝ }
 {
     let sizes = sheet.sizes;
-    let total = fit::total_of(&sizes, lists::wide_word(sheet.n));
+    let total = fit::total_of(&sizes, numbers::wide_word(sheet.n));
     relabelled(sheet, &labels, total)
 }
 
@@ -116,7 +116,7 @@ fn breach_of(sheet: Sheet, labels: &[u8]) -> usize
 {
     let sizes = sheet.sizes;
     let entries = sheet.entries;
-    conditions::rules_place(&sizes, &entries, lists::wide_word(sheet.n), labels)
+    conditions::rules_place(&sizes, &entries, numbers::wide_word(sheet.n), labels)
 }
 
 // Offer (OPEN up): labels for all rings in context order, checked and stored; the chart is dropped.
@@ -127,7 +127,7 @@ pub fn offer(sheet: Sheet, labels: &[u8]) -> Outcome
     if sheet::rank_of(sheet::stage_of(sheet)) < 1 {
         return sheet::refuse(sheet, 13, 0);
     }
-    let n = lists::wide_word(sheet.n);
+    let n = numbers::wide_word(sheet.n);
     if labels.len() != darts_due(n) {
         return sheet::refuse(sheet, 2, 0);
     }
@@ -145,7 +145,7 @@ fn sweep_held(sheet: Sheet) -> sweep::Swept
 {
     let sizes = sheet.sizes;
     let entries = sheet.entries;
-    sweep::sweep_labels(&sizes, &entries, lists::wide_word(sheet.n))
+    sweep::sweep_labels(&sizes, &entries, numbers::wide_word(sheet.n))
 }
 
 // Sweep (OPEN up): labels worked out from North down to South, stored; the chart is dropped.
@@ -174,7 +174,7 @@ fn turn_held(sheet: Sheet, items: &[u16], direction: u8) -> turn::Turned
     let sizes = sheet.sizes;
     let entries = sheet.entries;
     let labels = sheet.labels;
-    let n = lists::wide_word(sheet.n);
+    let n = numbers::wide_word(sheet.n);
     turn::turn_labels(labels, &sizes, &entries, n, items, direction)
 }
 
@@ -222,7 +222,7 @@ fn chart_held(sheet: Sheet) -> placement::Drawn
     let sizes = sheet.sizes;
     let entries = sheet.entries;
     let labels = sheet.labels;
-    let n = lists::wide_word(sheet.n);
+    let n = numbers::wide_word(sheet.n);
     let total = fit::total_of(&sizes, n);
     chart_with(&sizes, &entries, n, &labels, total)
 }

@@ -11,7 +11,7 @@ fn same_numbers<'a>(n: usize, a: &'a [u16], b: &'a [u16]) -> bool
 {
     let mut i = 0;
     while i < n {
-        if lists::num(a, i) != lists::num(b, i) {
+        if arrays::num(a, i) != arrays::num(b, i) {
             return false;
         }
         i += 1;

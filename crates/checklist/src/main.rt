@@ -39,7 +39,7 @@ fn judge(tally: usize, right: bool) -> usize {
 
 // A refusal as a number: its own, and 256 times its place.
 fn refusal(number: u8, place: usize) -> usize {
-    lists::wide_byte(number) + place % 65536 * 256
+    numbers::wide_byte(number) + place % 65536 * 256
 }
 
 // What a call that changes a sheet answers, as a number: 0 is accepted.
@@ -85,8 +85,8 @@ fn name_of(stage: usize) -> usize {
 // Writes a sheet's stage, width and height.
 fn show_sheet(sheet: Sheet) {
     let from = name_of(stage_of(sheet));
-    let w = lists::wide_word(sheet.w);
-    let h = lists::wide_word(sheet.h);
+    let w = numbers::wide_word(sheet.w);
+    let h = numbers::wide_word(sheet.h);
     show_two(b"EMPTY #x#OPEN #x#LABELLED #x#CHARTED #x#", from, w, h);
 }
 
@@ -102,7 +102,7 @@ fn check_undrawn(tally: usize, sheet: Sheet) -> usize {
         0,
         0,
     );
-    if lists::wide_word(sheet.w) + lists::wide_word(sheet.h) != 0 {
+    if numbers::wide_word(sheet.w) + numbers::wide_word(sheet.h) != 0 {
         return judge(tally, false);
     }
     judge(tally, same == 13)
@@ -128,7 +128,7 @@ fn third_of(sheet: Sheet, u: usize, v: usize) -> usize {
     let sizes = sheet.sizes;
     let entries = sheet.entries;
     let starts = rings::starts_of(&sizes);
-    third_in(&starts, &sizes, &entries, lists::wide_word(sheet.n), u, v)
+    third_in(&starts, &sizes, &entries, numbers::wide_word(sheet.n), u, v)
 }
 
 // Are three contexts neighbours of each other, and no face?
@@ -207,8 +207,8 @@ fn positive_part(area: i64) -> usize {
 fn with_area(areas: Areas, area: usize) -> Areas {
     Areas {
         faces: std::num::wrapping_add_usize(areas.faces, 1),
-        positive: std::num::wrapping_add_usize(areas.positive, lists::lesser(area, 1)),
-        least: lists::lesser(areas.least, area),
+        positive: std::num::wrapping_add_usize(areas.positive, numbers::lesser(area, 1)),
+        least: numbers::lesser(areas.least, area),
         sum: std::num::wrapping_add_usize(areas.sum, area),
     }
 }
@@ -257,7 +257,7 @@ fn areas_of(sheet: Sheet) -> Areas {
 
 // The doubled area of a rectangle.
 fn doubled(w: u16, h: u16) -> usize {
-    2 * lists::wide_word(w) * lists::wide_word(h)
+    2 * numbers::wide_word(w) * numbers::wide_word(h)
 }
 
 // The check of the areas.
@@ -313,7 +313,7 @@ fn check_written(tally: usize, a: Sheet, b: Sheet) -> usize {
     let size = write_into(a, &mut one);
     let mut other = io::large_buffer();
     let size_other = write_into(b, &mut other);
-    let equal = console::agreeing(&one, &other, size);
+    let equal = comparison::agreeing(&one, &other, size);
     console::show(
         b"  written: bytes # and #, equal #",
         size,
@@ -336,8 +336,8 @@ fn open_anew(file: &[u8]) -> Outcome {
 // The labels of a sheet offered to another one, and charted.
 fn drawn_anew(opened: Sheet, sheet: Sheet) -> Sheet {
     let labels = sheet.labels;
-    let count = lists::minus(6 * lists::wide_word(sheet.n), 14);
-    let offered = calls::offer(opened, framing::ring_part(&labels, 0, count));
+    let count = numbers::minus(6 * numbers::wide_word(sheet.n), 14);
+    let offered = calls::offer(opened, arrays::part(&labels, 0, count));
     let charted = calls::chart(offered.sheet);
     charted.sheet
 }
@@ -355,10 +355,10 @@ fn check_afresh<'a>(tally: usize, file: &'a [u8], old: Sheet, turned: Sheet) -> 
     let opened = open_anew(file);
     console::show(
         b"  afresh: before #x#, after #x#",
-        lists::wide_word(old.w),
-        lists::wide_word(old.h),
-        lists::wide_word(charted.sheet.w),
-        lists::wide_word(charted.sheet.h),
+        numbers::wide_word(old.w),
+        numbers::wide_word(old.h),
+        numbers::wide_word(charted.sheet.w),
+        numbers::wide_word(charted.sheet.h),
         0,
     );
     check_same(tally, charted.sheet, drawn_anew(opened.sheet, turned))
@@ -422,7 +422,7 @@ fn check_file<'a>(tally: usize, number: usize, file: &'a [u8]) -> usize {
     console::show(
         b"plan #: n #, open # at #\n",
         number,
-        lists::wide_word(sheet.n),
+        numbers::wide_word(sheet.n),
         answer % 256,
         answer / 256,
         0,
@@ -439,9 +439,9 @@ fn check_files(input: &[u8]) -> usize {
     let mut number = 0;
     let mut at = 0;
     while at < input.len() {
-        let size = lists::word_at(input, at);
+        let size = arrays::word_at(input, at);
         number = std::num::wrapping_add_usize(number, 1);
-        tally = check_file(tally, number, framing::ring_part(input, at + 2, size));
+        tally = check_file(tally, number, arrays::part(input, at + 2, size));
         at += 2 + size;
     }
     tally
@@ -451,7 +451,7 @@ fn check_files(input: &[u8]) -> usize {
 fn main() {
     let mut space = io::large_buffer();
     let got = io::read_full(0, &mut space);
-    let tally = check_files(framing::ring_part(&space, 0, got));
+    let tally = check_files(arrays::part(&space, 0, got));
     console::show(
         b"# checks, # wrong\n",
         tally % 65536,

@@ -30,11 +30,11 @@ pub enum Found {
 fn placed(f: &[u16], m: usize) -> [u16; 256]
     ensures { λ r. ⌜ r ≡ run.placed (now (f .entry)) m ⌝ }
 {
-    let e = lists::lesser(m, 512);
+    let e = numbers::lesser(m, 512);
     let mut place = [0u16; 256];
     let mut k = 0;
     while k < e {
-        let c = lists::num(f, k);
+        let c = arrays::num(f, k);
         k += 1;
         if c < 256 {
             place[c] = k as u16;
@@ -69,10 +69,10 @@ fn barred(on: &[u8], seen: &[u8], c: usize) -> bool
     if c < 4 {
         return true;
     }
-    if lists::byte(seen, c) != 0 {
+    if arrays::byte(seen, c) != 0 {
         return true;
     }
-    lists::byte(on, c) != 0
+    arrays::byte(on, c) != 0
 }
 
 // Is there a list, and w the context at j or one of the list but its first?
@@ -86,7 +86,7 @@ fn knot(on: &[u8], some: bool, first: usize, fj: usize, w: usize) -> bool
         if w == first {
             return false;
         }
-        return lists::byte(on, w) != 0;
+        return arrays::byte(on, w) != 0;
     }
     false
 }
@@ -143,8 +143,8 @@ fn look<'a>(
         if knot(on, some, first, fj, w) {
             return made(false, some, first, lo);
         }
-        let x = lists::num(place, w);
-        if lists::minus(x, j) > 1 {
+        let x = arrays::num(place, w);
+        if numbers::minus(x, j) > 1 {
             return made(false, some, first, lo);
         }
         lo = lower(places, starts, sizes, entries, n, lo, x, w, c);
@@ -168,10 +168,10 @@ fn is_below<'a>(
 {
     let x = frontier::below::turn_by(places, starts, sizes, entries, n, f, a);
     let q = frontier::below::depth(starts, sizes, entries, n, f, a, x);
-    let u = lists::num(f, a);
+    let u = arrays::num(f, a);
     let mut t = 0;
     while t < q {
-        if c == lists::wide_word(frontier::onward_at(starts, sizes, entries, n, u, x, t)) {
+        if c == numbers::wide_word(frontier::onward_at(starts, sizes, entries, n, u, x, t)) {
             return true;
         }
         t += 1;
@@ -193,10 +193,10 @@ fn pocket<'a>(
 ) -> bool
     ensures { λ r. ⌜ (now (places .entry) ≡ placesOf (rows (now (starts .entry)) (now (sizes .entry)) (now (entries .entry)) n) → r ≡ true → Pocket (rows (now (starts .entry)) (now (sizes .entry)) (now (entries .entry)) n) (now (f .entry)) c k) ⌝ }
 {
-    let e = lists::minus(k, 1);
+    let e = numbers::minus(k, 1);
     let mut a = lo;
     while a < e {
-        let w = lists::num(f, a + 1);
+        let w = arrays::num(f, a + 1);
         if !places::is_adjacent_by(places, starts, sizes, entries, n, w, c) {
             return is_below(places, starts, sizes, entries, n, f, a, c);
         }
@@ -239,7 +239,7 @@ fn take<'a>(
     if pocket(places, starts, sizes, entries, n, f, r.lo, k, c) {
         return made(false, lead.some, lead.first, lead.lo);
     }
-    made(true, true, c, lists::lesser(lead.lo, r.lo))
+    made(true, true, c, numbers::lesser(lead.lo, r.lo))
 }
 
 // The lead of the list with what is below position k put before it; each context that is put is marked.
@@ -266,12 +266,12 @@ fn extend<'a>(
     if q == 0 {
         return made(false, old.some, old.first, old.lo);
     }
-    let u = lists::num(f, k);
-    let fj = lists::num(f, j);
+    let u = arrays::num(f, k);
+    let fj = arrays::num(f, j);
     let mut lead = old;
     let mut t = 0;
     while t < q {
-        let c = lists::wide_word(frontier::onward_at(starts, sizes, entries, n, u, x, t));
+        let c = numbers::wide_word(frontier::onward_at(starts, sizes, entries, n, u, x, t));
         lead = take(
             places,
             starts,
@@ -292,7 +292,7 @@ fn extend<'a>(
         if !lead.ok {
             return lead;
         }
-        lists::set_byte(on, c, 1);
+        arrays::set_byte(on, c, 1);
         t += 1;
     }
     lead
@@ -320,10 +320,10 @@ fn shut<'a>(
 ) -> bool
     ensures { λ r. ⌜ (r ≡ true → now (places .entry) ≡ placesOf (rows (now (starts .entry)) (now (sizes .entry)) (now (entries .entry)) n) → Stops (rows (now (starts .entry)) (now (sizes .entry)) (now (entries .entry)) n) (now (f .entry)) m (now (seen .entry)) (now (place .entry)) j (j - 1) []) ⌝ }
 {
-    let k = lists::minus(j, 1);
+    let k = numbers::minus(j, 1);
     let x = frontier::below::turn_by(places, starts, sizes, entries, n, f, k);
-    let u = lists::num(f, k);
-    let c = lists::wide_word(frontier::onward_at(starts, sizes, entries, n, u, x, 0));
+    let u = arrays::num(f, k);
+    let c = numbers::wide_word(frontier::onward_at(starts, sizes, entries, n, u, x, 0));
     let lead = take(
         places,
         starts,
@@ -337,7 +337,7 @@ fn shut<'a>(
         place,
         start(m),
         c,
-        lists::num(f, j),
+        arrays::num(f, j),
         j,
         k,
     );

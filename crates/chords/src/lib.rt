@@ -23,7 +23,7 @@ fn touches<'a>(
 {
     let mut k = a;
     while k < e {
-        if places::is_adjacent_by(places, starts, sizes, entries, n, u, lists::num(g, k)) {
+        if places::is_adjacent_by(places, starts, sizes, entries, n, u, arrays::num(g, k)) {
             return true;
         }
         k += 1;
@@ -43,10 +43,10 @@ fn chorded<'a>(
 ) -> bool
     ensures { λ r. ⌜ (now (places .entry) ≡ placesOf (rows (now (starts .entry)) (now (sizes .entry)) (now (entries .entry)) n) → r ≡ run.chorded (rows (now (starts .entry)) (now (sizes .entry)) (now (entries .entry)) n) (now (g .entry)) m) ⌝ }
 {
-    let e = lists::minus(m, 2);
+    let e = numbers::minus(m, 2);
     let mut k = 0;
     while k < e {
-        let u = lists::num(g, k);
+        let u = arrays::num(g, k);
         if touches(places, starts, sizes, entries, n, u, g, k + 2, m) {
             return true;
         }
@@ -69,13 +69,13 @@ fn chord_left<'a>(
 ) -> bool
     ensures { λ r. ⌜ (now (places .entry) ≡ placesOf (rows (now (starts .entry)) (now (sizes .entry)) (now (entries .entry)) n) → r ≡ run.chordLeft (rows (now (starts .entry)) (now (sizes .entry)) (now (entries .entry)) n) (now (f .entry)) i (now (list .entry)) q) ⌝ }
 {
-    let u = lists::num(f, i);
+    let u = arrays::num(f, i);
     if touches(places, starts, sizes, entries, n, u, list, 1, q) {
         return true;
     }
     let mut k = 0;
     while k < i {
-        let w = lists::num(f, k);
+        let w = arrays::num(f, k);
         if touches(places, starts, sizes, entries, n, w, list, 0, q) {
             return true;
         }
@@ -102,7 +102,7 @@ fn chord_at<'a>(
     requires { ⌜ j < m ⌝ }
     ensures { λ r. ⌜ (now (places .entry) ≡ placesOf (rows (now (starts .entry)) (now (sizes .entry)) (now (entries .entry)) n) → r ≡ run.chordAt (rows (now (starts .entry)) (now (sizes .entry)) (now (entries .entry)) n) (now (f .entry)) m j (now (list .entry)) q x) ⌝ }
 {
-    let u = lists::num(list, x);
+    let u = arrays::num(list, x);
     let next = x + 1;
     if next < q {
         if touches(places, starts, sizes, entries, n, u, list, next + 1, q) {

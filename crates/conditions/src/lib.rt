@@ -27,11 +27,11 @@ fn label_by<'a>(
     if v >= 200 {
         return 5;
     }
-    let place = lists::wide_byte(places[200 * u + v]);
+    let place = numbers::wide_byte(places[200 * u + v]);
     if place == 0 {
         return 5;
     }
-    labels::label_at(labels, lists::wide_word(starts[u]) + place - 1)
+    labels::label_at(labels, numbers::wide_word(starts[u]) + place - 1)
 }
 
 // Does the dart from u to v break the rules? 4 stands between border contexts, and only there; elsewhere a dart and its reverse differ by two quarters.
@@ -68,7 +68,7 @@ fn bad_darts<'a>(
 {
     let mut i = a;
     while i < e {
-        let v = rings::neighbour_of(lists::num(entries, i));
+        let v = rings::neighbour_of(arrays::num(entries, i));
         if bad_dart(places, starts, labels, u, v) {
             return true;
         }
@@ -107,7 +107,7 @@ fn not_dues<'a>(
 {
     let mut i = a;
     while i < e {
-        let v = rings::neighbour_of(lists::num(entries, i));
+        let v = rings::neighbour_of(arrays::num(entries, i));
         if not_due(places, starts, labels, u, v) {
             return true;
         }
@@ -128,7 +128,7 @@ fn breaks_at<'a>(
 ) -> bool
     ensures { λ r. ⌜ r ≡ breaksBy (now (places .entry)) (now (starts .entry)) (rows (now (starts .entry)) (now (sizes .entry)) (now (entries .entry)) n) (now (labels .entry)) u ⌝ }
 {
-    let a = lists::num(starts, u);
+    let a = arrays::num(starts, u);
     let e = a + rings::size_of(sizes, n, u);
     if bad_darts(places, starts, entries, labels, u, a, e) {
         return true;
@@ -167,7 +167,7 @@ pub fn rules_place<'a>(sizes: &'a [u8], entries: &'a [u16], n: usize, labels: &'
     ensures { λ r. ⌜ r ≤ min n 200 ⌝ }
 {
     let starts = rings::starts_of(sizes);
-    let m = lists::lesser(n, 200);
+    let m = numbers::lesser(n, 200);
     let mut places = [0u8; 40000];
     places::fill(&mut places, &starts, sizes, entries, m);
     place_by(&places, &starts, sizes, entries, m, labels)

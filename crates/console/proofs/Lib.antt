@@ -1,2 +1,1 @@
-mod Agree
 mod Marks

@@ -1,12 +1,12 @@
-// Standard input and output of the programs: items and bytes read, texts with numbers in them, a checksum that stands for bytes, and how far bytes agree. A contract says what a function gives and leaves; what is read and written is outside the logic, as in the kit's io.
+// Standard input and output of the programs: items read, texts with numbers in them. A contract says what a function gives and leaves; what is read and written is outside the logic, as in the kit's io.
 ghost use mathlib.Core.Path.{_≡_};
-ghost use Prim.Native.Nat.{_/_, _<_, _≤_, _^_};
+ghost use Prim.Native.Nat.{_/_, _≤_};
 ghost use lib.ListN.{length};
-ghost use Rattle.console.specs.Lines.{behind, shown, stir, checksum, agreeing};
+ghost use Rattle.console.specs.Lines.{behind, shown};
 ghost use Rattle.console.specs.Reading.{Read};
 
 // Reads so many bytes to the start of a space; whether they were there. What stands behind them stays, and all stays where the space is too short.
-pub fn read_bytes(space: &mut [u8], size: usize) -> bool
+fn read_bytes(space: &mut [u8], size: usize) -> bool
     ensures { λ r. ⌜ Read size (now (space .entry)) (now (space .exit)) r ⌝ }
 {
     if space.len() < size {
@@ -22,7 +22,7 @@ pub fn read_item(space: &mut [u8]) -> usize
     if !read_bytes(space, 4) {
         return 255;
     }
-    let item = lists::word_at(space, 0) + 65536 * lists::word_at(space, 2);
+    let item = arrays::word_at(space, 0) + 65536 * arrays::word_at(space, 2);
     if !read_bytes(space, item / 256) {
         return 255;
     }
@@ -55,42 +55,4 @@ pub fn show(text: &[u8], a: usize, b: usize, c: usize, d: usize, e: usize) -> us
     let after_d = show_part(text, after_c, d);
     let after_e = show_part(text, after_d, e);
     show_part(text, after_e, 0)
-}
-
-// The checksum of some bytes and one more.
-fn stir(sum: usize, byte: usize) -> usize
-    requires { ⌜ sum < 2 ^ 32 ⌝ }
-    requires { ⌜ byte < 2 ^ 8 ⌝ }
-    ensures { λ r. ⌜ r ≡ stir sum byte ⌝ }
-    ensures { λ r. ⌜ r < 2 ^ 32 ⌝ }
-{
-    (sum * 1000003 + byte + 1) % 4294967291
-}
-
-// The checksum of bytes: from 0 on, each byte b makes of it checksum * 1000003 + b + 1, modulo 4294967291.
-pub fn checksum(bytes: &[u8]) -> usize
-    ensures { λ r. ⌜ r ≡ checksum (now (bytes .entry)) ⌝ }
-    ensures { λ r. ⌜ r < 2 ^ 32 ⌝ }
-{
-    let mut sum = 0;
-    let mut i = 0;
-    while i < bytes.len() {
-        sum = stir(sum, lists::byte(bytes, i));
-        i += 1;
-    }
-    sum
-}
-
-// How many of the first k bytes are the same in both, up to the first that differs.
-pub fn agreeing<'a>(a: &'a [u8], b: &'a [u8], k: usize) -> usize
-    ensures { λ r. ⌜ r ≡ agreeing (now (a .entry)) (now (b .entry)) k ⌝ }
-{
-    let mut i = 0;
-    while i < k {
-        if lists::byte(a, i) != lists::byte(b, i) {
-            return i;
-        }
-        i += 1;
-    }
-    i
 }

@@ -11,7 +11,7 @@ fn front<'a>(starts: &'a [u16], sizes: &'a [u8], entries: &'a [u16], n: usize) -
 {
     let mut at = [0u16; 512];
     let mut v = frontier::push(&mut at, Tally { ok: true, len: 0 }, 3);
-    let mut t = lists::minus(rings::size_of(sizes, n, 0), 2);
+    let mut t = numbers::minus(rings::size_of(sizes, n, 0), 2);
     while t > 0 {
         t -= 1;
         v = frontier::push(
@@ -36,7 +36,7 @@ fn marked(f: &[u16], m: usize) -> [u8; 256]
     let mut marks = [0u8; 256];
     let mut k = 0;
     while k < m {
-        let c = lists::num(f, k);
+        let c = arrays::num(f, k);
         k += 1;
         if c < 256 {
             marks[c] = 1;
@@ -74,7 +74,7 @@ fn done_at<'a>(
 {
     let x = frontier::below::turn_by(places, starts, sizes, entries, n, f, k);
     if frontier::below::depth(starts, sizes, entries, n, f, k, x) == 1 {
-        return frontier::onward_at(starts, sizes, entries, n, lists::num(f, k), x, 0) == 2;
+        return frontier::onward_at(starts, sizes, entries, n, arrays::num(f, k), x, 0) == 2;
     }
     false
 }
@@ -91,7 +91,7 @@ pub fn is_unfinished<'a>(
 ) -> bool
     ensures { λ r. ⌜ r ≡ unfinishedBy (now (places .entry)) (rows (now (starts .entry)) (now (sizes .entry)) (now (entries .entry)) n) (now (f .entry)) m ⌝ }
 {
-    let e = lists::minus(m, 1);
+    let e = numbers::minus(m, 1);
     let mut k = 1;
     while k < e {
         if !done_at(places, starts, sizes, entries, n, f, k) {

@@ -22,8 +22,8 @@ use Rattle.model.proofs.FileWrite.{PlanFits, Fits}
 use Rattle.model.proofs.FileRead.{read-fits}
 use Rattle.model.proofs.RingPart.{open-accepted, ring-accepted, opened-part}
 use Rattle.rings.specs.Tables.{startsOf}
-use Rattle.framing.specs.Offsets.{partAt}
-use Rattle.framing.proofs.Offsets.{part-whole}
+use Rattle.arrays.specs.Parts.{partAt}
+use Rattle.arrays.proofs.Parts.{part-whole}
 use Rattle.sheet.specs.declared.Sheet.{Sheet}
 use Rattle.sheet.specs.declared.Stage.{Stage}
 use Rattle.sheet.specs.declared.Stage.the-variants.{Open, Labelled, Charted}

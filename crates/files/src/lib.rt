@@ -18,10 +18,10 @@ fn ring_of(sheet: Sheet, context: usize) -> RingAnswer
         return RingAnswer::Refused(17, n);
     }
     let sizes = sheet.sizes;
-    let size = lists::byte(&sizes, context);
+    let size = arrays::byte(&sizes, context);
     let starts = rings::starts_of(&sizes);
     RingAnswer::Part(
-        10 + 4 * context + 2 * lists::num(&starts, context),
+        10 + 4 * context + 2 * arrays::num(&starts, context),
         2 * size,
     )
 }
@@ -46,7 +46,7 @@ pub fn ring<'a>(file: &'a [u8], context: usize) -> &'a [u8]
     let answer = ring_answer(file, context);
     match answer {
         RingAnswer::Refused(_, _) => &file[0..0],
-        RingAnswer::Part(at, size) => framing::ring_part(file, at, size),
+        RingAnswer::Part(at, size) => arrays::part(file, at, size),
     }
 }
 

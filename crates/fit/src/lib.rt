@@ -12,11 +12,11 @@ pub fn total_of(sizes: &[u8], n: usize) -> usize
     ensures { λ r. ⌜ r ≡ startOf (now (sizes .entry)) (min n 200) ⌝ }
     ensures { λ r. ⌜ r < 2 ^ 16 ⌝ }
 {
-    let m = lists::lesser(n, 200);
+    let m = numbers::lesser(n, 200);
     let mut sum = 0;
     let mut u = 0;
     while u < m {
-        sum += lists::byte(sizes, u);
+        sum += arrays::byte(sizes, u);
         u += 1;
     }
     sum
@@ -35,7 +35,7 @@ fn any_strange(entries: &[u16], k: usize, n: usize) -> bool
 {
     let mut i = 0;
     while i < k {
-        if n <= rings::neighbour_of(lists::num(entries, i)) {
+        if n <= rings::neighbour_of(arrays::num(entries, i)) {
             return true;
         }
         i += 1;

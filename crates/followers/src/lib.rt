@@ -13,7 +13,7 @@ ghost use Rattle.followers.specs.Followers.{mark, noteAt, noteRing, note
 fn mark_of(v: usize) -> u8
     ensures { λ r. ⌜ r ≡ mark v ⌝ }
 {
-    lists::lesser(v, 254) as u8 + 1
+    numbers::lesser(v, 254) as u8 + 1
 }
 
 // A number noted for the entry v of u's ring. Is it clear still: the entry has a cell, which was 0?
@@ -27,8 +27,8 @@ fn note(table: &mut [u8], u: usize, v: usize, x: u8, clear: bool) -> bool
     if v >= 200 {
         return false;
     }
-    let old = lists::byte(table, 200 * u + v);
-    lists::set_byte(table, 200 * u + v, x);
+    let old = arrays::byte(table, 200 * u + v);
+    arrays::set_byte(table, 200 * u + v, x);
     if old == 0 {
         return clear;
     }
@@ -42,11 +42,11 @@ fn note_ring(table: &mut [u8], u: usize, entries: &[u16], a: usize, e: usize, cl
     ensures { λ r. ⌜ r ≡ noteRing u (neighbour (getD (now (entries .entry)) a 0)) (map neighbour (span (now (entries .entry)) a e)) (now (table .entry), clear) .1 ⌝ }
 {
     let mut still = clear;
-    let mut after = rings::neighbour_of(lists::num(entries, a));
+    let mut after = rings::neighbour_of(arrays::num(entries, a));
     let mut i = e;
     while a < i {
         i -= 1;
-        let v = rings::neighbour_of(lists::num(entries, i));
+        let v = rings::neighbour_of(arrays::num(entries, i));
         still = note(table, u, v, mark_of(after), still);
         after = v;
     }
@@ -64,11 +64,11 @@ pub fn fill<'a>(
     ensures { λ r. ⌜ now (table .exit) ≡ noteRings (rows (now (starts .entry)) (now (sizes .entry)) (now (entries .entry)) n) (now (table .entry), true) .0 ⌝ }
     ensures { λ r. ⌜ r ≡ noteRings (rows (now (starts .entry)) (now (sizes .entry)) (now (entries .entry)) n) (now (table .entry), true) .1 ⌝ }
 {
-    let m = lists::lesser(n, 200);
+    let m = numbers::lesser(n, 200);
     let mut clear = true;
     let mut u = 0;
     while u < m {
-        let a = lists::num(starts, u);
+        let a = arrays::num(starts, u);
         let e = a + rings::size_of(sizes, n, u);
         clear = note_ring(table, u, entries, a, e, clear);
         u += 1;
@@ -87,7 +87,7 @@ pub fn told(table: &[u8], u: usize, v: usize) -> usize
     if v >= 200 {
         return 0;
     }
-    lists::byte(table, 200 * u + v)
+    arrays::byte(table, 200 * u + v)
 }
 
 // By a table, does the dart from u to v come back to itself after three face steps? Where the table has no room for one of them, the answer is no.

@@ -17,7 +17,7 @@ use Rattle.model.specs.File.{Cursor, Framed, frame, fitsRing}
 use Rattle.rings.specs.Lent.{wordsAt}
 use Rattle.framing.specs.declared.Frame.{Frame}
 use Rattle.framing.specs.declared.Frame.the-variants.{Body, Broken}
-use Rattle.framing.specs.Offsets.{cursor, wordAt, frameAt, framedOf, partAt}
+use Rattle.framing.specs.Offsets.{cursor, wordAt, frameAt, framedOf}
 
 -- a number of two bytes at the beginning of the rest
 pub word-drop : (s : List ℕ) (at : ℕ) → word (drop at s) ≡ wordAt s at
@@ -152,24 +152,3 @@ ring-many n m p h l = rw (eq-eqb (m % 2) 0 h, lt-leb m (2 * (n - 1)) (omega arit
 pub ring-fits : (n m : ℕ) → m % 2 ≡ 0 → m / 2 < n → fitsRing n m ≡ true
 unfolding fitsRing
 ring-fits n m h l = rw (eq-eqb (m % 2) 0 h, le-leb m (2 * (n - 1)) (omega arith))
-
--- ---- the part of a file
-pub part-fits : (s : List ℕ) (at k : ℕ) → at + k ≤ length s → take k (drop at s) ≡ partAt s at k
-unfolding partAt
-part-fits s at k h = rw (le-leb (at + k) (length s) h)
-
-pub part-past : (s : List ℕ) (at k : ℕ) → length s < at + k → [] ≡ partAt s at k
-unfolding partAt
-part-past s at k h = rw (lt-leb (at + k) (length s) h)
-
--- a part that has its whole size
-pub part-whole : (s : List ℕ) (at k : ℕ) → length (take k (drop at s)) ≡ k → take k (drop at s) ≡ partAt s at k
-unfolding partAt
-part-whole s at k h = go (leb (at + k) (length s)) refl
-  where
-    none : k ≡ 0 → take k (drop at s) ≡ []
-    none z = rw z
-
-    go : (t : Bool) → leb (at + k) (length s) ≡ t → take k (drop at s) ≡ cond t (take k (drop at s)) []
-    go true q = refl
-    go false q = none (let l = leb-false (at + k) (length s) q in omega (arith, length-take k (drop at s), length-drop at s))

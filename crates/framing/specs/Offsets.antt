@@ -70,7 +70,3 @@ walkOf file n w = ringsAs file n (w .due) (w .sizes) (w .at)
 abbrev pub WalkBounds : ℕ → Due → List ℕ → ℕ → Type 0
 WalkBounds n There sizes at = (sizes ≡ padded 200 (stretch sizes 0 n)) × (at ≤ 6 + 402 * n)
 WalkBounds n (Refused k p) sizes at = Unit {0}
-
--- The part of a file from an offset on, of a size; empty where it does not fit
-unfoldable pub partAt : List ℕ → ℕ → ℕ → List ℕ
-partAt file at size = cond (leb (at + size) (length file)) (take size (drop at file)) []

@@ -7,7 +7,7 @@ ghost use lib.Dec.{eqb};
 ghost use Rattle.lists.specs.Spans.{stretch, padded};
 ghost use Rattle.model.specs.Plan.{dartCount};
 ghost use Rattle.model.specs.File.{frame, fitsRing, frameRings, frameRest, optional, decode};
-ghost use Rattle.framing.specs.Offsets.{cursor, wordAt, frameAt, framedOf, dueOf, endOf, ringOf, RingBelow, walkOf, WalkBounds, partAt};
+ghost use Rattle.framing.specs.Offsets.{cursor, wordAt, frameAt, framedOf, dueOf, endOf, ringOf, RingBelow, walkOf, WalkBounds};
 ghost use Rattle.framing.specs.Layouts.{planIn, labelsIn, sheetIn, tidied, restFrom, planFrom, Enough, Lays, nothing};
 
 // The record at an offset: its kind and the size of its body; broken where its length is missing, under 2 or past the end.
@@ -64,14 +64,14 @@ fn frame_at(file: &[u8], at: usize) -> Frame
     if left < 2 {
         return Frame::Broken;
     }
-    let long = lists::word_at(file, at);
+    let long = arrays::word_at(file, at);
     if long < 2 {
         return Frame::Broken;
     }
     if left - 2 < long {
         return Frame::Broken;
     }
-    Frame::Body(lists::word_at(file, at + 2), long - 2)
+    Frame::Body(arrays::word_at(file, at + 2), long - 2)
 }
 
 // A record of one kind and one body size is due.
@@ -252,7 +252,7 @@ fn frame_labels(file: &[u8], n: usize, sizes: [u8; 200], at: usize) -> Layout
 fn frame_plan(file: &[u8]) -> Layout
     ensures { λ r. ⌜ Lays (now (file .entry)) (planFrom (now (file .entry)) (wordAt (now (file .entry)) 4)) r ⌝ }
 {
-    let n = lists::word_at(file, 4);
+    let n = arrays::word_at(file, 4);
     if n < 5 {
         return refused(3, 0);
     }
@@ -283,17 +283,4 @@ pub fn frame_file(file: &[u8]) -> Layout
         Due::Refused(number, place) => refused(number, place),
         Due::There => frame_plan(file),
     }
-}
-
-// The part of a file from an offset on, of a size; empty where it does not fit.
-pub fn ring_part<'a>(file: &'a [u8], at: usize, size: usize) -> &'a [u8]
-    ensures { λ r. ⌜ now r ≡ partAt (now (file .entry)) at size ⌝ }
-{
-    if file.len() < at {
-        return &file[0..0];
-    }
-    if file.len() - at < size {
-        return &file[0..0];
-    }
-    &file[at..at + size]
 }

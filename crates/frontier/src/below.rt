@@ -21,7 +21,7 @@ fn gap<'a>(
     ensures { λ r. ⌜ r < 2 ^ 9 ⌝ }
 {
     let q = rings::size_of(sizes, n, u);
-    let e = lists::minus(lists::minus(q, 1), x) + lists::lesser(x, q);
+    let e = numbers::minus(numbers::minus(q, 1), x) + numbers::lesser(x, q);
     let mut t = 0;
     while t < e {
         if b == crate::onward_at(starts, sizes, entries, n, u, x, t) {
@@ -36,7 +36,7 @@ fn gap<'a>(
 fn prior(f: &[u16], k: usize) -> u16
     ensures { λ r. ⌜ r ≡ getD (now (f .entry)) (k - 1) 0 ⌝ }
 {
-    lists::word(f, lists::minus(k, 1))
+    arrays::word(f, numbers::minus(k, 1))
 }
 
 // The frontier context after position k.
@@ -44,7 +44,7 @@ fn after(f: &[u16], k: usize) -> u16
     ensures { λ r. ⌜ r ≡ getD (now (f .entry)) (suc k) 0 ⌝ }
 {
     if k < f.len() {
-        lists::word(f, k + 1)
+        arrays::word(f, k + 1)
     } else {
         0
     }
@@ -69,8 +69,8 @@ pub fn turn_by<'a>(
         sizes,
         entries,
         n,
-        lists::num(f, k),
-        lists::wide_word(after(f, k)),
+        arrays::num(f, k),
+        numbers::wide_word(after(f, k)),
     )
 }
 
@@ -87,5 +87,5 @@ pub fn depth<'a>(
     ensures { λ r. ⌜ r ≡ run.depthFrom (rows (now (starts .entry)) (now (sizes .entry)) (now (entries .entry)) n) (now (f .entry)) k x ⌝ }
     ensures { λ r. ⌜ r < 2 ^ 9 ⌝ }
 {
-    gap(starts, sizes, entries, n, lists::num(f, k), x, prior(f, k))
+    gap(starts, sizes, entries, n, arrays::num(f, k), x, prior(f, k))
 }

@@ -28,7 +28,7 @@ pub fn push(at: &mut [u16], line: Tally, x: u16) -> Tally
     ensures { λ r. ⌜ ((marks : List ℕ) → run.lineOf r (now (at .exit)) marks ≡ run.pushed (run.lineOf line (now (at .entry)) marks) x) ⌝ }
 {
     if line.len < 512 {
-        lists::set_word(at, line.len, x);
+        arrays::set_word(at, line.len, x);
         return Tally {
             ok: line.ok,
             len: line.len + 1,
@@ -52,7 +52,7 @@ fn entry_at<'a>(
     ensures { λ r. ⌜ r ≡ getD (ring (rows (now (starts .entry)) (now (sizes .entry)) (now (entries .entry)) n) u) i 0 ⌝ }
 {
     if i < rings::size_of(sizes, n, u) {
-        rings::neighbour_of(lists::num(entries, lists::num(starts, u) + i)) as u16
+        rings::neighbour_of(arrays::num(entries, arrays::num(starts, u) + i)) as u16
     } else {
         0
     }
@@ -70,7 +70,7 @@ pub fn onward_at<'a>(
 ) -> u16
     ensures { λ r. ⌜ r ≡ getD (run.turnedAt x (ring (rows (now (starts .entry)) (now (sizes .entry)) (now (entries .entry)) n) u)) t 0 ⌝ }
 {
-    let d = lists::minus(lists::minus(rings::size_of(sizes, n, u), 1), x);
+    let d = numbers::minus(numbers::minus(rings::size_of(sizes, n, u), 1), x);
     if t < d {
         return entry_at(starts, sizes, entries, n, u, x + 1 + t);
     }

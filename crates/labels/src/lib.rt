@@ -16,7 +16,7 @@ pub fn label_at(labels: &[u8], i: usize) -> usize
     if i >= labels.len() {
         return 5;
     }
-    lists::wide_byte(labels[i])
+    numbers::wide_byte(labels[i])
 }
 
 // The label due on the inner darts that leave a context: North's are down, East's left, South's up, West's right; no one label is due at an inner context.

@@ -23,7 +23,7 @@ fn change_weight(a: usize, b: usize) -> usize
 pub fn four_runs(labels: &[u8], a: usize, e: usize) -> bool
     ensures { λ r. ⌜ r ≡ fourRuns (slice a e (now (labels .entry))) ⌝ }
 {
-    let end = lists::lesser(e, labels.len());
+    let end = numbers::lesser(e, labels.len());
     if end <= a {
         return false;
     }

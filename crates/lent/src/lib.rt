@@ -16,7 +16,7 @@ fn entry_in<'a>(file: &'a [u8], starts: &'a [u16], u: usize, i: usize) -> usize
     if file.len() / 4 < u {
         return 0;
     }
-    lists::word_at(file, 10 + 4 * u + 2 * lists::num(starts, u) + 2 * i)
+    arrays::word_at(file, 10 + 4 * u + 2 * arrays::num(starts, u) + 2 * i)
 }
 
 // The i-th neighbour in u's ring; 0 past its end.

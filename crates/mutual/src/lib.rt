@@ -23,7 +23,7 @@ fn is_listed<'a>(
 fn fill_in<'a>(table: &mut [u8], file: &'a [u8], starts: &'a [u16], sizes: &'a [u8], n: usize)
     ensures { λ r. ⌜ now (table .exit) ≡ filled (lent (now (starts .entry)) (now (sizes .entry)) (now (file .entry)) n) (now (table .entry)) ⌝ }
 {
-    let m = lists::lesser(n, 200);
+    let m = numbers::lesser(n, 200);
     let mut u = 0;
     let mut i = 0;
     while u < m {
@@ -58,7 +58,7 @@ fn is_listed_by<'a>(
     if v >= 200 {
         return is_listed(file, starts, sizes, n, u, v);
     }
-    lists::byte(places, 200 * u + v) != 0
+    arrays::byte(places, 200 * u + v) != 0
 }
 
 // 6: does u list some context that does not list u?

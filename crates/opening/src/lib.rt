@@ -63,8 +63,8 @@ fn copy_entries<'a>(file: &'a [u8], sizes: &'a [u8], n: usize) -> [u16; 1186]
     let mut i = 0;
     let mut at = 0;
     while u < n {
-        if i < lists::byte(sizes, u) {
-            entries[at] = lists::word_at(file, 10 + 4 * u + 2 * at) as u16;
+        if i < arrays::byte(sizes, u) {
+            entries[at] = arrays::word_at(file, 10 + 4 * u + 2 * at) as u16;
             at += 1;
             i += 1;
         } else {
@@ -84,7 +84,7 @@ fn copy_labels(file: &[u8], at: usize, count: usize) -> [u8; 1186]
     let mut labels = [0u8; 1186];
     let mut i = 0;
     while i < count {
-        labels[i] = lists::byte(file, at + i) as u8;
+        labels[i] = arrays::byte(file, at + i) as u8;
         i += 1;
     }
     labels
@@ -99,7 +99,7 @@ fn copy_chart(file: &[u8], at: usize, n: usize) -> [u16; 200]
     let mut points = [0u16; 200];
     let mut u = 0;
     while u < n {
-        points[u] = lists::word_at(file, at + 4 * u) as u16;
+        points[u] = arrays::word_at(file, at + 4 * u) as u16;
         u += 1;
     }
     points
@@ -164,8 +164,8 @@ fn charted_sheet(file: &[u8], n: usize, sizes: [u8; 200], at: usize, chart: usiz
     let labels = copy_labels(file, at, 6 * n - 14);
     let xs = copy_chart(file, chart + 4, n);
     let ys = copy_chart(file, chart + 6, n);
-    let w = lists::word_at(file, chart) as u16;
-    let h = lists::word_at(file, chart + 2) as u16;
+    let w = arrays::word_at(file, chart) as u16;
+    let h = arrays::word_at(file, chart + 2) as u16;
     Sheet {
         stage: Stage::Charted,
         n: n as u16,

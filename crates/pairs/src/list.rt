@@ -17,7 +17,7 @@ fn last_is(at: &[u16], len: usize, c: u16) -> bool
     if len == 0 {
         false
     } else {
-        c == lists::word(at, len - 1)
+        c == arrays::word(at, len - 1)
     }
 }
 
@@ -28,7 +28,7 @@ fn barred(marks: &[u8], c: u16) -> bool
     if c < 4 {
         true
     } else {
-        lists::byte(marks, lists::wide_word(c)) != 0
+        arrays::byte(marks, numbers::wide_word(c)) != 0
     }
 }
 
@@ -52,7 +52,7 @@ fn add(at: &mut [u16], marks: &mut [u8], list: Tally, c: u16) -> Tally
     if barred(marks, c) {
         return failed(list);
     }
-    lists::set_byte(marks, lists::wide_word(c), 1);
+    arrays::set_byte(marks, numbers::wide_word(c), 1);
     frontier::push(at, list, c)
 }
 
@@ -76,7 +76,7 @@ fn add_back<'a>(
     if q == 0 {
         return failed(list);
     }
-    let u = lists::num(f, k);
+    let u = arrays::num(f, k);
     let mut w = list;
     let mut t = q;
     while t > 0 {
@@ -143,7 +143,7 @@ fn append(at: &mut [u16], line: Tally, f: &[u16], a: usize, e: usize) -> Tally
     let mut v = line;
     let mut k = a;
     while k < e {
-        v = frontier::push(at, v, lists::word(f, k));
+        v = frontier::push(at, v, arrays::word(f, k));
         k += 1;
     }
     v

@@ -104,7 +104,7 @@ fn label_place<'a>(
     if v >= 200 {
         return a + rings::index_of(starts, sizes, entries, n, u, v);
     }
-    let mark = lists::wide_word(marks[v]);
+    let mark = numbers::wide_word(marks[v]);
     if mark > a {
         return mark - 1;
     }
@@ -147,7 +147,7 @@ fn asks_of<'a>(
     let mut k = rings::size_of(sizes, n, 0);
     while u < n {
         if i < k {
-            let v = rings::neighbour_of(lists::num(entries, a + i));
+            let v = rings::neighbour_of(arrays::num(entries, a + i));
             let at = label_place(&mut marks, starts, sizes, entries, n, u, v, a, i);
             let label = labels::label_at(labels, at);
             let s = u as u16;
@@ -192,7 +192,7 @@ fn axis_of<'a>(
 fn is_at<'a>(xs: &'a [u16], ys: &'a [u16], u: usize, a: usize, b: usize) -> bool
     ensures { λ r. ⌜ r ≡ standsAt (now (xs .entry)) (now (ys .entry)) u a b ⌝ }
 {
-    lists::num(xs, u) == a && lists::num(ys, u) == b
+    arrays::num(xs, u) == a && arrays::num(ys, u) == b
 }
 
 // Do the border contexts stand at the corners?
@@ -202,10 +202,10 @@ fn is_squared<'a>(xs: &'a [u16], ys: &'a [u16]) -> bool
     if !is_at(xs, ys, 2, 0, 0) {
         return false;
     }
-    if !is_at(xs, ys, 3, 0, lists::num(ys, 0)) {
+    if !is_at(xs, ys, 3, 0, arrays::num(ys, 0)) {
         return false;
     }
-    is_at(xs, ys, 1, lists::num(xs, 0), 0)
+    is_at(xs, ys, 1, arrays::num(xs, 0), 0)
 }
 
 // No chart.

@@ -15,7 +15,7 @@ pub fn note(table: &mut [u8], u: usize, v: usize, x: u8)
         return;
     }
     let at = 200 * u + v;
-    if lists::byte(table, at) != 0 {
+    if arrays::byte(table, at) != 0 {
         return;
     }
     if at < table.len() {
@@ -27,7 +27,7 @@ pub fn note(table: &mut [u8], u: usize, v: usize, x: u8)
 pub fn fill<'a>(table: &mut [u8], starts: &'a [u16], sizes: &'a [u8], entries: &'a [u16], n: usize)
     ensures { λ r. ⌜ now (table .exit) ≡ filled (rows (now (starts .entry)) (now (sizes .entry)) (now (entries .entry)) n) (now (table .entry)) ⌝ }
 {
-    let m = lists::lesser(n, 200);
+    let m = numbers::lesser(n, 200);
     let mut u = 0;
     let mut i = 0;
     while u < m {
@@ -61,7 +61,7 @@ pub fn index_by<'a>(
     if v >= 200 {
         return rings::index_of(starts, sizes, entries, n, u, v);
     }
-    let place = lists::byte(places, 200 * u + v);
+    let place = arrays::byte(places, 200 * u + v);
     if place == 0 {
         return rings::size_of(sizes, n, u);
     }
@@ -86,5 +86,5 @@ pub fn is_adjacent_by<'a>(
     if v >= 200 {
         return rings::is_adjacent(starts, sizes, entries, n, u, v);
     }
-    lists::byte(places, 200 * u + v) != 0
+    arrays::byte(places, 200 * u + v) != 0
 }

@@ -20,7 +20,7 @@ fn put_refusal(out: &mut [u8], at: usize, number: u8, place: usize) -> usize
         out,
         at,
         b"refused # at #\n",
-        lists::wide_byte(number),
+        numbers::wide_byte(number),
         place,
         0,
     )
@@ -34,7 +34,14 @@ fn put_points<'a>(out: &mut [u8], at: usize, xs: &'a [u16], ys: &'a [u16], n: us
     let mut to = at;
     let mut u = 0;
     while u < n {
-        to = forms::put(out, to, b"# # #\n", u, lists::num(xs, u), lists::num(ys, u));
+        to = forms::put(
+            out,
+            to,
+            b"# # #\n",
+            u,
+            arrays::num(xs, u),
+            arrays::num(ys, u),
+        );
         u += 1;
     }
     to
@@ -50,11 +57,11 @@ fn put_chart(out: &mut [u8], at: usize, sheet: Sheet) -> usize
         out,
         at,
         b"size # #\n",
-        lists::wide_word(sheet.w),
-        lists::wide_word(sheet.h),
+        numbers::wide_word(sheet.w),
+        numbers::wide_word(sheet.h),
         0,
     );
-    put_points(out, to, &xs, &ys, lists::wide_word(sheet.n))
+    put_points(out, to, &xs, &ys, numbers::wide_word(sheet.n))
 }
 
 // From chart on.
@@ -104,7 +111,7 @@ fn put_opened(out: &mut [u8], at: usize, sheet: Sheet) -> usize
     requires { ⌜ planOf (reads sheet) ≡ accepted (heldPlan sheet) ⌝ }
     ensures { λ r. ⌜ Prints (now (out .entry)) at (planText (reads sheet)) (now (out .exit)) r 4096 ⌝ }
 {
-    let to = forms::put(out, at, b"plan #\n", lists::wide_word(sheet.n), 0, 0);
+    let to = forms::put(out, at, b"plan #\n", numbers::wide_word(sheet.n), 0, 0);
     put_scanned(out, to, sheet)
 }
 

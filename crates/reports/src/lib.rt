@@ -39,7 +39,7 @@ fn write_parts(sheet: Sheet, parts: writing::Parts, out: &mut [u8]) -> writing::
     let labels = sheet.labels;
     let xs = sheet.xs;
     let ys = sheet.ys;
-    let n = lists::wide_word(sheet.n);
+    let n = numbers::wide_word(sheet.n);
     writing::write_file(
         out,
         parts,
@@ -77,7 +77,7 @@ fn scan_plan(sheet: Sheet) -> triples::Scanned
     let sizes = sheet.sizes;
     let entries = sheet.entries;
     let starts = rings::starts_of(&sizes);
-    triples::scan(&starts, &sizes, &entries, lists::wide_word(sheet.n))
+    triples::scan(&starts, &sizes, &entries, numbers::wide_word(sheet.n))
 }
 
 // Scan (OPEN up): the smallest triple of mutual neighbours that are no inner face, or that there is none.
@@ -102,7 +102,7 @@ fn same_points(a: Sheet, b: Sheet) -> bool
     let ay = a.ys;
     let bx = b.xs;
     let by = b.ys;
-    let n = lists::wide_word(a.n);
+    let n = numbers::wide_word(a.n);
     charts::same_chart(n, a.w, a.h, &ax, &ay, b.w, b.h, &bx, &by)
 }
 

@@ -21,7 +21,7 @@ pub fn size_of(sizes: &[u8], n: usize, u: usize) -> usize
     ensures { λ r. ⌜ r ≡ sizeOf (now (sizes .entry)) n u ⌝ }
     ensures { λ r. ⌜ r < 2 ^ 8 ⌝ }
 {
-    if u < n { lists::byte(sizes, u) } else { 0 }
+    if u < n { arrays::byte(sizes, u) } else { 0 }
 }
 
 // Where each ring begins among the entries.
@@ -33,7 +33,7 @@ pub fn starts_of(sizes: &[u8]) -> [u16; 200]
     let mut u = 0;
     while u < 200 {
         starts[u] = sum;
-        sum += lists::byte(sizes, u) as u16;
+        sum += arrays::byte(sizes, u) as u16;
         u += 1;
     }
     starts
@@ -46,7 +46,7 @@ fn find(entries: &[u16], a: usize, e: usize, v: usize) -> usize
 {
     let mut i = a;
     while i < e {
-        if v == neighbour_of(lists::num(entries, i)) {
+        if v == neighbour_of(arrays::num(entries, i)) {
             return i - a;
         }
         i += 1;
@@ -66,7 +66,7 @@ pub fn index_of<'a>(
     ensures { λ r. ⌜ r ≡ indexOf v (ring (rows (now (starts .entry)) (now (sizes .entry)) (now (entries .entry)) n) u) ⌝ }
     ensures { λ r. ⌜ r < 2 ^ 8 ⌝ }
 {
-    let a = lists::num(starts, u);
+    let a = arrays::num(starts, u);
     let e = a + size_of(sizes, n, u);
     find(entries, a, e, v)
 }
@@ -97,7 +97,7 @@ pub fn neighbour_at<'a>(
     ensures { λ r. ⌜ r ≡ getD (ring (rows (now (starts .entry)) (now (sizes .entry)) (now (entries .entry)) n) u) i 0 ⌝ }
 {
     if i < size_of(sizes, n, u) {
-        neighbour_of(lists::num(entries, lists::num(starts, u) + i))
+        neighbour_of(arrays::num(entries, arrays::num(starts, u) + i))
     } else {
         0
     }

@@ -59,7 +59,7 @@ fn numbers_of(argument: &[u8], k: usize) -> [u16; 1200]
     let mut numbers = [0u16; 1200];
     let mut i = 0;
     while i < k {
-        numbers[i] = lists::word_at(argument, 1 + 2 * i) as u16;
+        numbers[i] = arrays::word_at(argument, 1 + 2 * i) as u16;
         i += 1;
     }
     numbers
@@ -88,7 +88,7 @@ fn run_turn(sheet: Sheet, argument: &[u8], size: usize) -> Step
     }
     let k = long / 2;
     let numbers = numbers_of(argument, k);
-    let direction = lists::byte(argument, 0) as u8;
+    let direction = arrays::byte(argument, 0) as u8;
     run_on(turn_first(sheet, &numbers, k, direction), size)
 }
 
@@ -123,7 +123,7 @@ fn argument_size(rest: &[u8]) -> usize
     ensures { λ r. ⌜ r ≡ argumentSize (now (rest .entry)) ⌝ }
     ensures { λ r. ⌜ r < 2 ^ 24 ⌝ }
 {
-    lists::word_at(rest, 1) + 65536 * lists::byte(rest, 3)
+    arrays::word_at(rest, 1) + 65536 * arrays::byte(rest, 3)
 }
 
 // The item that the bytes begin with.
@@ -140,7 +140,7 @@ fn run_item(sheet: Sheet, rest: &[u8]) -> Step
     }
     let end = 4 + size;
     let argument = &rest[4..end];
-    run_call(sheet, lists::byte(rest, 0), argument, end)
+    run_call(sheet, arrays::byte(rest, 0), argument, end)
 }
 
 // Runs the calls of a script from a fresh sheet, refused ones included. What stands on the sheet then is what demand 3 says of this very list of calls.

@@ -87,7 +87,7 @@ pub fn stage_of(sheet: Sheet) -> Stage
 {
     let sizes = sheet.sizes;
     let entries = sheet.entries;
-    if fit::is_fit(&sizes, &entries, lists::wide_word(sheet.n)) {
+    if fit::is_fit(&sizes, &entries, numbers::wide_word(sheet.n)) {
         return sheet.stage;
     }
     Stage::Empty

@@ -14,11 +14,11 @@ fn chain<'a>(
 ) {
     let mut k = count;
     while k > 0 {
-        let low = lists::num(lows, k - 1);
-        let high = lists::num(highs, k - 1);
-        lists::set_word(next, k - 1, lists::word(first, low));
-        lists::set_word(first, low, (k % 65536) as u16);
-        lists::set_word(waits, high, ((lists::num(waits, high) + 1) % 65536) as u16);
+        let low = arrays::num(lows, k - 1);
+        let high = arrays::num(highs, k - 1);
+        arrays::set_word(next, k - 1, arrays::word(first, low));
+        arrays::set_word(first, low, (k % 65536) as u16);
+        arrays::set_word(waits, high, ((arrays::num(waits, high) + 1) % 65536) as u16);
         k -= 1;
     }
 }
@@ -30,8 +30,8 @@ fn line_up(queue: &mut [u16], waits: &[u16], n: usize) -> usize
     let mut queued = 0;
     let mut u = 0;
     while u < n {
-        lists::set_word(queue, queued, (u % 65536) as u16);
-        queued += lists::minus(1, lists::num(waits, u));
+        arrays::set_word(queue, queued, (u % 65536) as u16);
+        queued += numbers::minus(1, arrays::num(waits, u));
         u += 1;
     }
     queued
@@ -48,11 +48,11 @@ fn release<'a>(
     requires { ⌜ queued < 2 ^ 32 ⌝ }
     ensures { λ r. ⌜ r ≤ queued + 1 ⌝ }
 {
-    let high = lists::num(highs, k);
-    let wait = lists::minus(lists::num(waits, high), 1);
-    lists::set_word(waits, high, wait as u16);
-    lists::set_word(queue, queued, (high % 65536) as u16);
-    queued + lists::minus(1, wait)
+    let high = arrays::num(highs, k);
+    let wait = numbers::minus(arrays::num(waits, high), 1);
+    arrays::set_word(waits, high, wait as u16);
+    arrays::set_word(queue, queued, (high % 65536) as u16);
+    queued + numbers::minus(1, wait)
 }
 
 // Takes constraints in so many steps at most: a number comes from the queue, its constraints are taken, and a number that no constraint waits for any more joins the queue.
@@ -85,12 +85,12 @@ fn follow<'a>(
         if k > 0 {
             crate::raise(at, n, count, lows, highs, gaps, k - 1);
             queued = release(waits, queue, highs, k - 1, queued);
-            k = lists::num(next, k - 1);
+            k = arrays::num(next, k - 1);
         } else {
             if done >= queued {
                 return;
             }
-            k = lists::num(first, lists::num(queue, done));
+            k = arrays::num(first, arrays::num(queue, done));
             done += 1;
         }
     }
@@ -107,7 +107,7 @@ pub(crate) fn first_pass<'a>(
     requires { ⌜ n ≤ 200 ⌝ }
     ensures { λ r. ⌜ Raised n (listed (now (lows .entry)) (now (highs .entry)) (now (gaps .entry)) count) r ⌝ }
 {
-    let m = lists::lesser(count, 1188);
+    let m = numbers::lesser(count, 1188);
     let mut first = [0u16; 200];
     let mut next = [0u16; 1188];
     let mut waits = [0u16; 200];

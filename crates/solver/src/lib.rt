@@ -28,8 +28,8 @@ fn due_at<'a>(lows: &'a [u16], gaps: &'a [u8], at: &'a [u16], i: usize) -> usize
     ensures { λ r. ⌜ r ≡ getD (now (at .entry)) (getD (now (lows .entry)) i 0) 0 + rise (getD (now (gaps .entry)) i 0) ⌝ }
     ensures { λ r. ⌜ r < 2 ^ 17 ⌝ }
 {
-    let low = lists::num(at, lists::num(lows, i));
-    if lists::byte(gaps, i) == 0 {
+    let low = arrays::num(at, arrays::num(lows, i));
+    if arrays::byte(gaps, i) == 0 {
         return low;
     }
     low + 1
@@ -63,10 +63,10 @@ fn pass<'a>(
     while i < count {
         let k = place(back, count, i);
         i += 1;
-        let high = lists::num(highs, k);
+        let high = arrays::num(highs, k);
         if high < n {
             let due = due_at(lows, gaps, &at, k);
-            if lists::num(&at, high) < due {
+            if arrays::num(&at, high) < due {
                 if n < due {
                     return Round {
                         over: true,
@@ -103,7 +103,7 @@ fn raise<'a>(
     if k >= count {
         return;
     }
-    let high = lists::num(highs, k);
+    let high = arrays::num(highs, k);
     if high >= n {
         return;
     }
@@ -111,8 +111,8 @@ fn raise<'a>(
     if due > n {
         return;
     }
-    if lists::num(at, high) < due {
-        lists::set_word(at, high, due as u16);
+    if arrays::num(at, high) < due {
+        arrays::set_word(at, high, due as u16);
     }
 }
 
@@ -171,7 +171,7 @@ pub fn all_met<'a>(
 {
     let mut i = first;
     while i < count {
-        if lists::num(at, lists::num(highs, i)) < due_at(lows, gaps, at, i) {
+        if arrays::num(at, arrays::num(highs, i)) < due_at(lows, gaps, at, i) {
             return false;
         }
         i += 1;

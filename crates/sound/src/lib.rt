@@ -31,11 +31,11 @@ fn is_doubted<'a>(
 ) -> bool
     ensures { λ r. ⌜ r ≡ doubted (now (table .entry)) (rows (now (starts .entry)) (now (sizes .entry)) (now (entries .entry)) n) u ⌝ }
 {
-    let a = lists::num(starts, u);
+    let a = arrays::num(starts, u);
     let e = a + rings::size_of(sizes, n, u);
     let mut i = a;
     while i < e {
-        if is_doubtful(table, u, rings::neighbour_of(lists::num(entries, i))) {
+        if is_doubtful(table, u, rings::neighbour_of(arrays::num(entries, i))) {
             return true;
         }
         i += 1;

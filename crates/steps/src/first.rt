@@ -37,7 +37,7 @@ fn bare_ring<'a>(
     let mut t = 0;
     while t < q {
         let l = bare_label(u, rings::neighbour_at(starts, sizes, entries, n, u, t));
-        lists::set_byte(labels, k + t, l);
+        arrays::set_byte(labels, k + t, l);
         t += 1;
     }
 }

@@ -29,7 +29,7 @@ fn put_on<'a>(
 {
     let i = places::index_by(places, starts, sizes, entries, n, u, v);
     if i < rings::size_of(sizes, n, u) {
-        lists::set_byte(labels, lists::num(starts, u) + i, l);
+        arrays::set_byte(labels, arrays::num(starts, u) + i, l);
     }
 }
 
@@ -82,7 +82,7 @@ pub(crate) fn to_north<'a>(
             entries,
             n,
             0,
-            lists::num(f, k),
+            arrays::num(f, k),
             0,
         );
         k += 1;
@@ -118,7 +118,7 @@ pub(crate) fn from_one<'a>(
             n,
             0,
             u,
-            lists::num(f, k),
+            arrays::num(f, k),
         );
         k += 1;
     }
@@ -152,7 +152,7 @@ pub(crate) fn from_all<'a>(
             sizes,
             entries,
             n,
-            lists::num(g, k),
+            arrays::num(g, k),
             f,
             a,
             e,
@@ -178,7 +178,7 @@ pub(crate) fn along<'a>(
     requires { ⌜ now places ≡ placesOf (rows (now starts) (now sizes) (now entries) n) ⌝ }
     ensures { λ r. ⌜ now (labels .exit) ≡ labelEdges (rows (now (starts .entry)) (now (sizes .entry)) (now (entries .entry)) n) right (steps (span (now (f .entry)) i e)) (now (labels .entry)) ⌝ }
 {
-    let last = lists::minus(e, 1);
+    let last = numbers::minus(e, 1);
     let mut k = i;
     while k < last {
         edge(
@@ -189,8 +189,8 @@ pub(crate) fn along<'a>(
             entries,
             n,
             1,
-            lists::num(f, k),
-            lists::num(f, k + 1),
+            arrays::num(f, k),
+            arrays::num(f, k + 1),
         );
         k += 1;
     }

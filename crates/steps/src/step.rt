@@ -122,7 +122,7 @@ fn finish_labels<'a>(
     requires { ⌜ now places ≡ placesOf (rows (now starts) (now sizes) (now entries) n) ⌝ }
     ensures { λ r. ⌜ now (labels .exit) ≡ run.finishLabels (rows (now (starts .entry)) (now (sizes .entry)) (now (entries .entry)) n) (now (f .entry)) m (now (labels .entry)) ⌝ }
 {
-    let last = lists::minus(m, 1);
+    let last = numbers::minus(m, 1);
     crate::mark::from_one(labels, places, starts, sizes, entries, n, 2, f, 1, last);
     crate::mark::along(labels, places, starts, sizes, entries, n, f, 0, m);
 }
@@ -143,7 +143,7 @@ fn first_labels<'a>(
     ensures { λ r. ⌜ r ≡ run.firstLabels (rows (now (starts .entry)) (now (sizes .entry)) (now (entries .entry)) n) (now (f .entry)) m ⌝ }
 {
     let mut labels = crate::first::bare_labels(starts, sizes, entries, n);
-    let last = lists::minus(m, 1);
+    let last = numbers::minus(m, 1);
     crate::mark::to_north(&mut labels, places, starts, sizes, entries, n, f, 1, last);
     labels
 }

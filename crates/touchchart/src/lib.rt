@@ -149,7 +149,7 @@ fn part_value(at: usize, size: usize) -> u64
 pub extern "C" fn touchchart_ring(file: &[u8], context: u16) -> u64
     ensures { λ r. ⌜ r ≡ code (ringsTo (now (file .entry)) context) ⌝ }
 {
-    let answer = files::ring_answer(file, lists::wide_word(context));
+    let answer = files::ring_answer(file, numbers::wide_word(context));
     match answer {
         RingAnswer::Refused(number, place) => answers::refusal(number, place),
         RingAnswer::Part(at, size) => part_value(at, size),

@@ -9,7 +9,7 @@
 //    5 chart
 //
 // Each item gives a line: the call and its answer, then a semicolon and the sheet afterwards: its stage, n, width x height, the
-// length of its file, and the checksum (of console) of a buffer of 8,192 bytes, filled with 170, after a write into it. So a
+// length of its file, and the checksum (of comparison) of a buffer of 8,192 bytes, filled with 170, after a write into it. So a
 // refused call that changes anything is seen. The run ends where the input does, at an item that is cut, of another kind or with
 // an argument over 131,072 bytes, or after 100,000 items; the last line says how many were run.
 //
@@ -42,7 +42,7 @@ fn numbers_of(argument: &[u8]) -> [u16; 4096]
     let mut numbers = [0u16; 4096];
     let mut i = 0;
     while i < 4096 {
-        numbers[i] = lists::word_at(argument, 1 + 2 * i) as u16;
+        numbers[i] = arrays::word_at(argument, 1 + 2 * i) as u16;
         i += 1;
     }
     numbers
@@ -51,8 +51,8 @@ fn numbers_of(argument: &[u8]) -> [u16; 4096]
 // Turn.
 fn run_turn(sheet: Sheet, argument: &[u8]) -> Outcome {
     let numbers = numbers_of(argument);
-    let count = lists::lesser(lists::minus(argument.len(), 1) / 2, 4096);
-    let direction = lists::byte(argument, 0) as u8;
+    let count = numbers::lesser(numbers::minus(argument.len(), 1) / 2, 4096);
+    let direction = arrays::byte(argument, 0) as u8;
     calls::turn(sheet, &numbers[..count], direction)
 }
 
@@ -71,7 +71,7 @@ fn run_call(sheet: Sheet, kind: usize, argument: &[u8]) -> Outcome {
 // Writes the name of a call and its answer.
 fn show_call(kind: usize, answer: Answer) {
     let names = b"fresh open  offer sweep turn  chart ";
-    io::write_all(1, framing::ring_part(names, kind % 6 * 6, 6));
+    io::write_all(1, arrays::part(names, kind % 6 * 6, 6));
     match answer {
         Answer::Accepted => {
             io::write_all(1, b"accepted; ");
@@ -79,7 +79,7 @@ fn show_call(kind: usize, answer: Answer) {
         Answer::Refused(number, place) => {
             console::show(
                 b"refused # at #; ",
-                lists::wide_byte(number),
+                numbers::wide_byte(number),
                 place,
                 0,
                 0,
@@ -102,19 +102,16 @@ fn write_into(sheet: Sheet, out: &mut [u8]) -> usize {
 fn show_sheet(sheet: Sheet) {
     let stage = sheet.stage;
     let names = b"EMPTY    OPEN     LABELLED CHARTED  ";
-    io::write_all(
-        1,
-        framing::ring_part(names, sheet::rank_of(stage) % 4 * 9, 9),
-    );
+    io::write_all(1, arrays::part(names, sheet::rank_of(stage) % 4 * 9, 9));
     let mut space = sheet_buffer();
     let size = write_into(sheet, &mut space);
     console::show(
         b"n #, #x#, length #, checksum #\n",
-        lists::wide_word(sheet.n),
-        lists::wide_word(sheet.w),
-        lists::wide_word(sheet.h),
+        numbers::wide_word(sheet.n),
+        numbers::wide_word(sheet.w),
+        numbers::wide_word(sheet.h),
         size,
-        console::checksum(&space),
+        comparison::checksum(&space),
     );
 }
 
@@ -129,7 +126,7 @@ fn run_items() -> usize {
         if 5 < kind {
             return done;
         }
-        let outcome = run_call(sheet, kind, framing::ring_part(&space, 0, item / 256));
+        let outcome = run_call(sheet, kind, arrays::part(&space, 0, item / 256));
         let answer = outcome.answer;
         show_call(kind, answer);
         let after = outcome.sheet;

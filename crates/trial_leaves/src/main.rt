@@ -13,8 +13,8 @@ fn entries_of<'a>(file: &'a [u8], starts: &'a [u16], sizes: &'a [u8], n: usize) 
     let mut i = 0;
     while i < 256 * n {
         let v = lent::neighbour_in(file, starts, sizes, n, i / 256, i % 256);
-        let at = lists::num(starts, i / 256) + i % 256;
-        lists::set_word(&mut entries, at, (v % 65536) as u16);
+        let at = arrays::num(starts, i / 256) + i % 256;
+        arrays::set_word(&mut entries, at, (v % 65536) as u16);
         i += 1;
     }
     entries
@@ -30,10 +30,10 @@ fn print_lent_rules<'a>(file: &'a [u8], starts: &'a [u16], sizes: &'a [u8], n: u
         four,
         five,
         six,
-        lists::num(starts, n),
+        arrays::num(starts, n),
         0,
     );
-    n <= lists::lesser(four, lists::lesser(five, six))
+    n <= numbers::lesser(four, numbers::lesser(five, six))
 }
 
 // The places that rules 8 and 9 give; whether both are kept.
@@ -99,7 +99,7 @@ fn print_part<'a>(
     let written = write_part(&mut space, size, sizes, entries, n);
     match written {
         writing::Written::Length(k) => {
-            console::show(text, k, console::agreeing(file, &space, k), 0, 0, 0);
+            console::show(text, k, comparison::agreeing(file, &space, k), 0, 0, 0);
             k
         }
         writing::Written::Short(k) => {
@@ -113,7 +113,7 @@ fn print_part<'a>(
 fn print_written<'a>(file: &'a [u8], sizes: &'a [u8], entries: &'a [u16], n: usize) {
     let size = print_part(b" bytes # same #", 4096, file, sizes, entries, n);
     print_part(b" length #", size, file, sizes, entries, n);
-    let less = lists::minus(size, 1);
+    let less = numbers::minus(size, 1);
     print_part(b" length #", less, file, sizes, entries, n);
 }
 
@@ -121,15 +121,15 @@ fn print_written<'a>(file: &'a [u8], sizes: &'a [u8], entries: &'a [u16], n: usi
 fn print_points<'a>(xs: &'a [u16], ys: &'a [u16], n: usize) {
     let mut u = 0;
     while u < n {
-        console::show(b" #,#", lists::num(xs, u), lists::num(ys, u), 0, 0, 0);
+        console::show(b" #,#", arrays::num(xs, u), arrays::num(ys, u), 0, 0, 0);
         u += 1;
     }
 }
 
 // A chart: its size and the point of each of n contexts.
 fn print_drawn(drawn: placement::Drawn, n: usize) {
-    let w = lists::wide_word(drawn.w);
-    let h = lists::wide_word(drawn.h);
+    let w = numbers::wide_word(drawn.w);
+    let h = numbers::wide_word(drawn.h);
     console::show(b" chart #x#", w, h, 0, 0, 0);
     let xs = drawn.xs;
     let ys = drawn.ys;
@@ -143,7 +143,7 @@ fn points_in(chart: &[u8], from: usize) -> [u16; 200]
     let mut points = [0u16; 200];
     let mut u = 0;
     while u < 200 {
-        points[u] = lists::word_at(chart, from + 4 * u) as u16;
+        points[u] = arrays::word_at(chart, from + 4 * u) as u16;
         u += 1;
     }
     points
@@ -151,8 +151,8 @@ fn points_in(chart: &[u8], from: usize) -> [u16; 200]
 
 // What the body of a chart record is refused by where a chart is drawn: 0 if it is the same, else 12.
 fn refusal_of(chart: &[u8], n: usize, drawn: placement::Drawn) -> usize {
-    let w = lists::word_at(chart, 0) as u16;
-    let h = lists::word_at(chart, 2) as u16;
+    let w = arrays::word_at(chart, 0) as u16;
+    let h = arrays::word_at(chart, 2) as u16;
     let xs = points_in(chart, 4);
     let ys = points_in(chart, 6);
     let dx = drawn.xs;
@@ -181,7 +181,7 @@ fn print_chart<'a>(
     }
     print_drawn(drawn, n);
     if chart != 0 {
-        let record = framing::ring_part(file, chart, 4 + 4 * n);
+        let record = arrays::part(file, chart, 4 + 4 * n);
         console::show(b" record #", refusal_of(record, n, drawn), 0, 0, 0, 0);
     }
 }
@@ -200,7 +200,7 @@ fn print_labels<'a>(
     if at == 0 {
         return;
     }
-    let labels = framing::ring_part(file, at, lists::minus(6 * n, 14));
+    let labels = arrays::part(file, at, numbers::minus(6 * n, 14));
     let ten = conditions::rules_place(sizes, entries, n, labels);
     console::show(b" 10:#", ten, 0, 0, 0, 0);
     if n <= ten {
@@ -244,7 +244,14 @@ fn print_file(file: &[u8]) {
     let found = layout.found;
     match found {
         framing::Found::Refused(number, place) => {
-            console::show(b"refused # at #", lists::wide_byte(number), place, 0, 0, 0);
+            console::show(
+                b"refused # at #",
+                numbers::wide_byte(number),
+                place,
+                0,
+                0,
+                0,
+            );
         }
         _ => {
             console::show(
@@ -265,8 +272,8 @@ fn print_file(file: &[u8]) {
 fn print_files(input: &[u8]) {
     let mut at = 0;
     while at < input.len() {
-        let size = lists::word_at(input, at);
-        print_file(framing::ring_part(input, at + 2, size));
+        let size = arrays::word_at(input, at);
+        print_file(arrays::part(input, at + 2, size));
         io::write_all(1, b"\n");
         at += 2 + size;
     }
@@ -276,5 +283,5 @@ fn print_files(input: &[u8]) {
 fn main() {
     let mut space = io::large_buffer();
     let got = io::read_full(0, &mut space);
-    print_files(framing::ring_part(&space, 0, got));
+    print_files(arrays::part(&space, 0, got));
 }

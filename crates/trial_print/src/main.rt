@@ -31,7 +31,7 @@ fn marks(space: &[u8]) -> usize {
     let mut count = 0;
     let mut i = 0;
     while i < space.len() {
-        count += mark(lists::byte(space, i));
+        count += mark(arrays::byte(space, i));
         i += 1;
     }
     count
@@ -75,8 +75,8 @@ fn main() {
     let got = io::read_full(0, &mut space);
     let mut at = 0;
     while at < got {
-        let size = lists::word_at(&space, at);
-        print_input(framing::ring_part(&space, at + 2, size));
+        let size = arrays::word_at(&space, at);
+        print_input(arrays::part(&space, at + 2, size));
         at += 2 + size;
     }
 }

@@ -10,7 +10,7 @@
 //
 // Write, scan and same are asked of the sheet that a fresh one becomes when the file is opened; it stays fresh where the file is
 // refused. Each item gives a line: the call and its answer, and where bytes were written or handed back, a semicolon, their
-// number and their checksum (of console). The run ends where the input does, at an item that is cut, of another kind or with an
+// number and their checksum (of comparison). The run ends where the input does, at an item that is cut, of another kind or with an
 // argument over 131,072 bytes, or after 100,000 items; the last line says how many were run.
 //
 // stdin and stdout beside this crate are made by the reference in rust/, by its examples calls_items and run_calls.
@@ -38,7 +38,14 @@ fn wide_buffer() -> [u8; 65536]
 
 // Writes a refusal: its number and its place.
 fn show_refusal(number: u8, place: usize) {
-    console::show(b"refused # at #", lists::wide_byte(number), place, 0, 0, 0);
+    console::show(
+        b"refused # at #",
+        numbers::wide_byte(number),
+        place,
+        0,
+        0,
+        0,
+    );
 }
 
 // Writes how many bytes there are, and their checksum.
@@ -46,7 +53,7 @@ fn show_bytes(bytes: &[u8]) {
     console::show(
         b"; # bytes, checksum #",
         bytes.len(),
-        console::checksum(bytes),
+        comparison::checksum(bytes),
         0,
         0,
         0,
@@ -127,7 +134,7 @@ fn run_write(kind: usize, file: &[u8], size: usize) {
 
 // Bytes from an index on.
 fn behind(bytes: &[u8], at: usize) -> &[u8] {
-    framing::ring_part(bytes, at, lists::minus(bytes.len(), at))
+    arrays::part(bytes, at, numbers::minus(bytes.len(), at))
 }
 
 // The call of an item.
@@ -136,7 +143,7 @@ fn run_call(kind: usize, number: usize, file: &[u8]) {
         2 => run_ring(file, number),
         3 => run_scan(opened(file)),
         4 => run_same(
-            opened(framing::ring_part(file, 0, number)),
+            opened(arrays::part(file, 0, number)),
             opened(behind(file, number)),
         ),
         _ => run_write(kind, file, number),
@@ -146,8 +153,8 @@ fn run_call(kind: usize, number: usize, file: &[u8]) {
 // The line of an item.
 fn run_item(kind: usize, argument: &[u8]) {
     let names = b"write      open_write ring       scan       same       ";
-    io::write_all(1, framing::ring_part(names, kind % 5 * 11, 11));
-    run_call(kind, lists::word_at(argument, 0), behind(argument, 2));
+    io::write_all(1, arrays::part(names, kind % 5 * 11, 11));
+    run_call(kind, arrays::word_at(argument, 0), behind(argument, 2));
     io::write_all(1, b"\n");
 }
 
@@ -160,7 +167,7 @@ fn run_items() -> usize {
         if 4 < item % 256 {
             return done;
         }
-        run_item(item % 256, framing::ring_part(&space, 0, item / 256));
+        run_item(item % 256, arrays::part(&space, 0, item / 256));
         done += 1;
     }
     done

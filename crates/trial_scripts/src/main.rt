@@ -1,21 +1,10 @@
-// Runs scripts: lists of calls as the crate script has them, each from a fresh sheet on. Standard input holds scripts, one after
-// another, each behind its length in two bytes, little-endian. Each gives a line: its length and where it ends, and the sheet
-// that it leaves: the number of its stage, n, and the checksum (of console) of a buffer of 65,536 zeros after a write into it. The
-// run ends where the input does, at a script that is cut, or after 100,000 scripts; the last line says how many were run.
+// Runs scripts: lists of calls as the crate script has them, each from a fresh sheet on. Standard input holds items, one after
+// another, each of them: its kind (1 byte), which is 0, the length of a script (3 bytes, little-endian), the script. Each gives a
+// line: its length and where it ends, and the sheet that it leaves: the number of its stage, n, and the checksum (of comparison)
+// of a buffer of 65,536 zeros after a write into it. The run ends where the input does, at an item that is cut, of another kind or
+// with a script over 65,536 bytes, or after 100,000 items; the last line says how many were run.
 //
 // stdin and stdout beside this crate are made by the reference in rust/, by its examples calls_items and run_calls.
-
-// Reads a script to the start of the space: its length, 65536 where there is none.
-fn read_script(space: &mut [u8]) -> usize {
-    if !console::read_bytes(space, 2) {
-        return 65536;
-    }
-    let size = lists::word_at(space, 0);
-    if !console::read_bytes(space, size) {
-        return 65536;
-    }
-    size
-}
 
 // A script: where it ends, and the sheet that it leaves.
 fn run_script(script: &[u8]) {
@@ -29,27 +18,27 @@ fn run_script(script: &[u8]) {
         script.len(),
         ran.at,
         sheet::rank_of(stage),
-        lists::wide_word(sheet.n),
-        console::checksum(&space),
+        numbers::wide_word(sheet.n),
+        comparison::checksum(&space),
     );
 }
 
-// Runs the scripts of standard input, one after another; how many there were.
-fn run_scripts() -> usize {
+// Runs the items of standard input, one after another; how many there were.
+fn run_items() -> usize {
     let mut space = io::large_buffer();
     let mut done = 0usize;
     while done < 100000 {
-        let size = read_script(&mut space);
-        if size == 65536 {
+        let item = console::read_item(&mut space);
+        if 0 < item % 256 {
             return done;
         }
-        run_script(framing::ring_part(&space, 0, size));
+        run_script(arrays::part(&space, 0, item / 256));
         done += 1;
     }
     done
 }
 
-// Runs the scripts, and says how many there were.
+// Runs the items, and says how many there were.
 fn main() {
-    console::show(b"# scripts\n", run_scripts(), 0, 0, 0, 0);
+    console::show(b"# items\n", run_items(), 0, 0, 0, 0);
 }

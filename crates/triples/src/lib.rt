@@ -84,7 +84,7 @@ fn is_apart(table: &[u8], a: usize, c: usize) -> bool
 fn is_face_by(table: &[u8], a: usize, b: usize, c: usize) -> bool
     ensures { λ r. ⌜ r ≡ faceBy (now (table .entry)) a b c ⌝ }
 {
-    if lists::minus(followers::told(table, b, a), 1) != c {
+    if numbers::minus(followers::told(table, b, a), 1) != c {
         return false;
     }
     if faces::is_outer(a, b) {
@@ -150,12 +150,12 @@ fn third_for<'a>(
     requires { ⌜ b < n ⌝ }
     ensures { λ r. ⌜ r ≡ thirdFor (rows (now (starts .entry)) (now (sizes .entry)) (now (entries .entry)) n) n a b ⌝ }
 {
-    let start = lists::num(starts, b);
+    let start = arrays::num(starts, b);
     let k = rings::size_of(sizes, n, b);
     let mut best = n;
     let mut i = 0;
     while i < k {
-        let c = rings::neighbour_of(lists::num(entries, start + i));
+        let c = rings::neighbour_of(arrays::num(entries, start + i));
         best = nearer_third(table, starts, sizes, entries, n, a, b, c, best);
         i += 1;
     }
@@ -202,12 +202,12 @@ fn second_for<'a>(
     requires { ⌜ a < n ⌝ }
     ensures { λ r. ⌜ r ≡ secondFor (rows (now (starts .entry)) (now (sizes .entry)) (now (entries .entry)) n) n a ⌝ }
 {
-    let start = lists::num(starts, a);
+    let start = arrays::num(starts, a);
     let k = rings::size_of(sizes, n, a);
     let mut best = n;
     let mut i = 0;
     while i < k {
-        let b = rings::neighbour_of(lists::num(entries, start + i));
+        let b = rings::neighbour_of(arrays::num(entries, start + i));
         best = nearer_second(table, starts, sizes, entries, n, a, b, best);
         i += 1;
     }

@@ -57,7 +57,7 @@ fn place_of<'a>(
 {
     let i = places::index_by(places, starts, sizes, entries, n, u, v);
     if i < rings::size_of(sizes, n, u) {
-        return lists::num(starts, u) + i;
+        return arrays::num(starts, u) + i;
     }
     1186
 }
@@ -108,8 +108,8 @@ fn turn_pairs<'a>(
     let mut turned = labels;
     let mut k = 0;
     while k < m {
-        let u = lists::num(items, 2 * k);
-        let v = lists::num(items, 2 * k + 1);
+        let u = arrays::num(items, 2 * k);
+        let v = arrays::num(items, 2 * k + 1);
         let i = place_of(places, starts, sizes, entries, n, u, v);
         if is_bad(&labels, &turned, i, u, v) {
             return Passed {

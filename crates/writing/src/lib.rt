@@ -41,7 +41,7 @@ fn darts_of(sizes: &[u8], n: usize) -> usize
     let mut sum = 0;
     let mut u = 0;
     while u < e {
-        sum += lists::byte(sizes, u);
+        sum += arrays::byte(sizes, u);
         u += 1;
     }
     sum
@@ -109,7 +109,7 @@ fn put_words(out: &mut [u8], at: usize, a: &[u16], i: usize, k: usize)
 {
     let mut j = 0;
     while j < k {
-        put_word(out, at + 2 * j, lists::num(a, i + j));
+        put_word(out, at + 2 * j, arrays::num(a, i + j));
         j += 1;
     }
 }
@@ -121,7 +121,7 @@ fn put_bytes(out: &mut [u8], at: usize, a: &[u8], k: usize)
 {
     let mut i = 0;
     while i < k {
-        put_byte(out, at + i, lists::byte(a, i));
+        put_byte(out, at + i, arrays::byte(a, i));
         i += 1;
     }
 }
@@ -133,8 +133,8 @@ fn put_points<'a>(out: &mut [u8], at: usize, xs: &'a [u16], ys: &'a [u16], k: us
 {
     let mut j = 0;
     while j < k {
-        put_word(out, at + 4 * j, lists::num(xs, j));
-        put_word(out, at + 4 * j + 2, lists::num(ys, j));
+        put_word(out, at + 4 * j, arrays::num(xs, j));
+        put_word(out, at + 4 * j + 2, arrays::num(ys, j));
         j += 1;
     }
 }
@@ -165,7 +165,7 @@ fn put_rings<'a>(out: &mut [u8], at: usize, sizes: &'a [u8], entries: &'a [u16],
     let mut i = 0;
     let mut u = 0;
     while u < n {
-        let k = lists::byte(sizes, u);
+        let k = arrays::byte(sizes, u);
         put_ring(out, at + 4 * u + 2 * i, entries, i, k);
         i += k;
         u += 1;

@@ -12,7 +12,7 @@ use Rattle.areas.proofs.area_of.Tie as tie
 use Rattle.areas.proofs.area_of.Reads as reads
 use Rattle.areas.proofs.area_of.Lts as lts
 use Rattle.areas.proofs.corner.Reads as corner-reads
-use Rattle.lists.proofs.word.Reads as word-reads
+use Rattle.arrays.proofs.word.Reads as word-reads
 
 word-requires : tie.Need-word-requires
 word-requires c κs = search needs

@@ -10,7 +10,7 @@ use Rattle.calls.proofs.breach_of.Tie as tie
 use Rattle.calls.proofs.breach_of.Reads as reads
 use Rattle.calls.proofs.breach_of.Lts as lts
 use Rattle.conditions.proofs.rules_place.Reads as rules-place-reads
-use Rattle.lists.proofs.wide_word.Reads as wide-word-reads
+use Rattle.numbers.proofs.wide_word.Reads as wide-word-reads
 
 slice-aggregate-rules-place : tie.Need-slice-aggregate-rules-place
 slice-aggregate-rules-place c = search needs

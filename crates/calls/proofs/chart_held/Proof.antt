@@ -12,7 +12,7 @@ use Rattle.calls.proofs.chart_held.Statement.{statement}
 use Rattle.calls.proofs.chart_held.Tie as tie
 use Rattle.calls.proofs.chart_held.Reads as reads
 use Rattle.calls.proofs.chart_held.Lts as lts
-use Rattle.lists.proofs.wide_word.Reads as wide-word-reads
+use Rattle.numbers.proofs.wide_word.Reads as wide-word-reads
 use Rattle.calls.proofs.chart_with.Reads as chart-with-reads
 use Rattle.fit.proofs.total_of.Reads as total-of-reads
 

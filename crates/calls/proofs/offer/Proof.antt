@@ -16,7 +16,7 @@ use Rattle.calls.proofs.offer.Statement.{statement}
 use Rattle.calls.proofs.offer.Tie as tie
 use Rattle.calls.proofs.offer.Reads as reads
 use Rattle.calls.proofs.offer.Lts as lts
-use Rattle.lists.proofs.wide_word.Reads as wide-word-reads
+use Rattle.numbers.proofs.wide_word.Reads as wide-word-reads
 use Rattle.sheet.proofs.accept.Reads as accept-reads
 use Rattle.calls.proofs.breach_of.Reads as breach-of-reads
 use Rattle.calls.proofs.darts_due.Reads as darts-due-reads

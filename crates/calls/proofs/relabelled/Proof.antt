@@ -12,7 +12,7 @@ use Rattle.calls.proofs.relabelled.Statement.{statement}
 use Rattle.calls.proofs.relabelled.Tie as tie
 use Rattle.calls.proofs.relabelled.Reads as reads
 use Rattle.calls.proofs.relabelled.Lts as lts
-use Rattle.lists.proofs.wide_word.Reads as wide-word-reads
+use Rattle.numbers.proofs.wide_word.Reads as wide-word-reads
 use Rattle.calls.proofs.first_entries.Reads as first-entries-reads
 use Rattle.calls.proofs.first_labels.Reads as first-labels-reads
 use Rattle.calls.proofs.first_sizes.Reads as first-sizes-reads

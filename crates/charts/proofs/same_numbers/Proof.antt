@@ -7,7 +7,7 @@ use Rattle.charts.proofs.same_numbers.Statement.{statement}
 use Rattle.charts.proofs.same_numbers.Tie as tie
 use Rattle.charts.proofs.same_numbers.Reads as reads
 use Rattle.charts.proofs.same_numbers.Lts as lts
-use Rattle.lists.proofs.num.Reads as num-reads
+use Rattle.arrays.proofs.num.Reads as num-reads
 
 abbrev Inv-loop : tie.InvT-loop
 Inv-loop n a b i₀ i = Matches a b n i

@@ -8,8 +8,8 @@ use Rattle.checklist.proofs.check_files.Tie as tie
 use Rattle.checklist.proofs.check_files.Reads as reads
 use Rattle.checklist.proofs.check_files.Lts as lts
 use Rattle.checklist.proofs.check_file.Reads as check-file-reads
-use Rattle.framing.proofs.ring_part.Reads as ring-part-reads
-use Rattle.lists.proofs.word_at.Reads as word-at-reads
+use Rattle.arrays.proofs.part.Reads as part-reads
+use Rattle.arrays.proofs.word_at.Reads as word-at-reads
 use Rattle.std.proofs.num.wrapping_add_usize.Reads as wrapping-add-usize-reads
 
 abbrev Inv-loop : tie.InvT-loop
@@ -31,12 +31,12 @@ wrapping-add-usize-requires : tie.Need-wrapping-add-usize-requires Inv-loop μ-l
 wrapping-add-usize-requires c κs = search needs
 
 -- src/main.rt:446:72
-add-ring-part : tie.Need-add-ring-part Inv-loop μ-loop
-add-ring-part c = search needs
+add-part : tie.Need-add-part Inv-loop μ-loop
+add-part c = search needs
 
 -- src/main.rt:446:46
-ring-part-requires : tie.Need-ring-part-requires Inv-loop μ-loop
-ring-part-requires c κs = search needs
+part-requires : tie.Need-part-requires Inv-loop μ-loop
+part-requires c κs = search needs
 
 -- src/main.rt:446:13
 check-file-requires : tie.Need-check-file-requires Inv-loop μ-loop
@@ -71,8 +71,8 @@ check-files-spec =
     loop-holds
     word-at-requires
     wrapping-add-usize-requires
-    add-ring-part
-    ring-part-requires
+    add-part
+    part-requires
     check-file-requires
     add-at
     add-at-2

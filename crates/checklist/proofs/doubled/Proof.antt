@@ -5,7 +5,7 @@ use Rattle.checklist.proofs.doubled.Statement.{statement}
 use Rattle.checklist.proofs.doubled.Tie as tie
 use Rattle.checklist.proofs.doubled.Reads as reads
 use Rattle.checklist.proofs.doubled.Lts as lts
-use Rattle.lists.proofs.wide_word.Reads as wide-word-reads
+use Rattle.numbers.proofs.wide_word.Reads as wide-word-reads
 
 -- src/main.rt:247:9
 wide-word-requires : tie.Need-wide-word-requires

@@ -9,7 +9,7 @@ use Rattle.console.proofs.read_item.Tie as tie
 use Rattle.console.proofs.read_item.Reads as reads
 use Rattle.console.proofs.read_item.Lts as lts
 use Rattle.console.proofs.read_bytes.Reads as read-bytes-reads
-use Rattle.lists.proofs.word_at.Reads as word-at-reads
+use Rattle.arrays.proofs.word_at.Reads as word-at-reads
 
 -- src/lib.rt:22:9
 read-bytes-requires : tie.Need-read-bytes-requires

@@ -9,7 +9,7 @@ use Rattle.files.proofs.ring.Statement.{statement}
 use Rattle.files.proofs.ring.Tie as tie
 use Rattle.files.proofs.ring.Reads as reads
 use Rattle.files.proofs.ring.Lts as lts
-use Rattle.framing.proofs.ring_part.Reads as ring-part-reads
+use Rattle.arrays.proofs.part.Reads as part-reads
 use Rattle.files.proofs.ring_answer.Reads as ring-answer-reads
 
 ring-answer-requires : tie.Need-ring-answer-requires
@@ -30,8 +30,8 @@ part-result-end c = search needs
 enum-known-answer : tie.Need-enum-known-answer
 enum-known-answer c = search needs
 
-ring-part-requires : tie.Need-ring-part-requires
-ring-part-requires c κs = search needs
+part-requires : tie.Need-part-requires
+part-requires c κs = search needs
 
 returns : tie.Need-returns
 unfolding ringPart ringAnswerAs
@@ -42,7 +42,7 @@ unfolding ringPart ringAnswerAs
 returns-2 c =
     let a = c .before .before .before .before .before .before .args in
     let f = a .file .now in
-    c .ring-part .ensures ∙ part-named f (a .context) _ _ (bytes-at f (λ i. omega (arith, c .before .before .before .before .before .shared-slice-known .given i))) (sym (ap ringAnswerAs (c .before .before .answer .given .1)) ∙ c .before .before .before .before .ring-answer .ensures)
+    c .part .ensures ∙ part-named f (a .context) _ _ (bytes-at f (λ i. omega (arith, c .before .before .before .before .before .shared-slice-known .given i))) (sym (ap ringAnswerAs (c .before .before .answer .given .1)) ∙ c .before .before .before .before .ring-answer .ensures)
 
 pub ring-spec : {M : Type 1} → statement M
 ring-spec =
@@ -54,6 +54,6 @@ ring-spec =
     part-result-start
     part-result-end
     enum-known-answer
-    ring-part-requires
+    part-requires
     returns
     returns-2)

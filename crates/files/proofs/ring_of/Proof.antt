@@ -11,8 +11,8 @@ use Rattle.files.proofs.ring_of.Statement.{statement}
 use Rattle.files.proofs.ring_of.Tie as tie
 use Rattle.files.proofs.ring_of.Reads as reads
 use Rattle.files.proofs.ring_of.Lts as lts
-use Rattle.lists.proofs.byte.Reads as byte-reads
-use Rattle.lists.proofs.num.Reads as num-reads
+use Rattle.arrays.proofs.byte.Reads as byte-reads
+use Rattle.arrays.proofs.num.Reads as num-reads
 use Rattle.rings.proofs.starts_of.Reads as starts-of-reads
 
 cast-n : tie.Need-cast-n

@@ -13,8 +13,8 @@ use Rattle.followers.proofs.fill.Tie as tie
 use Rattle.followers.proofs.fill.Reads as reads
 use Rattle.followers.proofs.fill.Lts as lts
 use Rattle.followers.proofs.note_ring.Reads as note-ring-reads
-use Rattle.lists.proofs.lesser.Reads as lesser-reads
-use Rattle.lists.proofs.num.Reads as num-reads
+use Rattle.numbers.proofs.lesser.Reads as lesser-reads
+use Rattle.arrays.proofs.num.Reads as num-reads
 use Rattle.rings.proofs.size_of.Reads as size-of-reads
 
 abbrev Inv-loop : tie.InvT-loop

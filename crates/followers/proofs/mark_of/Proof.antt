@@ -6,7 +6,7 @@ use Rattle.followers.proofs.mark_of.Statement.{statement}
 use Rattle.followers.proofs.mark_of.Tie as tie
 use Rattle.followers.proofs.mark_of.Reads as reads
 use Rattle.followers.proofs.mark_of.Lts as lts
-use Rattle.lists.proofs.lesser.Reads as lesser-reads
+use Rattle.numbers.proofs.lesser.Reads as lesser-reads
 
 lesser-requires : tie.Need-lesser-requires
 lesser-requires c κs = search needs

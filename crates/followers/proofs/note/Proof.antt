@@ -6,8 +6,8 @@ use Rattle.followers.proofs.note.Statement.{statement}
 use Rattle.followers.proofs.note.Tie as tie
 use Rattle.followers.proofs.note.Reads as reads
 use Rattle.followers.proofs.note.Lts as lts
-use Rattle.lists.proofs.byte.Reads as byte-reads
-use Rattle.lists.proofs.set_byte.Reads as set-byte-reads
+use Rattle.arrays.proofs.byte.Reads as byte-reads
+use Rattle.arrays.proofs.set_byte.Reads as set-byte-reads
 
 returns : tie.Need-returns
 returns c = let a = c .before .before .args in note-high (a .u) (a .v) (a .x) (a .table .now) (a .clear) (c .if1 .taken)

@@ -12,7 +12,7 @@ use Rattle.followers.proofs.note_ring.Reads as reads
 use Rattle.followers.proofs.note_ring.Lts as lts
 use Rattle.followers.proofs.mark_of.Reads as mark-of-reads
 use Rattle.followers.proofs.note.Reads as note-reads
-use Rattle.lists.proofs.num.Reads as num-reads
+use Rattle.arrays.proofs.num.Reads as num-reads
 use Rattle.rings.proofs.neighbour_of.Reads as neighbour-of-reads
 
 abbrev Inv-loop : tie.InvT-loop

@@ -7,7 +7,7 @@ use Rattle.followers.proofs.told.Statement.{statement}
 use Rattle.followers.proofs.told.Tie as tie
 use Rattle.followers.proofs.told.Reads as reads
 use Rattle.followers.proofs.told.Lts as lts
-use Rattle.lists.proofs.byte.Reads as byte-reads
+use Rattle.arrays.proofs.byte.Reads as byte-reads
 
 returns : tie.Need-returns
 returns c = let a = c .before .before .args in (told-high (a .table .now) (a .u) (a .v) (c .if1 .taken), omega arith)

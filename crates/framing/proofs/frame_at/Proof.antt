@@ -10,7 +10,7 @@ use Rattle.framing.proofs.frame_at.Statement.{statement}
 use Rattle.framing.proofs.frame_at.Tie as tie
 use Rattle.framing.proofs.frame_at.Reads as reads
 use Rattle.framing.proofs.frame_at.Lts as lts
-use Rattle.lists.proofs.word_at.Reads as word-at-reads
+use Rattle.arrays.proofs.word_at.Reads as word-at-reads
 
 -- src/lib.rt:62:9
 returns : tie.Need-returns

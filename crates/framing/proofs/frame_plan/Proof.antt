@@ -13,7 +13,7 @@ use Rattle.framing.proofs.frame_plan.Lts as lts
 use Rattle.framing.proofs.frame_labels.Reads as frame-labels-reads
 use Rattle.framing.proofs.refused.Reads as refused-reads
 use Rattle.framing.proofs.walk_rings.Reads as walk-rings-reads
-use Rattle.lists.proofs.word_at.Reads as word-at-reads
+use Rattle.arrays.proofs.word_at.Reads as word-at-reads
 
 -- src/lib.rt:255:9
 word-at-requires : tie.Need-word-at-requires

@@ -9,8 +9,8 @@ use Rattle.lent.proofs.entry_in.Statement.{statement}
 use Rattle.lent.proofs.entry_in.Tie as tie
 use Rattle.lent.proofs.entry_in.Reads as reads
 use Rattle.lent.proofs.entry_in.Lts as lts
-use Rattle.lists.proofs.num.Reads as num-reads
-use Rattle.lists.proofs.word_at.Reads as word-at-reads
+use Rattle.arrays.proofs.num.Reads as num-reads
+use Rattle.arrays.proofs.word_at.Reads as word-at-reads
 
 returns : tie.Need-returns
 returns c = let a = c .before .before .before .args in word-past (a .file .now) (a .starts .now) (a .u) (a .i) (c .if1 .taken)

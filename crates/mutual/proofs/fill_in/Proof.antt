@@ -12,7 +12,7 @@ use Rattle.mutual.proofs.fill_in.Statement.{statement}
 use Rattle.mutual.proofs.fill_in.Tie as tie
 use Rattle.mutual.proofs.fill_in.Reads as reads
 use Rattle.mutual.proofs.fill_in.Lts as lts
-use Rattle.lists.proofs.lesser.Reads as lesser-reads
+use Rattle.numbers.proofs.lesser.Reads as lesser-reads
 use Rattle.rings.proofs.size_of.Reads as size-of-reads
 use Rattle.lent.proofs.neighbour_in.Reads as neighbour-in-reads
 use Rattle.places.proofs.note.Reads as note-reads

@@ -8,7 +8,7 @@ use Rattle.mutual.proofs.is_listed_by.Tie as tie
 use Rattle.mutual.proofs.is_listed_by.Reads as reads
 use Rattle.mutual.proofs.is_listed_by.Lts as lts
 use Rattle.mutual.proofs.is_listed.Reads as is-listed-reads
-use Rattle.lists.proofs.byte.Reads as byte-reads
+use Rattle.arrays.proofs.byte.Reads as byte-reads
 
 is-listed-requires : tie.Need-is-listed-requires
 is-listed-requires c κs = search needs

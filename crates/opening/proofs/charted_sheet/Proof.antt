@@ -7,7 +7,7 @@ use Rattle.opening.proofs.charted_sheet.Statement.{statement}
 use Rattle.opening.proofs.charted_sheet.Tie as tie
 use Rattle.opening.proofs.charted_sheet.Reads as reads
 use Rattle.opening.proofs.charted_sheet.Lts as lts
-use Rattle.lists.proofs.word_at.Reads as word-at-reads
+use Rattle.arrays.proofs.word_at.Reads as word-at-reads
 use Rattle.opening.proofs.copy_chart.Reads as copy-chart-reads
 use Rattle.opening.proofs.copy_entries.Reads as copy-entries-reads
 use Rattle.opening.proofs.copy_labels.Reads as copy-labels-reads

@@ -10,7 +10,7 @@ use Rattle.opening.proofs.copy_chart.Statement.{statement}
 use Rattle.opening.proofs.copy_chart.Tie as tie
 use Rattle.opening.proofs.copy_chart.Reads as reads
 use Rattle.opening.proofs.copy_chart.Lts as lts
-use Rattle.lists.proofs.word_at.Reads as word-at-reads
+use Rattle.arrays.proofs.word_at.Reads as word-at-reads
 
 abbrev Inv-loop : tie.InvT-loop
 Inv-loop file at n points₀ u₀ points u = (u ≤ n) × Fills 200 (λ (t : ℕ). wordAt file (at + 4 * t)) u points

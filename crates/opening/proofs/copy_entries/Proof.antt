@@ -8,8 +8,8 @@ use Rattle.opening.proofs.copy_entries.Statement.{statement}
 use Rattle.opening.proofs.copy_entries.Tie as tie
 use Rattle.opening.proofs.copy_entries.Reads as reads
 use Rattle.opening.proofs.copy_entries.Lts as lts
-use Rattle.lists.proofs.byte.Reads as byte-reads
-use Rattle.lists.proofs.word_at.Reads as word-at-reads
+use Rattle.arrays.proofs.byte.Reads as byte-reads
+use Rattle.arrays.proofs.word_at.Reads as word-at-reads
 
 abbrev Inv-loop : tie.InvT-loop
 Inv-loop file sizes n entries₀ u₀ i₀ at₀ entries u i at = Copies file sizes n u i at entries

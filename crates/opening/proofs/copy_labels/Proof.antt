@@ -10,7 +10,7 @@ use Rattle.opening.proofs.copy_labels.Statement.{statement}
 use Rattle.opening.proofs.copy_labels.Tie as tie
 use Rattle.opening.proofs.copy_labels.Reads as reads
 use Rattle.opening.proofs.copy_labels.Lts as lts
-use Rattle.lists.proofs.byte.Reads as byte-reads
+use Rattle.arrays.proofs.byte.Reads as byte-reads
 
 abbrev Inv-loop : tie.InvT-loop
 Inv-loop file at count labels₀ i₀ labels i = (i ≤ count) × Fills 1186 (λ (j : ℕ). getD file (at + j) 0) i labels

@@ -7,7 +7,7 @@ use Rattle.placement.proofs.is_at.Statement.{statement}
 use Rattle.placement.proofs.is_at.Tie as tie
 use Rattle.placement.proofs.is_at.Reads as reads
 use Rattle.placement.proofs.is_at.Lts as lts
-use Rattle.lists.proofs.num.Reads as num-reads
+use Rattle.arrays.proofs.num.Reads as num-reads
 
 -- src/lib.rt:198:5
 num-requires : tie.Need-num-requires

@@ -8,7 +8,7 @@ use Rattle.placement.proofs.is_squared.Statement.{statement}
 use Rattle.placement.proofs.is_squared.Tie as tie
 use Rattle.placement.proofs.is_squared.Reads as reads
 use Rattle.placement.proofs.is_squared.Lts as lts
-use Rattle.lists.proofs.num.Reads as num-reads
+use Rattle.arrays.proofs.num.Reads as num-reads
 use Rattle.placement.proofs.is_at.Reads as is-at-reads
 
 -- src/lib.rt:205:9

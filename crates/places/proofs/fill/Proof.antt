@@ -11,7 +11,7 @@ use Rattle.places.proofs.fill.Statement.{statement}
 use Rattle.places.proofs.fill.Tie as tie
 use Rattle.places.proofs.fill.Reads as reads
 use Rattle.places.proofs.fill.Lts as lts
-use Rattle.lists.proofs.lesser.Reads as lesser-reads
+use Rattle.numbers.proofs.lesser.Reads as lesser-reads
 use Rattle.rings.proofs.size_of.Reads as size-of-reads
 use Rattle.rings.proofs.neighbour_at.Reads as neighbour-at-reads
 use Rattle.places.proofs.note.Reads as note-reads

@@ -9,7 +9,7 @@ use Rattle.places.proofs.note.Statement.{statement}
 use Rattle.places.proofs.note.Tie as tie
 use Rattle.places.proofs.note.Reads as reads
 use Rattle.places.proofs.note.Lts as lts
-use Rattle.lists.proofs.byte.Reads as byte-reads
+use Rattle.arrays.proofs.byte.Reads as byte-reads
 
 returns : tie.Need-returns
 returns c = let a = c .before .before .args in sym (noted-high (a .table .now) (a .u) (a .v) (a .x) (c .if1 .taken))

@@ -8,7 +8,7 @@ use Rattle.reports.proofs.same_points.Statement.{statement}
 use Rattle.reports.proofs.same_points.Tie as tie
 use Rattle.reports.proofs.same_points.Reads as reads
 use Rattle.reports.proofs.same_points.Lts as lts
-use Rattle.lists.proofs.wide_word.Reads as wide-word-reads
+use Rattle.numbers.proofs.wide_word.Reads as wide-word-reads
 use Rattle.charts.proofs.same_chart.Reads as same-chart-reads
 
 wide-word-requires : tie.Need-wide-word-requires

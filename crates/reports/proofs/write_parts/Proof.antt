@@ -8,7 +8,7 @@ use Rattle.reports.proofs.write_parts.Statement.{statement}
 use Rattle.reports.proofs.write_parts.Tie as tie
 use Rattle.reports.proofs.write_parts.Reads as reads
 use Rattle.reports.proofs.write_parts.Lts as lts
-use Rattle.lists.proofs.wide_word.Reads as wide-word-reads
+use Rattle.numbers.proofs.wide_word.Reads as wide-word-reads
 use Rattle.writing.proofs.write_file.Reads as write-file-reads
 
 wide-word-requires : tie.Need-wide-word-requires

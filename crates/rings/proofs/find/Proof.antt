@@ -9,7 +9,7 @@ use Rattle.rings.proofs.find.Statement.{statement}
 use Rattle.rings.proofs.find.Tie as tie
 use Rattle.rings.proofs.find.Reads as reads
 use Rattle.rings.proofs.find.Lts as lts
-use Rattle.lists.proofs.num.Reads as num-reads
+use Rattle.arrays.proofs.num.Reads as num-reads
 use Rattle.rings.proofs.neighbour_of.Reads as neighbour-of-reads
 
 abbrev Inv-loop : tie.InvT-loop

@@ -13,7 +13,7 @@ use Rattle.rings.proofs.index_of.Statement.{statement}
 use Rattle.rings.proofs.index_of.Tie as tie
 use Rattle.rings.proofs.index_of.Reads as reads
 use Rattle.rings.proofs.index_of.Lts as lts
-use Rattle.lists.proofs.num.Reads as num-reads
+use Rattle.arrays.proofs.num.Reads as num-reads
 use Rattle.rings.proofs.find.Reads as find-reads
 use Rattle.rings.proofs.size_of.Reads as size-of-reads
 

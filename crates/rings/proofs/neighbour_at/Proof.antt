@@ -10,7 +10,7 @@ use Rattle.rings.proofs.neighbour_at.Statement.{statement}
 use Rattle.rings.proofs.neighbour_at.Tie as tie
 use Rattle.rings.proofs.neighbour_at.Reads as reads
 use Rattle.rings.proofs.neighbour_at.Lts as lts
-use Rattle.lists.proofs.num.Reads as num-reads
+use Rattle.arrays.proofs.num.Reads as num-reads
 use Rattle.rings.proofs.neighbour_of.Reads as neighbour-of-reads
 use Rattle.rings.proofs.size_of.Reads as size-of-reads
 

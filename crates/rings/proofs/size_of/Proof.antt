@@ -7,7 +7,7 @@ use Rattle.rings.proofs.size_of.Statement.{statement}
 use Rattle.rings.proofs.size_of.Tie as tie
 use Rattle.rings.proofs.size_of.Reads as reads
 use Rattle.rings.proofs.size_of.Lts as lts
-use Rattle.lists.proofs.byte.Reads as byte-reads
+use Rattle.arrays.proofs.byte.Reads as byte-reads
 
 -- src/lib.rt:24:16
 byte-requires : tie.Need-byte-requires

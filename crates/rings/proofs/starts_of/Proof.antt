@@ -10,7 +10,7 @@ use Rattle.rings.proofs.starts_of.Statement.{statement}
 use Rattle.rings.proofs.starts_of.Tie as tie
 use Rattle.rings.proofs.starts_of.Reads as reads
 use Rattle.rings.proofs.starts_of.Lts as lts
-use Rattle.lists.proofs.byte.Reads as byte-reads
+use Rattle.arrays.proofs.byte.Reads as byte-reads
 
 abbrev Inv-loop : tie.InvT-loop
 Inv-loop sizes starts₀ sum₀ u₀ starts sum u = (u ≤ 200) × (sum ≤ 255 * u) × (sum ≡ startOf sizes u) × Fills 200 (startOf sizes) u starts

@@ -10,7 +10,7 @@ use Rattle.script.proofs.numbers_of.Statement.{statement}
 use Rattle.script.proofs.numbers_of.Tie as tie
 use Rattle.script.proofs.numbers_of.Reads as reads
 use Rattle.script.proofs.numbers_of.Lts as lts
-use Rattle.lists.proofs.word_at.Reads as word-at-reads
+use Rattle.arrays.proofs.word_at.Reads as word-at-reads
 
 abbrev Inv-loop : tie.InvT-loop
 Inv-loop argument k numbers₀ i₀ numbers i = (i ≤ k) × Fills 1200 (λ (t : ℕ). wordAt argument (1 + 2 * t)) i numbers

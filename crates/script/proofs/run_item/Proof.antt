@@ -9,7 +9,7 @@ use Rattle.script.proofs.run_item.Statement.{statement}
 use Rattle.script.proofs.run_item.Tie as tie
 use Rattle.script.proofs.run_item.Reads as reads
 use Rattle.script.proofs.run_item.Lts as lts
-use Rattle.lists.proofs.byte.Reads as byte-reads
+use Rattle.arrays.proofs.byte.Reads as byte-reads
 use Rattle.script.proofs.argument_size.Reads as argument-size-reads
 use Rattle.script.proofs.malformed.Reads as malformed-reads
 use Rattle.script.proofs.run_call.Reads as run-call-reads

@@ -15,7 +15,7 @@ use Rattle.script.proofs.run_turn.Statement.{statement}
 use Rattle.script.proofs.run_turn.Tie as tie
 use Rattle.script.proofs.run_turn.Reads as reads
 use Rattle.script.proofs.run_turn.Lts as lts
-use Rattle.lists.proofs.byte.Reads as byte-reads
+use Rattle.arrays.proofs.byte.Reads as byte-reads
 use Rattle.script.proofs.malformed.Reads as malformed-reads
 use Rattle.script.proofs.numbers_of.Reads as numbers-of-reads
 use Rattle.script.proofs.run_on.Reads as run-on-reads

@@ -9,7 +9,7 @@ use Rattle.solver.proofs.all_met.Statement.{statement}
 use Rattle.solver.proofs.all_met.Tie as tie
 use Rattle.solver.proofs.all_met.Reads as reads
 use Rattle.solver.proofs.all_met.Lts as lts
-use Rattle.lists.proofs.num.Reads as num-reads
+use Rattle.arrays.proofs.num.Reads as num-reads
 use Rattle.solver.proofs.due_at.Reads as due-at-reads
 
 abbrev Inv-loop : tie.InvT-loop

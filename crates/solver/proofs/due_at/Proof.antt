@@ -10,8 +10,8 @@ use Rattle.solver.proofs.due_at.Statement.{statement}
 use Rattle.solver.proofs.due_at.Tie as tie
 use Rattle.solver.proofs.due_at.Reads as reads
 use Rattle.solver.proofs.due_at.Lts as lts
-use Rattle.lists.proofs.byte.Reads as byte-reads
-use Rattle.lists.proofs.num.Reads as num-reads
+use Rattle.arrays.proofs.byte.Reads as byte-reads
+use Rattle.arrays.proofs.num.Reads as num-reads
 
 -- src/lib.rt:29:30
 num-requires : tie.Need-num-requires

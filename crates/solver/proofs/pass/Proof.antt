@@ -9,7 +9,7 @@ use Rattle.solver.proofs.pass.Statement.{statement}
 use Rattle.solver.proofs.pass.Tie as tie
 use Rattle.solver.proofs.pass.Reads as reads
 use Rattle.solver.proofs.pass.Lts as lts
-use Rattle.lists.proofs.num.Reads as num-reads
+use Rattle.arrays.proofs.num.Reads as num-reads
 use Rattle.solver.proofs.due_at.Reads as due-at-reads
 use Rattle.solver.proofs.place.Reads as place-reads
 

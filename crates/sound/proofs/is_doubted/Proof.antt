@@ -11,7 +11,7 @@ use Rattle.sound.proofs.is_doubted.Statement.{statement}
 use Rattle.sound.proofs.is_doubted.Tie as tie
 use Rattle.sound.proofs.is_doubted.Reads as reads
 use Rattle.sound.proofs.is_doubted.Lts as lts
-use Rattle.lists.proofs.num.Reads as num-reads
+use Rattle.arrays.proofs.num.Reads as num-reads
 use Rattle.rings.proofs.neighbour_of.Reads as neighbour-of-reads
 use Rattle.rings.proofs.size_of.Reads as size-of-reads
 use Rattle.sound.proofs.is_doubtful.Reads as is-doubtful-reads

@@ -10,7 +10,7 @@ use Rattle.touchchart.proofs.touchchart_ring.Reads as reads
 use Rattle.touchchart.proofs.touchchart_ring.Lts as lts
 use Rattle.answers.proofs.refusal.Reads as refusal-reads
 use Rattle.files.proofs.ring_answer.Reads as ring-answer-reads
-use Rattle.lists.proofs.wide_word.Reads as wide-word-reads
+use Rattle.numbers.proofs.wide_word.Reads as wide-word-reads
 use Rattle.touchchart.proofs.part_value.Reads as part-value-reads
 
 wide-word-requires : tie.Need-wide-word-requires

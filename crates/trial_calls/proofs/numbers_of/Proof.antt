@@ -8,7 +8,7 @@ use Rattle.trial_calls.proofs.numbers_of.Statement.{statement}
 use Rattle.trial_calls.proofs.numbers_of.Tie as tie
 use Rattle.trial_calls.proofs.numbers_of.Reads as reads
 use Rattle.trial_calls.proofs.numbers_of.Lts as lts
-use Rattle.lists.proofs.word_at.Reads as word-at-reads
+use Rattle.arrays.proofs.word_at.Reads as word-at-reads
 
 abbrev Inv-loop : tie.InvT-loop
 Inv-loop argument numbers₀ i₀ numbers i = (4096 ≡ length numbers) × (i ≤ 4096)

@@ -8,9 +8,9 @@ use Rattle.trial_calls.proofs.run_turn.Tie as tie
 use Rattle.trial_calls.proofs.run_turn.Reads as reads
 use Rattle.trial_calls.proofs.run_turn.Lts as lts
 use Rattle.calls.proofs.turn.Reads as turn-reads
-use Rattle.lists.proofs.byte.Reads as byte-reads
-use Rattle.lists.proofs.lesser.Reads as lesser-reads
-use Rattle.lists.proofs.minus.Reads as minus-reads
+use Rattle.arrays.proofs.byte.Reads as byte-reads
+use Rattle.numbers.proofs.lesser.Reads as lesser-reads
+use Rattle.numbers.proofs.minus.Reads as minus-reads
 use Rattle.trial_calls.proofs.numbers_of.Reads as numbers-of-reads
 
 -- src/main.rt:69:19

@@ -8,7 +8,7 @@ use Rattle.trial_leaves.proofs.points_in.Statement.{statement}
 use Rattle.trial_leaves.proofs.points_in.Tie as tie
 use Rattle.trial_leaves.proofs.points_in.Reads as reads
 use Rattle.trial_leaves.proofs.points_in.Lts as lts
-use Rattle.lists.proofs.word_at.Reads as word-at-reads
+use Rattle.arrays.proofs.word_at.Reads as word-at-reads
 
 abbrev Inv-loop : tie.InvT-loop
 Inv-loop chart from points₀ u₀ points u = (u ≤ 200) × (length points ≡ 200)

@@ -7,9 +7,9 @@ use Rattle.trial_leaves.proofs.print_files.Statement.{statement}
 use Rattle.trial_leaves.proofs.print_files.Tie as tie
 use Rattle.trial_leaves.proofs.print_files.Reads as reads
 use Rattle.trial_leaves.proofs.print_files.Lts as lts
-use Rattle.framing.proofs.ring_part.Reads as ring-part-reads
+use Rattle.arrays.proofs.part.Reads as part-reads
 use Rattle.io.proofs.write_all.Reads as write-all-reads
-use Rattle.lists.proofs.word_at.Reads as word-at-reads
+use Rattle.arrays.proofs.word_at.Reads as word-at-reads
 use Rattle.trial_leaves.proofs.print_file.Reads as print-file-reads
 
 abbrev Inv-loop : tie.InvT-loop
@@ -27,12 +27,12 @@ word-at-requires : tie.Need-word-at-requires Inv-loop μ-loop
 word-at-requires c κs = search needs
 
 -- src/main.rt:315:46
-add-ring-part : tie.Need-add-ring-part Inv-loop μ-loop
-add-ring-part c = search needs
+add-part : tie.Need-add-part Inv-loop μ-loop
+add-part c = search needs
 
 -- src/main.rt:315:20
-ring-part-requires : tie.Need-ring-part-requires Inv-loop μ-loop
-ring-part-requires c κs = search needs
+part-requires : tie.Need-part-requires Inv-loop μ-loop
+part-requires c κs = search needs
 
 -- src/main.rt:315:9
 print-file-requires : tie.Need-print-file-requires Inv-loop μ-loop
@@ -74,8 +74,8 @@ print-files-spec =
     μ-loop
     loop-holds
     word-at-requires
-    add-ring-part
-    ring-part-requires
+    add-part
+    part-requires
     print-file-requires
     slice-aggregate-write-all
     write-all-requires

@@ -7,7 +7,7 @@ use Rattle.trial_leaves.proofs.print_points.Tie as tie
 use Rattle.trial_leaves.proofs.print_points.Reads as reads
 use Rattle.trial_leaves.proofs.print_points.Lts as lts
 use Rattle.console.proofs.show.Reads as show-reads
-use Rattle.lists.proofs.num.Reads as num-reads
+use Rattle.arrays.proofs.num.Reads as num-reads
 
 abbrev Inv-loop : tie.InvT-loop
 Inv-loop xs ys n u₀ t5 u = u ≤ n

@@ -8,10 +8,10 @@ use Rattle.trial_print.proofs.main.Statement.{statement}
 use Rattle.trial_print.proofs.main.Tie as tie
 use Rattle.trial_print.proofs.main.Reads as reads
 use Rattle.trial_print.proofs.main.Lts as lts
-use Rattle.framing.proofs.ring_part.Reads as ring-part-reads
+use Rattle.arrays.proofs.part.Reads as part-reads
 use Rattle.io.proofs.large_buffer.Reads as large-buffer-reads
 use Rattle.io.proofs.read_full.Reads as read-full-reads
-use Rattle.lists.proofs.word_at.Reads as word-at-reads
+use Rattle.arrays.proofs.word_at.Reads as word-at-reads
 use Rattle.trial_print.proofs.print_input.Reads as print-input-reads
 
 abbrev Inv-loop : tie.InvT-loop
@@ -38,14 +38,14 @@ slice-aggregate-word-at c = search needs
 word-at-requires : tie.Need-word-at-requires Inv-loop μ-loop
 word-at-requires c κs = search needs
 
-slice-aggregate-ring-part : tie.Need-slice-aggregate-ring-part Inv-loop μ-loop
-slice-aggregate-ring-part c = search needs
+slice-aggregate-part : tie.Need-slice-aggregate-part Inv-loop μ-loop
+slice-aggregate-part c = search needs
 
-add-ring-part : tie.Need-add-ring-part Inv-loop μ-loop
-add-ring-part c = search needs
+add-part : tie.Need-add-part Inv-loop μ-loop
+add-part c = search needs
 
-ring-part-requires : tie.Need-ring-part-requires Inv-loop μ-loop
-ring-part-requires c κs = search needs
+part-requires : tie.Need-part-requires Inv-loop μ-loop
+part-requires c κs = search needs
 
 print-input-requires : tie.Need-print-input-requires Inv-loop μ-loop
 print-input-requires c κs = search needs
@@ -77,9 +77,9 @@ main-spec =
     loop-holds
     slice-aggregate-word-at
     word-at-requires
-    slice-aggregate-ring-part
-    add-ring-part
-    ring-part-requires
+    slice-aggregate-part
+    add-part
+    part-requires
     print-input-requires
     add-at
     add-at-2

@@ -7,7 +7,7 @@ use Rattle.trial_print.proofs.marks.Statement.{statement}
 use Rattle.trial_print.proofs.marks.Tie as tie
 use Rattle.trial_print.proofs.marks.Reads as reads
 use Rattle.trial_print.proofs.marks.Lts as lts
-use Rattle.lists.proofs.byte.Reads as byte-reads
+use Rattle.arrays.proofs.byte.Reads as byte-reads
 use Rattle.trial_print.proofs.mark.Reads as mark-reads
 
 abbrev Inv-loop : tie.InvT-loop

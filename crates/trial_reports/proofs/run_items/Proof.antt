@@ -8,7 +8,7 @@ use Rattle.trial_reports.proofs.run_items.Statement.{statement}
 use Rattle.trial_reports.proofs.run_items.Tie as tie
 use Rattle.trial_reports.proofs.run_items.Reads as reads
 use Rattle.trial_reports.proofs.run_items.Lts as lts
-use Rattle.framing.proofs.ring_part.Reads as ring-part-reads
+use Rattle.arrays.proofs.part.Reads as part-reads
 use Rattle.trial_reports.proofs.argument_room.Reads as argument-room-reads
 use Rattle.console.proofs.read_item.Reads as read-item-reads
 use Rattle.trial_reports.proofs.run_item.Reads as run-item-reads
@@ -40,12 +40,12 @@ returns : tie.Need-returns Inv-loop μ-loop
 returns c = search needs
 
 -- src/main.rt:183:49
-slice-aggregate-ring-part : tie.Need-slice-aggregate-ring-part Inv-loop μ-loop
-slice-aggregate-ring-part c = search needs
+slice-aggregate-part : tie.Need-slice-aggregate-part Inv-loop μ-loop
+slice-aggregate-part c = search needs
 
 -- src/main.rt:183:30
-ring-part-requires : tie.Need-ring-part-requires Inv-loop μ-loop
-ring-part-requires c κs = search needs
+part-requires : tie.Need-part-requires Inv-loop μ-loop
+part-requires c κs = search needs
 
 -- src/main.rt:183:9
 run-item-requires : tie.Need-run-item-requires Inv-loop μ-loop
@@ -78,8 +78,8 @@ run-items-spec =
     slice-aggregate-read-item
     read-item-requires
     returns
-    slice-aggregate-ring-part
-    ring-part-requires
+    slice-aggregate-part
+    part-requires
     run-item-requires
     add-done
     loop-less

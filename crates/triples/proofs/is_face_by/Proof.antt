@@ -10,7 +10,7 @@ use Rattle.triples.proofs.is_face_by.Lts as lts
 use Rattle.faces.proofs.is_outer.Reads as is-outer-reads
 use Rattle.followers.proofs.closes_by.Reads as closes-by-reads
 use Rattle.followers.proofs.told.Reads as told-reads
-use Rattle.lists.proofs.minus.Reads as minus-reads
+use Rattle.numbers.proofs.minus.Reads as minus-reads
 
 told-requires : tie.Need-told-requires
 told-requires c κs = search needs

@@ -10,7 +10,7 @@ use Rattle.writing.proofs.darts_of.Statement.{statement}
 use Rattle.writing.proofs.darts_of.Tie as tie
 use Rattle.writing.proofs.darts_of.Reads as reads
 use Rattle.writing.proofs.darts_of.Lts as lts
-use Rattle.lists.proofs.byte.Reads as byte-reads
+use Rattle.arrays.proofs.byte.Reads as byte-reads
 use Rattle.writing.proofs.kept_of.Reads as kept-of-reads
 
 abbrev Inv-loop : tie.InvT-loop

@@ -14,7 +14,7 @@ use Rattle.writing.proofs.put_points.Statement.{statement}
 use Rattle.writing.proofs.put_points.Tie as tie
 use Rattle.writing.proofs.put_points.Reads as reads
 use Rattle.writing.proofs.put_points.Lts as lts
-use Rattle.lists.proofs.num.Reads as num-reads
+use Rattle.arrays.proofs.num.Reads as num-reads
 use Rattle.writing.proofs.put_word.Reads as put-word-reads
 
 abbrev Inv-loop : tie.InvT-loop

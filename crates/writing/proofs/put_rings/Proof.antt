@@ -20,7 +20,7 @@ use Rattle.writing.proofs.put_rings.Statement.{statement}
 use Rattle.writing.proofs.put_rings.Tie as tie
 use Rattle.writing.proofs.put_rings.Reads as reads
 use Rattle.writing.proofs.put_rings.Lts as lts
-use Rattle.lists.proofs.byte.Reads as byte-reads
+use Rattle.arrays.proofs.byte.Reads as byte-reads
 use Rattle.writing.proofs.put_ring.Reads as put-ring-reads
 
 abbrev Inv-loop : tie.InvT-loop

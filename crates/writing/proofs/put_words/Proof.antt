@@ -11,7 +11,7 @@ use Rattle.writing.proofs.put_words.Statement.{statement}
 use Rattle.writing.proofs.put_words.Tie as tie
 use Rattle.writing.proofs.put_words.Reads as reads
 use Rattle.writing.proofs.put_words.Lts as lts
-use Rattle.lists.proofs.num.Reads as num-reads
+use Rattle.arrays.proofs.num.Reads as num-reads
 use Rattle.writing.proofs.put_word.Reads as put-word-reads
 
 abbrev Inv-loop : tie.InvT-loop

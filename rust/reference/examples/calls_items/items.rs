@@ -11,7 +11,7 @@ pub struct Items {
     pub calls: Vec<u8>,
     /// The items of `trial_reports`.
     pub reports: Vec<u8>,
-    /// The scripts of `trial_scripts`.
+    /// The items of `trial_scripts`.
     pub scripts: Vec<u8>,
     /// The sheet after the calls so far.
     sheet: Sheet,
@@ -104,9 +104,7 @@ impl Items {
 
     /// A script.
     pub fn script(&mut self, calls: &[u8]) {
-        let length = u16::try_from(calls.len()).expect("a script of at most 65,535 bytes");
-        self.scripts.extend(numbers(&[length]));
-        self.scripts.extend(calls);
+        add(&mut self.scripts, 0, &[calls]);
     }
 
     /// An item of each program that is cut before it ends; the last one.

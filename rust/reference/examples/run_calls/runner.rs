@@ -35,15 +35,7 @@ pub fn reports(input: &[u8]) -> String {
 
 /// The lines of `trial_scripts`.
 pub fn scripts(input: &[u8]) -> String {
-    let mut text = String::new();
-    let mut rest = input;
-    let mut done = 0;
-    while let Some(script) = rest.get(2..).and_then(|behind| behind.get(..number(rest))) {
-        text += &script_line(script);
-        rest = &rest[2 + script.len()..];
-        done += 1;
-    }
-    format!("{text}{done} scripts\n")
+    lines(input, 0, |_, script| script_line(script))
 }
 
 /// A line for each item up to the first that is malformed or of a kind above the last, and how many there were.
@@ -203,5 +195,5 @@ fn script_line(script: &[u8]) -> String {
     let mut buffer = vec![0; 65_536];
     let _ = write(&sheet, &mut buffer);
     let sum = checksum(&buffer);
-    format!("script of {length} ends at {end}; stage {stage}, n {n}, checksum {sum}\n")
+    format!("script of {length} ends at {end}; stage {stage}, n {n}, checksum {sum}")
 }
