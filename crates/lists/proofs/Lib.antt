@@ -15,5 +15,6 @@ pub mod Places
 pub mod Concats
 pub mod Cycles
 pub mod Stretches
+pub mod Padded
 pub mod Marks
 pub mod Folds

@@ -1,21 +1,20 @@
 -- What the loops of the engine keep, each with a law for its start, its steps and its end:
 -- the lowest number that passes (Looks), whether some entry of a span passes (Sees), where an entry stands (Finds), an array that is filled from the front (Fills).
-use Prim.Native.Nat.{ℕ, zero, suc, _+_, _-_, _≤_, _<_}
+use Prim.Native.Nat.{ℕ, suc, _+_, _-_, _≤_, _<_}
 use mathlib.Core.Path.{_≡_, refl, sym, ap, _∙_}
 use mathlib.Core.List.{List, [], _∷_, _++_, map, append-nil}
 use mathlib.Core.Bool.{Bool, true, false, cond}
 use native.Mathlib.Omega.{arith}
-use native.Mathlib.Numerals.{add-one}
 use lib.ListN.{length, getD, set, length-append, replicate, length-replicate}
 use lib.Seq.{set-append-seam, append-snoc}
-use lib.Dec.{eqb}
 use borrow.Author.Tests.{eq-eqb, ne-eqb}
 use Rattle.lists.specs.Tests.{any}
 use Rattle.lists.specs.Ranges.{from, firstFrom, lowest}
 use Rattle.lists.specs.Parts.{indexOf}
-use Rattle.lists.specs.Spans.{stretch, span, zeros, padded}
+use Rattle.lists.specs.Spans.{span, zeros, padded}
 use Rattle.lists.proofs.Ranges.{length-map-from}
 use Rattle.lists.proofs.Spans.{span-more, span-end}
+use Rattle.lists.proofs.Stretches.{map-from-more}
 
 -- ---- while u < n { if test(u) { return u; } u += 1; } u
 pub record Looks (f : ℕ → Bool) (n u : ℕ) : Type 0 where
@@ -108,10 +107,6 @@ pub padded-full : (k : ℕ) (l : List ℕ) → length l ≡ k → padded k l ≡
 unfolding padded zeros
 padded-full k l h = let z : k - length l ≡ 0 = omega arith in rw z (append-nil l)
 
-map-range-more : (f : ℕ → ℕ) (a k : ℕ) → map f (from a (suc k)) ≡ map f (from a k) ++ (f (a + k) ∷ [])
-map-range-more f a zero = let z : a + 0 ≡ a = omega arith in rw z
-map-range-more f a (suc k) = let z : suc a + k ≡ a + suc k = omega arith in ap (λ (l : List ℕ). f a ∷ l) (map-range-more f (suc a) k ∙ rw z)
-
 pub record Fills (k : ℕ) (f : ℕ → ℕ) (i : ℕ) (b : List ℕ) : Type 0 where
   pub same : b ≡ padded k (map f (from 0 i))
 
@@ -125,7 +120,7 @@ module _ {k : ℕ} {f : ℕ → ℕ} {i : ℕ} {b : List ℕ} (inv : Fills k f i
       let l : List ℕ = map f (from 0 i) in
       let size : length l ≡ i = length-map-from f 0 i in
       let z : 0 + i ≡ i = omega arith in
-      record { same = p ∙ (λ t. set (inv .same t) (sym size t) (v t)) ∙ padded-put k l (f i) (omega arith) ∙ ap (padded k) (ap (λ (j : ℕ). l ++ (f j ∷ [])) (sym z) ∙ sym (map-range-more f 0 i) ∙ ap (λ (j : ℕ). map f (from 0 j)) (sym q)) }
+      record { same = p ∙ (λ t. set (inv .same t) (sym size t) (v t)) ∙ padded-put k l (f i) (omega arith) ∙ ap (padded k) (ap (λ (j : ℕ). l ++ (f j ∷ [])) (sym z) ∙ sym (map-from-more f 0 i) ∙ ap (λ (j : ℕ). map f (from 0 j)) (sym q)) }
 
   pub fills-end : i ≡ k → b ≡ map f (from 0 k)
   fills-end q = inv .same ∙ ap (λ (j : ℕ). padded k (map f (from 0 j))) q ∙ padded-full k (map f (from 0 k)) (length-map-from f 0 k)

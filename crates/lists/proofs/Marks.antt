@@ -1,5 +1,5 @@
 -- A mark for each number that was passed: whether a list repeats an entry, found in one pass.
-use Prim.Native.Nat.{ℕ, zero, suc, _+_, _≤_, _<_}
+use Prim.Native.Nat.{ℕ, _+_, _≤_, _<_}
 use mathlib.Core.Path.{_≡_, refl, sym, ap, _∙_}
 use mathlib.Core.List.{List, [], _∷_}
 use mathlib.Core.Bool.{Bool, true, false, _||_, or-true, or-false, or-assoc}
@@ -9,14 +9,10 @@ use lib.Seq.{getD-set-same, getD-set-other}
 use lib.Dec.{eqb}
 use borrow.Author.Tests.{eqb-true, eqb-false, eq-eqb, ne-eqb}
 use Rattle.lists.specs.Tests.{any, member, repeats}
-use Rattle.lists.specs.Spans.{span}
-use Rattle.lists.proofs.Tests.{of-none}
+use Rattle.lists.specs.Spans.{span, zeros}
+use Rattle.lists.proofs.Tests.{of-none, any-same, eqb-swap}
 use Rattle.lists.proofs.Spans.{span-more, span-end}
-
--- tests that say the same
-any-same : (f g : ℕ → Bool) → ((a : ℕ) → f a ≡ g a) → (l : List ℕ) → any f l ≡ any g l
-any-same f g h [] = refl
-any-same f g h (a ∷ l) = λ i. h a i || any-same f g h l i
+use Rattle.lists.proofs.Padded.{getD-zeros}
 
 -- the four parts of two tests on an entry and on the others, grouped by the tests
 regroup : (a b c d : Bool) → ((a || b) || (c || d)) ≡ ((a || c) || (b || d))
@@ -30,21 +26,9 @@ any-or : (f g : ℕ → Bool) (l : List ℕ) → any (λ (a : ℕ). f a || g a) 
 any-or f g [] = refl
 any-or f g (a ∷ l) = ap (λ (t : Bool). (f a || g a) || t) (any-or f g l) ∙ regroup (f a) (g a) (any f l) (any g l)
 
-eqb-turned : (a b : ℕ) → eqb a b ≡ eqb b a
-eqb-turned a b = go (eqb b a) refl
-  where
-    go : (t : Bool) → eqb b a ≡ t → eqb a b ≡ t
-    go true q = eq-eqb a b (sym (eqb-true b a q))
-    go false q = ne-eqb a b (λ e. eqb-false b a q (sym e))
-
 -- v is marked
 abbrev marked : List ℕ → ℕ → Bool
 marked b v = eqb (getD b v 0) 1
-
-unmarked : (k v : ℕ) → getD {A = ℕ} (replicate k 0) v 0 ≡ 0
-unmarked zero v = refl
-unmarked (suc k) zero = refl
-unmarked (suc k) (suc v) = unmarked k v
 
 -- after v is marked, those are marked that were before, and v
 marked-set : (b : List ℕ) (v : ℕ) → v < length b → (w : ℕ) → marked (set b v 1) w ≡ (marked b w || eqb w v)
@@ -60,7 +44,8 @@ pub record Marks (k : ℕ) (l : List ℕ) (e i : ℕ) (b : List ℕ) : Type 0 wh
   pub same : repeats (span l 0 e) ≡ (any (marked b) (span l i e) || repeats (span l i e))
 
 pub marks-start : {k : ℕ} {l : List ℕ} {e : ℕ} {b : List ℕ} → b ≡ replicate k 0 → Marks k l e 0 b
-marks-start {k} {l} {e} {b} q = record { long = ap length q ∙ length-replicate k 0; same = sym (rw (of-none (marked b) (span l 0 e) (λ a m. ne-eqb (getD b a 0) 1 (λ one. let z = ap (λ (c : List ℕ). getD c a 0) q ∙ unmarked k a in omega arith)))) }
+unfolding zeros
+marks-start {k} {l} {e} {b} q = record { long = ap length q ∙ length-replicate k 0; same = sym (rw (of-none (marked b) (span l 0 e) (λ a m. ne-eqb (getD b a 0) 1 (λ one. let z = ap (λ (c : List ℕ). getD c a 0) q ∙ getD-zeros k a in omega arith)))) }
 
 module _ {k : ℕ} {l : List ℕ} {e i : ℕ} {b : List ℕ} (inv : Marks k l e i b) where
   -- the next entry, and those after it
@@ -75,9 +60,9 @@ module _ {k : ℕ} {l : List ℕ} {e i : ℕ} {b : List ℕ} (inv : Marks k l e 
       let rest = span l (i + 1) e in
       let long = inv .long in
       let more : any (marked (set b v 1)) rest ≡ (any (marked b) rest || member v rest) =
-      any-same (marked (set b v 1)) (λ (w : ℕ). marked b w || eqb w v) (marked-set b v (omega arith)) rest
+      any-same (marked (set b v 1)) (λ (w : ℕ). marked b w || eqb w v) rest (marked-set b v (omega arith))
       ∙ any-or (marked b) (λ (w : ℕ). eqb w v) rest
-      ∙ ap (λ (m : Bool). any (marked b) rest || m) (any-same (λ (w : ℕ). eqb w v) (eqb v) (λ w. eqb-turned w v) rest) in
+      ∙ ap (λ (m : Bool). any (marked b) rest || m) (any-same (λ (w : ℕ). eqb w v) (eqb v) rest (λ w. eqb-swap w v)) in
       let same : repeats (span l 0 e) ≡ (any (marked (set b v 1)) rest || repeats rest) =
       next-parts h q
       ∙ ap (λ (m : Bool). (m || any (marked b) rest) || (member v rest || repeats rest)) (ne-eqb (getD b v 0) 1 t)

@@ -1,10 +1,11 @@
--- Spans: how they are gone through entry by entry, and what stands outside an array.
+-- Spans: how they are gone through entry by entry, which parts of a list they are, and what stands outside an array.
 use Prim.Native.Nat.{ℕ, zero, suc, _+_, _-_, _*_, _≤_, _<_}
 use mathlib.Core.Path.{_≡_, refl, sym, ap, _∙_}
 use mathlib.Core.List.{List, [], _∷_, _++_}
 use native.Mathlib.Omega.{arith}
 use native.Mathlib.Numerals.{add-one}
-use lib.ListN.{length, getD, List·getD-eq-default, length-replicate}
+use lib.ListN.{length, getD, take, drop, List·getD-eq-default, length-replicate}
+use lib.Seq.{drop-cons}
 use Rattle.lists.specs.Spans.{stretch, span, zeros}
 
 -- outside an array there is 0
@@ -36,3 +37,18 @@ getD-stretch l i (suc k) (suc j) h = getD-stretch l (suc i) k j (omega arith) �
 pub length-zeros : (k : ℕ) → length (zeros k) ≡ k
 unfolding zeros
 length-zeros k = length-replicate k 0
+
+-- inside a list it does not matter what is read outside
+pub getD-inside : (l : List ℕ) (i a b : ℕ) → i < length l → getD l i a ≡ getD l i b
+getD-inside [] i a b h = absurd (omega arith)
+getD-inside (k ∷ l) zero a b h = refl
+getD-inside (k ∷ l) (suc i) a b h = getD-inside l i a b (omega arith)
+
+-- a stretch inside a list is a part of it
+pub stretch-part : (l : List ℕ) (i k : ℕ) → i + k ≤ length l → stretch l i k ≡ take k (drop i l)
+unfolding stretch
+stretch-part l i zero h = refl
+stretch-part l i (suc k) h = rw (drop-cons l i 0 (omega arith), stretch-part l (suc i) k (omega arith))
+
+pub stretch-first : (l : List ℕ) (k : ℕ) → k ≤ length l → stretch l 0 k ≡ take k l
+stretch-first l k h = stretch-part l 0 k (omega arith)

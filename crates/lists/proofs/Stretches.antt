@@ -1,4 +1,4 @@
--- Stretches of lists joined: the front, what stands behind it, each of several lists; and two maps over a range that agree on its numbers.
+-- Stretches of lists joined: the front, what stands behind it, each of several lists; maps over a range.
 use Prim.Native.Nat.{ℕ, zero, suc, _+_, _-_, _≤_, _<_}
 use mathlib.Core.Path.{_≡_, refl, sym, ap, _∙_}
 use mathlib.Core.List.{List, [], _∷_, _++_, map, append-assoc, append-nil}
@@ -51,3 +51,8 @@ stretch-joined (l ∷ ls) rest (suc u) =
 pub map-from-same : {A : Type 0} (f g : ℕ → A) (a k : ℕ) → ((u : ℕ) → a ≤ u → u < a + k → f u ≡ g u) → map f (from a k) ≡ map g (from a k)
 map-from-same f g a zero h = refl
 map-from-same f g a (suc k) h = λ i. h a (omega arith) (omega arith) i ∷ map-from-same f g (suc a) k (λ u p q. h u (omega arith) (omega arith)) i
+
+-- a map over a range with one more number
+pub map-from-more : {A : Type 0} (f : ℕ → A) (a k : ℕ) → map f (from a (suc k)) ≡ map f (from a k) ++ (f (a + k) ∷ [])
+map-from-more f a zero = let z : a + 0 ≡ a = omega arith in rw z
+map-from-more {A} f a (suc k) = let z : suc a + k ≡ a + suc k = omega arith in ap (λ (l : List A). f a ∷ l) (map-from-more f (suc a) k ∙ rw z)

@@ -4,7 +4,7 @@ use mathlib.Core.Path.{_≡_, refl, sym, ap, _∙_, subst}
 use mathlib.Core.List.{List, [], _∷_, _++_, map, List·Memᴰ, List·Memᴰ·head, List·Memᴰ·tail}
 use mathlib.Core.Bool.{Bool, true, false, cond, _&&_, _||_, false≢true, or-true, or-assoc}
 use lib.Dec.{eqb}
-use borrow.Author.Tests.{eqb-true, eq-eqb}
+use borrow.Author.Tests.{eqb-true, eqb-false, eq-eqb, ne-eqb}
 use Rattle.lists.specs.Tests.{any, all, member, repeats, sameList}
 use Rattle.lists.proofs.Bools.{or-no, no-or, and-yes, yes-and}
 
@@ -40,6 +40,19 @@ module _ {A : Type 0} (f : A → Bool) where
   pub any-append : (l m : List A) → any f (l ++ m) ≡ (any f l || any f m)
   any-append [] m = refl
   any-append (a ∷ l) m = ap (λ (t : Bool). f a || t) (any-append l m) ∙ sym (or-assoc (f a) (any f l) (any f m))
+
+-- two tests that agree
+pub any-same : (f g : ℕ → Bool) (l : List ℕ) → ((a : ℕ) → f a ≡ g a) → any f l ≡ any g l
+any-same f g [] h = refl
+any-same f g (a ∷ l) h = λ i. h a i || any-same f g l h i
+
+-- equality is the same both ways
+pub eqb-swap : (a b : ℕ) → eqb a b ≡ eqb b a
+eqb-swap a b = go (eqb a b) refl
+  where
+    go : (t : Bool) → eqb a b ≡ t → eqb a b ≡ eqb b a
+    go true e = e ∙ sym (eq-eqb b a (sym (eqb-true a b e)))
+    go false e = e ∙ sym (ne-eqb b a (λ h. eqb-false a b e (sym h)))
 
 pub any-map : {A B : Type 0} (f : B → Bool) (g : A → B) (l : List A) → any (λ (a : A). f (g a)) l ≡ any f (map g l)
 any-map f g [] = refl
