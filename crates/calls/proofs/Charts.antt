@@ -1,14 +1,14 @@
 -- Chart: 13, then the chart of the plan and the labels that the struct holds, or 11.
-use Prim.Native.Nat.{ℕ, zero, suc, _+_, _≤_, _<_}
-use mathlib.Core.Path.{_≡_, refl, sym, ap, _∙_}
+use Prim.Native.Nat.{ℕ, _≤_, _<_}
+use mathlib.Core.Path.{_≡_, sym, ap, _∙_}
 use mathlib.Core.List.{List}
 use mathlib.Core.Bool.{Bool, true, false, cond}
 use native.Mathlib.Omega.{arith}
-use lib.ListN.{length, take, drop}
-use lib.Seq.{drop-cons}
+use lib.ListN.{length, take}
 use lib.Dec.{leb}
 use borrow.Author.Tests.{le-leb}
 use Rattle.lists.proofs.Bools.{yes-and}
+use Rattle.lists.proofs.Spans.{stretch-part}
 use Rattle.lists.specs.Spans.{stretch}
 use Rattle.model.specs.Outcome.{Outcome, accepted, refused, _>>=_}
 use Rattle.model.specs.Plan.{Plan}
@@ -25,12 +25,6 @@ use Rattle.sheet.specs.Sheets.{heldCount, heldPlan, heldLabels, fits, reads, pa
 use Rattle.sheet.specs.Sheets.{rank, stageRead}
 use Rattle.model.proofs.Outcomes.{bind-at, bind-off}
 use Rattle.sheet.proofs.Reading.{labels-early, labels-there, few, room}
-
--- a stretch at the front of a list that reaches as far
-stretch-part : (l : List ℕ) (i k : ℕ) → i + k ≤ length l → stretch l i k ≡ take k (drop i l)
-unfolding stretch
-stretch-part l i zero h = refl
-stretch-part l i (suc k) h = rw (drop-cons l i 0 (omega arith), stretch-part l (suc i) k (omega arith))
 
 pub take-front : (l : List ℕ) (k : ℕ) → k ≤ length l → take k l ≡ stretch l 0 k
 take-front l k h = sym (stretch-part l 0 k (omega arith))

@@ -4,6 +4,7 @@ use mathlib.Core.Path.{_≡_, sym, ap, _∙_}
 use mathlib.Core.List.{List, []}
 use mathlib.Core.Bool.{Bool, cond}
 use lib.ListN.{length}
+use Rattle.lists.proofs.Padded.{stretch-padded}
 use Rattle.lists.specs.Spans.{stretch, padded}
 use Rattle.model.specs.Outcome.{Outcome, accepted, refused, _>>=_, taken}
 use Rattle.model.specs.Plan.{Plan}
@@ -17,7 +18,6 @@ use Rattle.sweep.specs.declared.SweepAnswer.the-variants.{Labelled}
 use Rattle.sweep.specs.Swept.{outcomeOf, sweepOf}
 use Rattle.sheet.specs.declared.Sheet.{Sheet}
 use Rattle.sheet.specs.Sheets.{heldCount, heldPlan, fits, reads, stageRead, rank, packed}
-use Rattle.sheet.proofs.Packed.{stretch-padded}
 use Rattle.sheet.proofs.Reading.{plan-early, plan-there, fits-there, entries-held}
 
 module _ (s : Sheet) where

@@ -17,6 +17,7 @@ use Rattle.lists.proofs.Bools.{both}
 use Rattle.lists.proofs.Tests.{mem-member}
 use Rattle.lists.proofs.Ranges.{mem-from, from-mem}
 use Rattle.lists.proofs.Joins.{mem-join, join-mem}
+use Rattle.lists.proofs.Padded.{getD-padded}
 use Rattle.model.specs.Plan.{Plan, ring, adjacent, between, border}
 use Rattle.model.specs.Sweep.{State, below, listed, replaced, chordless, eligible, choose, choices}
 use Rattle.model.proofs.Plans.{mem-adjacent}
@@ -29,7 +30,6 @@ use Rattle.chords.specs.Run.{fits}
 use Rattle.choice.specs.Run.{Trail, placed, same, startTrail}
 use Rattle.choice.specs.Search.{foundAs, Trails, Reason, edge, old, twice, right, beside, later, split, Stops, bare, barred, Extends, Best}
 use Rattle.pairs.proofs.Dirt.{repeats-right, or-left, squeeze-before, clean-once}
-use Rattle.frontier.proofs.Lines.{getD-padded}
 use Rattle.pairs.proofs.Gather.{raw}
 use Rattle.frontier.proofs.Under.{below-mem}
 use Rattle.pairs.proofs.Pairs.{gathered, unchorded}

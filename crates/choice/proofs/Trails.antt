@@ -9,6 +9,7 @@ use lib.ListN.{length, getD, set, take}
 use lib.Seq.{getD-set-same, getD-set-other, set-out}
 use lib.Dec.{eqb, ltb}
 use borrow.Author.Tests.{eqb-true, eqb-false, ltb-true, ltb-false}
+use Rattle.lists.proofs.Padded.{getD-zeros}
 use Rattle.lists.specs.Folds.{each}
 use Rattle.lists.specs.Spans.{zeros}
 use Rattle.places.specs.Places.{placesOf, adjacentBy}
@@ -19,7 +20,6 @@ use Rattle.frontier.specs.Run.{depth, under}
 use Rattle.choice.specs.declared.Lead.{Lead}
 use Rattle.choice.specs.Run.{Trail, lead, trail, trailOf, startTrail, placed, same}
 use Rattle.choice.specs.Search.{Trails, Reason, edge, old, twice, right, beside, later, split, Takes, Stops, bare, barred, Extends}
-use Rattle.frontier.proofs.Lines.{getD-none}
 use Rattle.frontier.proofs.Under.{below-is, depth-le, back-suc}
 
 -- what stands in a list after a store: what was stored, or what stood there
@@ -60,7 +60,7 @@ place-real f a (suc k) place h c t e =
 pub placed-real : (f : List ℕ) (m c t : ℕ) → getD (placed f m) c 0 ≡ suc t → (t < m) × (getD f t 0 ≡ c)
 unfolding placed
 placed-real f m c t e =
-    let (x, y) = place-real f 0 (min m 512 - 0) (zeros 256) (λ d u q. let z = getD-none 256 d in absurd (omega arith)) c t e in
+    let (x, y) = place-real f 0 (min m 512 - 0) (zeros 256) (λ d u q. let z = getD-zeros 256 d in absurd (omega arith)) c t e in
     (omega arith, y)
 
 module _ {p : Plan} where
@@ -68,7 +68,7 @@ module _ {p : Plan} where
   -- the trail of no list
   pub trails-start : {f : List ℕ} (m : ℕ) → Trails p f m [] (startTrail m)
   unfolding startTrail
-  trails-start m = record { none = λ e. refl; first = λ e. absurd (false≢true e); marks = λ c h. absurd (h (getD-none 256 c)); lo = λ h. absurd (omega arith) }
+  trails-start m = record { none = λ e. refl; first = λ e. absurd (false≢true e); marks = λ c h. absurd (h (getD-zeros 256 c)); lo = λ h. absurd (omega arith) }
 
   -- one context put before the list
   pub trails-push : {f on seen place tab : List ℕ} {m c fj j k : ℕ} {l : List ℕ} {before r : Lead} → Trails p f m l (trailOf before on) → Takes tab p f on seen place m c fj j k before r → tab ≡ placesOf p → place ≡ placed f m → r .ok ≡ true → Trails p f m (c ∷ l) (trailOf r (set on c 1))

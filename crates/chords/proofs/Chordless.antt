@@ -15,19 +15,12 @@ use Rattle.lists.proofs.Bools.{both}
 use Rattle.lists.proofs.Tests.{of-none}
 use Rattle.lists.specs.Folds.{some}
 use Rattle.lists.proofs.Folds.{some-none, some-one}
+use Rattle.lists.proofs.Ranges.{lt-or-le}
+use Rattle.lists.proofs.Padded.{getD-padded}
 use Rattle.model.specs.Plan.{Plan, adjacent}
 use Rattle.model.specs.Sweep.{chordless, replaced}
 use Rattle.model.proofs.Eligible.{mem-getD, chordless-apart, replaced-left, replaced-list, replaced-right, replaced-length}
-use Rattle.frontier.proofs.Lines.{getD-padded}
 use Rattle.chords.specs.Run.{touches, chorded, chordLeft, chordAt, chordRight}
-
--- one number is below the other, or not
-lt-or-le : (a b : ℕ) → (a < b) ⊎ (b ≤ a)
-lt-or-le a b = go (ltb a b) refl
-  where
-    go : (t : Bool) → ltb a b ≡ t → (a < b) ⊎ (b ≤ a)
-    go true e = inl (ltb-true a b e)
-    go false e = inr (ltb-false a b e)
 
 -- ---- no chord
 -- contexts that are two or more positions apart are no neighbours: there is no chord

@@ -8,13 +8,13 @@ use native.Mathlib.Omega.{arith}
 use lib.ListN.{length}
 use lib.Dec.{ltb}
 use borrow.Author.Tests.{lt-ltb}
+use Rattle.lists.proofs.Padded.{getD-padded}
 use Rattle.lists.specs.Spans.{zeros, padded}
 use Rattle.model.specs.Plan.{Plan}
 use Rattle.model.specs.Sweep.{State, listed, replaced, chordless, eligible}
 use Rattle.frontier.specs.declared.Line.{Line}
 use Rattle.frontier.specs.Front.{Sane, Front}
 use Rattle.frontier.specs.Run.{line}
-use Rattle.frontier.proofs.Lines.{getD-padded}
 use Rattle.pairs.specs.Run.{listing}
 use Rattle.pairs.proofs.Dirt.{dirty}
 use Rattle.pairs.proofs.Adding.{Good}

@@ -1,27 +1,22 @@
 -- What the label rules say of one dart, one ring and one context, in each case that the code tells apart; by the plan's own table it is what the model says.
 use Prim.Native.Nat.{ℕ, zero, suc, _+_, _-_, _%_, _≤_, _<_}
 use mathlib.Core.Path.{_≡_, refl, sym, ap, _∙_}
-use mathlib.Core.List.{List, [], _∷_}
-use mathlib.Core.Bool.{Bool, true, false, cond, not, _&&_, _||_, true≢false}
+use mathlib.Core.List.{List}
+use mathlib.Core.Bool.{Bool, true, false, cond, not, _&&_, _||_, true≢false, and-false, or-false}
 use native.Mathlib.Omega.{arith}
 use lib.ListN.{getD}
 use lib.Dec.{eqb, ltb}
 use borrow.Author.Tests.{ltb-true, ltb-false, lt-ltb, le-ltb, ne-eqb}
 use Rattle.lists.specs.Tests.{any}
 use Rattle.lists.specs.Ranges.{firstFrom, lowest}
-use Rattle.lists.proofs.Bools.{or-no}
+use Rattle.lists.proofs.Tests.{any-same, any-or}
 use Rattle.model.specs.Plan.{Plan, ring, border}
 use Rattle.model.specs.Labels.{unlabelled, labelOf, labelsAround, due, badDart, notDue, fourRuns, badRing, breaks}
 use Rattle.rings.specs.Tables.{startsOf, rows, table}
 use Rattle.places.specs.Places.{cell, placesOf}
-use Rattle.conditions.specs.LabelBy.{labelAt, labelBy, badDartBy, notDueBy, aroundBy, breaksBy}
+use Rattle.conditions.specs.LabelBy.{labelAt, labelBy, badDartBy, notDueBy, wrongDartBy, aroundBy, breaksBy}
 use Rattle.labels.proofs.Places.{is-table}
 use Rattle.conditions.proofs.ByTable.{label-own, label-outside, around-own}
-
--- nothing holds together with what does not
-and-false : (a : Bool) → (a && false) ≡ false
-and-false true = refl
-and-false false = refl
 
 -- ---- what the code tests, case by case
 module _ (t starts ls : List ℕ) (u : ℕ) where
@@ -75,32 +70,46 @@ module _ (t starts ls : List ℕ) (u : ℕ) where
   unfolding notDueBy
   due-inner v label lead h = (λ i. not (eqb (label i) (lead i))) ∙ sym (rw (le-ltb v 4 h))
 
-  module _ (p : Plan) {r : List ℕ} (round : r ≡ ring p u) {b : Bool} (darts : b ≡ any (badDartBy t starts ls u) r) where
-    -- a dart that leaves u breaks the rules
+  module _ (v : ℕ) {b : Bool} (dart : b ≡ badDartBy t starts ls u v) where
+    -- a dart that breaks the rules is wrong
+    pub wrong-bad : b ≡ true → true ≡ wrongDartBy t starts ls u v
+    unfolding wrongDartBy
+    wrong-bad e = sym (rw (sym dart ∙ e))
+
+    -- of an inner context it is the only kind
+    pub wrong-inner : b ≡ false → 4 ≤ u → false ≡ wrongDartBy t starts ls u v
+    unfolding wrongDartBy
+    wrong-inner e h = sym (rw (sym dart ∙ e, le-ltb u 4 h))
+
+    -- of a border context one with a label that is not due is another
+    pub wrong-due : b ≡ false → u < 4 → {d : Bool} → d ≡ notDueBy t starts ls u v → d ≡ wrongDartBy t starts ls u v
+    unfolding wrongDartBy
+    wrong-due e h q = q ∙ sym (rw (sym dart ∙ e, lt-ltb u 4 h))
+
+  module _ (p : Plan) {r : List ℕ} (round : r ≡ ring p u) {b : Bool} (darts : b ≡ any (wrongDartBy t starts ls u) r) where
+    there : b ≡ any (wrongDartBy t starts ls u) (ring p u)
+    there = darts ∙ ap (any (wrongDartBy t starts ls u)) round
+
+    -- a dart that leaves u is wrong
     pub breaks-dart : b ≡ true → true ≡ breaksBy t starts p ls u
     unfolding breaksBy
-    breaks-dart e = sym (rw (ap (any (badDartBy t starts ls u)) (sym round) ∙ sym darts ∙ e))
+    breaks-dart e = sym (rw (sym there ∙ e))
 
-    -- none does, and a label is not due
-    pub breaks-due : b ≡ false → u < 4 → {d : Bool} → d ≡ any (notDueBy t starts ls u) r → d ≡ breaksBy t starts p ls u
+    -- none is, and u is a border context
+    pub breaks-border : b ≡ false → u < 4 → false ≡ breaksBy t starts p ls u
     unfolding breaksBy
-    breaks-due e h {d} q = q ∙ ap (any (notDueBy t starts ls u)) round ∙ sym (rw (ap (any (badDartBy t starts ls u)) (sym round) ∙ sym darts ∙ e, lt-ltb u 4 h))
+    breaks-border e h = sym (rw (sym there ∙ e, lt-ltb u 4 h))
 
-    -- none does, and the labels are not four runs
+    -- none is, and the labels of an inner context are not four runs
     pub breaks-runs : b ≡ false → 4 ≤ u → {d : Bool} {l : List ℕ} → d ≡ fourRuns l → l ≡ aroundBy starts p ls u → not d ≡ breaksBy t starts p ls u
     unfolding breaksBy
-    breaks-runs e h q w = ap not (q ∙ ap fourRuns w) ∙ sym (rw (ap (any (badDartBy t starts ls u)) (sym round) ∙ sym darts ∙ e, le-ltb u 4 h))
+    breaks-runs e h q w = ap not (q ∙ ap fourRuns w) ∙ sym (rw (sym there ∙ e, le-ltb u 4 h))
 
 -- ---- by the plan's own table these are the label rules
--- two tests that agree wherever a third fails
-any-where : (f g h : ℕ → Bool) (l : List ℕ) → any f l ≡ false → ((a : ℕ) → f a ≡ false → g a ≡ h a) → any g l ≡ any h l
-any-where f g h [] e q = refl
-any-where f g h (a ∷ l) e q = let (x, y) = or-no (f a) (any f l) e in λ i. q a x i || any-where f g h l y q i
-
--- two tests that agree
-any-same : (f g : ℕ → Bool) (l : List ℕ) → ((a : ℕ) → f a ≡ g a) → any f l ≡ any g l
-any-same f g [] h = refl
-any-same f g (a ∷ l) h = λ i. h a i || any-same f g l h i
+-- two tests of each entry in one pass, the second under a condition
+one-pass : (f g : ℕ → Bool) (b r : Bool) (l : List ℕ) → (any (λ (v : ℕ). f v || (b && g v)) l || (not b && r)) ≡ (any f l || cond b (any g l) r)
+one-pass f g true r l = or-false (any (λ (v : ℕ). f v || g v) l) ∙ any-or f g l
+one-pass f g false r l = ap (λ (t : Bool). t || r) (any-same (λ (v : ℕ). f v || false) f l (λ v. or-false (f v)))
 
 module _ (starts sizes es : List ℕ) (n : ℕ) (same : starts ≡ startsOf sizes) (small : n ≤ 200) {t : List ℕ} (own : t ≡ placesOf (rows starts sizes es n)) (ls : List ℕ) (u : ℕ) (here : u < n) where
   abbrev P : Plan
@@ -143,19 +152,22 @@ module _ (starts sizes es : List ℕ) (n : ℕ) (same : starts ≡ startsOf size
       go true q = let a = label-own starts sizes es n same small own ls u v (omega arith) (ltb-true v 200 q) in λ i. not (border v || eqb (a i) (due u))
       go false q = absurd (true≢false (sym (dart-wide v (ltb-false v 200 q)) ∙ sym (dart-own v) ∙ e))
 
+  -- so the same darts are wrong
+  wrong-own : (v : ℕ) → wrongDartBy t starts ls u v ≡ (badDart P ls u v || (border u && notDue P ls u v))
+  unfolding wrongDartBy
+  wrong-own v = go (badDartBy t starts ls u v) refl ∙ ap (λ (b : Bool). b || (border u && notDue P ls u v)) (dart-own v)
+    where
+      go : (b : Bool) → badDartBy t starts ls u v ≡ b → (badDartBy t starts ls u v || (border u && notDueBy t starts ls u v)) ≡ (badDartBy t starts ls u v || (border u && notDue P ls u v))
+      go true e = rw e
+      go false e = ap (λ (d : Bool). badDartBy t starts ls u v || (border u && d)) (due-own v e)
+
   -- u breaks the rules by the table where it does
   pub breaks-own : breaksBy t starts (rows starts sizes es n) ls u ≡ breaks P ls u
   unfolding breaksBy breaks badRing
-  breaks-own = go (any (badDartBy t starts ls u) (ring (rows starts sizes es n) u)) refl ∙ ap (λ (p : Plan). any (badDart P ls u) (ring p u) || cond (border u) (any (notDue P ls u) (ring p u)) (not (fourRuns (labelsAround P ls u)))) (is-table starts sizes es n same small)
-    where
-      darts : any (badDartBy t starts ls u) (ring (rows starts sizes es n) u) ≡ any (badDart P ls u) (ring (rows starts sizes es n) u)
-      darts = any-same (badDartBy t starts ls u) (badDart P ls u) (ring (rows starts sizes es n) u) dart-own
-
-      go : (b : Bool) → any (badDartBy t starts ls u) (ring (rows starts sizes es n) u) ≡ b
-          → (any (badDartBy t starts ls u) (ring (rows starts sizes es n) u) || cond (border u) (any (notDueBy t starts ls u) (ring (rows starts sizes es n) u)) (not (fourRuns (aroundBy starts (rows starts sizes es n) ls u)))) ≡ (any (badDart P ls u) (ring (rows starts sizes es n) u) || cond (border u) (any (notDue P ls u) (ring (rows starts sizes es n) u)) (not (fourRuns (labelsAround P ls u))))
-      go true e = rw (e, sym darts ∙ e)
-      go false e =
-          λ i. darts i || cond (border u) (any-where (badDartBy t starts ls u) (notDueBy t starts ls u) (notDue P ls u) (ring (rows starts sizes es n) u) e due-own i) (not (fourRuns (around-own starts sizes es n same small ls u here i)))
+  breaks-own =
+      (λ i. any-same (wrongDartBy t starts ls u) (λ (v : ℕ). badDart P ls u v || (border u && notDue P ls u v)) (ring (rows starts sizes es n) u) wrong-own i || (not (border u) && not (fourRuns (around-own starts sizes es n same small ls u here i))))
+      ∙ one-pass (badDart P ls u) (notDue P ls u) (border u) (not (fourRuns (labelsAround P ls u))) (ring (rows starts sizes es n) u)
+      ∙ ap (λ (p : Plan). any (badDart P ls u) (ring p u) || cond (border u) (any (notDue P ls u) (ring p u)) (not (fourRuns (labelsAround P ls u)))) (is-table starts sizes es n same small)
 
 -- The lowest context that breaks the rules by the plan's own table is the lowest that breaks them
 pub rules-own : (starts sizes es : List ℕ) (n : ℕ) → starts ≡ startsOf sizes → n ≤ 200 → {t : List ℕ} → t ≡ placesOf (rows starts sizes es n) → (ls : List ℕ) → lowest (breaksBy t starts (rows starts sizes es n) ls) n ≡ lowest (breaks (table sizes es n) ls) n

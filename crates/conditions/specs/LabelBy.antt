@@ -27,12 +27,14 @@ badDartBy t starts ls u v =
 unfoldable pub notDueBy : List ℕ → List ℕ → List ℕ → ℕ → ℕ → Bool
 notDueBy t starts ls u v = not (border v || eqb (labelBy t starts ls u v) (due u))
 
+-- the dart from u to v breaks the rules, or u is a border context and the label is not due
+unfoldable pub wrongDartBy : List ℕ → List ℕ → List ℕ → ℕ → ℕ → Bool
+wrongDartBy t starts ls u v = badDartBy t starts ls u v || (border u && notDueBy t starts ls u v)
+
 -- the labels around u
 unfoldable pub aroundBy : List ℕ → Plan → List ℕ → ℕ → List ℕ
 aroundBy starts p ls u = take (length (ring p u)) (drop (getD starts u 0) ls)
 
--- u breaks the rules
+-- u breaks the rules: by a dart, or, of an inner context, by labels that are not four runs
 unfoldable pub breaksBy : List ℕ → List ℕ → Plan → List ℕ → ℕ → Bool
-breaksBy t starts p ls u =
-    any (badDartBy t starts ls u) (ring p u)
-    || cond (border u) (any (notDueBy t starts ls u) (ring p u)) (not (fourRuns (aroundBy starts p ls u)))
+breaksBy t starts p ls u = any (wrongDartBy t starts ls u) (ring p u) || (not (border u) && not (fourRuns (aroundBy starts p ls u)))

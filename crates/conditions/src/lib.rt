@@ -8,7 +8,7 @@ ghost use Rattle.lists.specs.Spans.{span};
 ghost use Rattle.model.specs.Plan.{neighbour};
 ghost use Rattle.model.specs.Labels.{breaks};
 ghost use Rattle.rings.specs.Tables.{rows, held};
-ghost use Rattle.conditions.specs.LabelBy.{labelBy, badDartBy, notDueBy, breaksBy};
+ghost use Rattle.conditions.specs.LabelBy.{labelBy, badDartBy, notDueBy, wrongDartBy, breaksBy};
 
 // The label of the dart from u to v, where the labels of the rings begin at these starts; 5 where there is no dart, and from 200 on.
 fn label_by<'a>(
@@ -54,29 +54,6 @@ fn bad_dart<'a>(
     label_by(places, starts, labels, v, u) != (l + 2) % 4
 }
 
-// Does a dart that leaves u break the rules? u's ring stands from a up to e among the entries.
-fn bad_darts<'a>(
-    places: &'a [u8; 40000],
-    starts: &'a [u16; 200],
-    entries: &'a [u16],
-    labels: &'a [u8],
-    u: usize,
-    a: usize,
-    e: usize,
-) -> bool
-    ensures { λ r. ⌜ r ≡ any (badDartBy (now (places .entry)) (now (starts .entry)) (now (labels .entry)) u) (map neighbour (span (now (entries .entry)) a e)) ⌝ }
-{
-    let mut i = a;
-    while i < e {
-        let v = rings::neighbour_of(arrays::num(entries, i));
-        if bad_dart(places, starts, labels, u, v) {
-            return true;
-        }
-        i += 1;
-    }
-    false
-}
-
 // Is the dart from u to v, of a border context, an inner dart without the label due?
 fn not_due<'a>(
     places: &'a [u8; 40000],
@@ -93,8 +70,27 @@ fn not_due<'a>(
     label_by(places, starts, labels, u, v) != labels::due_label(u)
 }
 
-// Has an inner dart of the border context u a label that is not due? u's ring stands from a up to e among the entries.
-fn not_dues<'a>(
+// Does the dart from u to v break the rules, or has it, where u is a border context, a label that is not due?
+fn wrong_dart<'a>(
+    places: &'a [u8; 40000],
+    starts: &'a [u16; 200],
+    labels: &'a [u8],
+    u: usize,
+    v: usize,
+) -> bool
+    ensures { λ r. ⌜ r ≡ wrongDartBy (now (places .entry)) (now (starts .entry)) (now (labels .entry)) u v ⌝ }
+{
+    if bad_dart(places, starts, labels, u, v) {
+        return true;
+    }
+    if u >= 4 {
+        return false;
+    }
+    not_due(places, starts, labels, u, v)
+}
+
+// Is a dart that leaves u wrong? u's ring stands from a up to e among the entries.
+fn wrong_darts<'a>(
     places: &'a [u8; 40000],
     starts: &'a [u16; 200],
     entries: &'a [u16],
@@ -103,12 +99,12 @@ fn not_dues<'a>(
     a: usize,
     e: usize,
 ) -> bool
-    ensures { λ r. ⌜ r ≡ any (notDueBy (now (places .entry)) (now (starts .entry)) (now (labels .entry)) u) (map neighbour (span (now (entries .entry)) a e)) ⌝ }
+    ensures { λ r. ⌜ r ≡ any (wrongDartBy (now (places .entry)) (now (starts .entry)) (now (labels .entry)) u) (map neighbour (span (now (entries .entry)) a e)) ⌝ }
 {
     let mut i = a;
     while i < e {
         let v = rings::neighbour_of(arrays::num(entries, i));
-        if not_due(places, starts, labels, u, v) {
+        if wrong_dart(places, starts, labels, u, v) {
             return true;
         }
         i += 1;
@@ -116,7 +112,7 @@ fn not_dues<'a>(
     false
 }
 
-// Does u break the rules? A border context's inner darts have the label due, an inner context's labels are four runs.
+// Does u break the rules: is one of its darts wrong, or are the labels of an inner context not four runs?
 fn breaks_at<'a>(
     places: &'a [u8; 40000],
     starts: &'a [u16; 200],
@@ -130,11 +126,11 @@ fn breaks_at<'a>(
 {
     let a = arrays::num(starts, u);
     let e = a + rings::size_of(sizes, n, u);
-    if bad_darts(places, starts, entries, labels, u, a, e) {
+    if wrong_darts(places, starts, entries, labels, u, a, e) {
         return true;
     }
     if u < 4 {
-        return not_dues(places, starts, entries, labels, u, a, e);
+        return false;
     }
     !labels::runs::four_runs(labels, a, e)
 }

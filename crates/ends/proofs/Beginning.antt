@@ -2,7 +2,7 @@
 use Prim.Native.Nat.{ℕ, zero, suc, _+_, _-_, _≤_, _<_}
 use mathlib.Core.Path.{_≡_, refl, sym, ap, _∙_, subst}
 use mathlib.Core.List.{List, [], _∷_, _++_, reverse, append-nil, List·Memᴰ}
-use mathlib.Core.Bool.{Bool, true, false, _||_}
+use mathlib.Core.Bool.{Bool, true, false, _||_, or-false}
 use native.Mathlib.Omega.{arith}
 use lib.ListN.{length, getD, set, take, drop, length-append, length-drop, length-take, length-reverse}
 use lib.Seq.{slice, take-nil, append-snoc, getD-drop}
@@ -12,12 +12,13 @@ use Rattle.lists.specs.Tests.{member}
 use Rattle.lists.specs.Spans.{stretch, zeros, padded}
 use Rattle.lists.proofs.Spans.{length-zeros}
 use Rattle.lists.proofs.Members.{mem-take, mem-drop, mem-reverse}
+use Rattle.lists.proofs.Padded.{getD-zeros, getD-padded}
 use Rattle.model.specs.Plan.{Plan, ring, east, west}
 use Rattle.model.specs.Sweep.{top, firstState}
 use Rattle.lists.specs.Folds.{each, down}
 use Rattle.frontier.specs.declared.Line.{Line}
 use Rattle.frontier.specs.Front.{Small, Sane, Rep, Marks, Front}
-use Rattle.frontier.proofs.Lines.{small-append, mem-small, small-getD, push-rep, marks-same, marks-set, getD-none, getD-padded, fresh-rep, stretch-all}
+use Rattle.frontier.proofs.Lines.{small-append, mem-small, small-getD, push-rep, marks-same, marks-set, fresh-rep, stretch-all}
 use Rattle.frontier.proofs.Under.{back-suc}
 use Rattle.frontier.specs.Run as run
 use Rattle.ends.specs.Ends.{front, marked, firstLine}
@@ -29,7 +30,7 @@ onward-first r i = let z : 1 + i ≡ suc i = omega arith in ap (λ (l : List ℕ
 
 -- ---- marks of the contexts of a list
 marks-none : Marks (zeros 256) (λ (c : ℕ). false)
-marks-none = record { size = length-zeros 256; mark = λ c h. eq-eqb (getD (zeros 256) c 0) 0 (getD-none 256 c) }
+marks-none = record { size = length-zeros 256; mark = λ c h. eq-eqb (getD (zeros 256) c 0) 0 (getD-zeros 256 c) }
 
 -- three tests in another order
 or-swap : (a b c : Bool) → (a || (b || c)) ≡ (b || a || c)
@@ -46,18 +47,13 @@ marks-list f a (suc k) m q h n =
     marks-same (λ (c : ℕ). member c (stretch f (suc a) k) || (eqb c (getD f a 0) || q c)) (λ (c : ℕ). eqb c (getD f a 0) || member c (stretch f (suc a) k) || q c) (λ c. or-swap (member c (stretch f (suc a) k)) (eqb c (getD f a 0)) (q c))
     (marks-list f (suc a) k (set m (getD f a 0) 1) (λ (c : ℕ). eqb c (getD f a 0) || q c) h (marks-set q (getD f a 0) 1 (let s = h a in omega arith) (omega arith) n))
 
--- a test or nothing
-or-none : (a : Bool) → (a || false) ≡ a
-or-none true = refl
-or-none false = refl
-
 -- the marks of a frontier are those of its contexts
 front-marks : (f : List ℕ) → Small f → Marks (marked (padded 512 f) (length f)) (λ (c : ℕ). member c f)
 unfolding marked
 front-marks f s =
     let z : length f - 0 ≡ length f = omega arith in
     marks-same (λ (c : ℕ). member c (stretch (padded 512 f) 0 (length f - 0)) || false) (λ (c : ℕ). member c f)
-    (λ c. or-none (member c (stretch (padded 512 f) 0 (length f - 0))) ∙ ap (member c) (ap (stretch (padded 512 f) 0) z ∙ stretch-all f))
+    (λ c. or-false (member c (stretch (padded 512 f) 0 (length f - 0))) ∙ ap (member c) (ap (stretch (padded 512 f) 0) z ∙ stretch-all f))
     (marks-list (padded 512 f) 0 (length f - 0) (zeros 256) (λ (c : ℕ). false) (λ t. let e = getD-padded 512 f t in let h = small-getD f t s in omega arith) marks-none)
 
 -- ---- North's inner neighbours

@@ -12,7 +12,8 @@ use Rattle.lists.specs.Words.{word}
 use Rattle.lists.proofs.Bools.{and-yes}
 use Rattle.model.specs.Outcome.{Outcome, accepted, require, _>>=_, _>>_}
 use Rattle.model.specs.File.{Cursor, Framed, frame, fitsRing, frameRings, frameRest, optional, decode}
-use Rattle.model.proofs.Outcomes.{same-value, bind-accepted, then-accepted, require-passed}
+use Rattle.model.proofs.Outcomes.{same-value, bind-accepted, require-passed}
+use Rattle.model.proofs.FileRead.{frame-says}
 use Rattle.exchange.proofs.Small.{Small, small-accepted, small-bind, small-then, small-require}
 
 -- a record at a small offset
@@ -27,17 +28,7 @@ small-frame c kind fits h =
 
 -- behind a record: its head of 4 bytes and a body of a length that is due
 framed-at : (c : Cursor) (kind : ℕ) (fits : ℕ → Bool) (r : Framed) → frame c kind fits ≡ accepted r → (m : ℕ) × (fits m ≡ true) × (r .1 .at ≡ c .at + 4 + m)
-unfolding frame
-framed-at c kind fits r e =
-    let s = c .rest in
-    let m = word s in
-    let (t₁, e₁) = then-accepted (require (leb 2 (length s) && leb 2 m && leb m (length s - 2)) 1 (c .at)) _ r e in
-    let (t₂, e₂) = then-accepted (require (eqb (word (drop 2 s)) kind && fits (m - 2)) 2 (c .at)) _ r e₁ in
-    let (here, _) = and-yes (leb 2 (length s) && leb 2 m) (leb m (length s - 2)) (require-passed _ 1 (c .at) t₁) in
-    let low = leb-true 2 m (and-yes (leb 2 (length s)) (leb 2 m) here .1) in
-    let (_, due) = and-yes (eqb (word (drop 2 s)) kind) (fits (m - 2)) (require-passed _ 2 (c .at) t₂) in
-    let far : c .at + 2 + m ≡ r .1 .at = ap (λ (f : Framed). f .1 .at) (same-value e₂) in
-    (m - 2, due, omega arith)
+framed-at c kind fits r e = let q = frame-says c kind fits r e in (word (c .rest) - 2, q .fitted, omega (arith, q .long, q .at))
 
 -- behind a ring of a plan with at most 200 contexts
 ring-at : (n : ℕ) (c : Cursor) (r : Framed) → n ≤ 200 → frame c 2 (fitsRing n) ≡ accepted r → r .1 .at ≤ c .at + 402

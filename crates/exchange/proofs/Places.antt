@@ -9,7 +9,7 @@ use lib.Dec.{eqb, ltb, leb}
 use Rattle.lists.specs.Tests.{sameList}
 use Rattle.model.specs.Outcome.{Outcome, accepted, passed, require, rule, _>>=_, _>>_}
 use Rattle.model.specs.Plan.{Plan, count, dartCount, entryCount, badEntry, badRepeat, unreturned, badBorder, badFace, planRules, north, east, west}
-use Rattle.model.specs.Labels.{breaks, labelRules}
+use Rattle.model.specs.Labels.{labelRules}
 use Rattle.model.specs.Chart.{Chart, Constraint, pass, settle, leastNumbers, tie, xConstraints, yConstraints, isPlacement, leastPlacement, slope, chart, sameChart}
 use Rattle.model.specs.Sweep.{State, eligible, choose, choices, finished, finish, advance, firstState, sweepFrom, sweep}
 use Rattle.model.specs.Turn.{turn}
@@ -23,7 +23,7 @@ use Rattle.model.proofs.FileRead.{read-fits}
 use Rattle.guarantee.proofs.Sized.{Good}
 use Rattle.exchange.proofs.Small.{Small, small-accepted, small-refused, small-bind, small-then, small-require, small-rule}
 use Rattle.exchange.proofs.Framing.{small-decode}
-use Rattle.exchange.proofs.Turning.{small-turn}
+use Rattle.exchange.proofs.Turning.{small-turn, small-labels}
 use Rattle.exchange.proofs.Sizes.{file-short}
 
 -- ---- the rules
@@ -38,11 +38,6 @@ small-plan p h =
     (λ _ _. small-then (require (eqb (entryCount p) (dartCount n)) 7 0) _ (small-require (eqb (entryCount p) (dartCount n)) 7 0 (omega arith) (omega arith))
     (λ _ _. small-then (rule 8 4 (badBorder p)) _ (small-rule 8 4 (badBorder p) (omega arith) (omega arith))
     (λ _ _. small-rule 9 n (badFace p) (omega arith) (omega arith))))))
-
--- 10
-small-labels : (p : Plan) (ls : List ℕ) → count p ≤ 200 → Small (labelRules p ls)
-unfolding labelRules
-small-labels p ls h = small-rule 10 (count p) (breaks p ls) (omega arith) (omega arith)
 
 -- numbers that are raised until nothing rises
 small-settle : (ds : List Constraint) (fuel : ℕ) (ks : List ℕ) → Small (settle ds fuel ks)

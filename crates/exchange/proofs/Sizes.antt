@@ -19,25 +19,20 @@ use Rattle.model.specs.File.{Sheet, fresh, opened, labelled, charted, entry, po
 use Rattle.model.specs.Calls.{ringStart}
 use Rattle.model.proofs.Plans.{adjacent-from}
 use Rattle.model.proofs.PlanRules.{sound}
-use Rattle.model.proofs.FileWrite.{PlanFits}
+use Rattle.model.proofs.FileWrite.{PlanFits, length-entry}
 use Rattle.guarantee.proofs.Sized.{Good}
 
 -- ---- the file
--- a record: a head of 4 bytes, and its body
-long-entry : (kind : ℕ) (body : List ℕ) → length (entry kind body) ≡ 4 + length body
-unfolding entry bytes
-long-entry kind body = omega arith
-
 -- the records of rings
 long-rings : (rs : List (List ℕ)) → length (ringsOut rs) ≡ 4 * length rs + 2 * length (concat rs)
 unfolding ringsOut
 long-rings [] = refl
-long-rings (r ∷ rs) = omega (arith, long-rings rs, length-append (entry 2 (bytes r)) (ringsOut rs), long-entry 2 (bytes r), length-bytes r, length-append r (concat rs))
+long-rings (r ∷ rs) = omega (arith, long-rings rs, length-append (entry 2 (bytes r)) (ringsOut rs), length-entry 2 (bytes r), length-bytes r, length-append r (concat rs))
 
 -- the records of a plan
 long-plan : (p : Plan) → length (planOut p) ≡ 6 + 4 * count p + 2 * entryCount p
 unfolding planOut entryCount
-long-plan p = omega (arith, long-rings (p .rings), length-append (entry 1 (bytes (count p ∷ []))) (ringsOut (p .rings)), long-entry 1 (bytes (count p ∷ [])), length-bytes (count p ∷ []))
+long-plan p = omega (arith, long-rings (p .rings), length-append (entry 1 (bytes (count p ∷ []))) (ringsOut (p .rings)), length-entry 1 (bytes (count p ∷ [])), length-bytes (count p ∷ []))
 
 -- the points of a chart
 long-points : (xs ys : List ℕ) → length (points xs ys) ≤ 2 * length xs
@@ -64,14 +59,14 @@ file-short (labelled p ls) g =
     let (f, l) = g .sized in
     let h = plan-short p f (g .kept .0) in
     let high = f .high in
-    omega (arith, length-append (planOut p) (entry 3 ls), long-entry 3 ls)
+    omega (arith, length-append (planOut p) (entry 3 ls), length-entry 3 ls)
 file-short (charted p ls c) g =
     let (f, l, k) = g .sized in
     let h = plan-short p f (g .kept .0) in
     let high = f .high in
     let xs = k .xs-each in
     let q = long-chart c in
-    omega (arith, length-append (planOut p) (entry 3 ls), long-entry 3 ls, length-append (planOut p ++ entry 3 ls) (entry 4 (bytes (chartOut c))), long-entry 4 (bytes (chartOut c)))
+    omega (arith, length-append (planOut p) (entry 3 ls), length-entry 3 ls, length-append (planOut p ++ entry 3 ls) (entry 4 (bytes (chartOut c))), length-entry 4 (bytes (chartOut c)))
 
 -- ---- the scan
 -- what is found encloses

@@ -18,12 +18,12 @@ use Rattle.lists.proofs.Concats.{map-append}
 use Rattle.lists.proofs.Counts.{counted-le, length-counted}
 use Rattle.model.specs.Outcome.{require, rule}
 use Rattle.model.specs.Plan.{Plan, Dart, count, adjacent, border, innerEdge, sameDart}
-use Rattle.model.specs.Labels.{breaks, labelRules}
+use Rattle.model.specs.Labels.{labelRules, breaks}
 use Rattle.model.specs.Turn.{sameEdge, reverseDart, badPair, turnEdges, quarters, turn}
 use Rattle.model.proofs.Outcomes.{require-passed}
 use Rattle.model.proofs.Plans.{adjacent-from}
 use Rattle.model.proofs.PlanRules.{Sound}
-use Rattle.exchange.proofs.Small.{Small, small-accepted, small-then, small-require, small-rule, first-most}
+use Rattle.exchange.proofs.Small.{Small, small-accepted, small-then, small-require, first-most, small-rule}
 
 -- what stands before the first that passes does not pass
 first-before : (f : ℕ → Bool) (a k v : ℕ) → a ≤ v → v < firstFrom f a k → f v ≡ false
@@ -124,9 +124,9 @@ module _ (p : Plan) (s : Sound p) (few : count p ≤ 200) (es : List Dart) where
   few-before = few-pairs (lowest (badPair p es) (length es)) (let h = first-most (badPair p es) 0 (length es) in omega arith) (λ v l. first-before (badPair p es) 0 (length es) v (omega arith) l)
 
 -- 10
-small-labels : (p : Plan) (ms : List ℕ) → count p ≤ 200 → Small (labelRules p ms)
+pub small-labels : (p : Plan) (ls : List ℕ) → count p ≤ 200 → Small (labelRules p ls)
 unfolding labelRules
-small-labels p ms few = small-rule 10 (count p) (breaks p ms) (omega arith) (omega arith)
+small-labels p ls few = small-rule 10 (count p) (breaks p ls) (omega arith) (omega arith)
 
 -- 15, then 10
 pub small-turn : (p : Plan) → Sound p → count p ≤ 200 → (ls items : List ℕ) (direction : ℕ) → Small (turn p ls items direction)

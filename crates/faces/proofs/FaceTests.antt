@@ -1,17 +1,17 @@
 -- The face step, the outer darts, and plan rules 8 and 9, test by test as the code makes them.
-use Prim.Native.Nat.{ℕ, zero, suc, _+_, _-_, _%_, _≤_, _<_}
+use Prim.Native.Nat.{ℕ, _+_, _-_, _%_, _≤_, _<_}
 use mathlib.Core.Path.{_≡_, refl, sym, ap, _∙_}
-use mathlib.Core.List.{List, [], _∷_, map}
+use mathlib.Core.List.{List, [], _∷_}
 use mathlib.Core.Bool.{Bool, true, false, not, _&&_, _||_}
 use native.Mathlib.Omega.{arith}
 use lib.ListN.{length, getD}
-use lib.Seq.{ext-getD}
-use lib.Dec.{eqb, ltb}
+use lib.Dec.{eqb}
 use borrow.Author.Tests.{lt-ltb, le-ltb, eq-eqb, ne-eqb}
 use Rattle.lists.specs.Tests.{any, member}
-use Rattle.lists.specs.Spans.{stretch, span}
+use Rattle.lists.specs.Spans.{span}
 use Rattle.lists.proofs.Tests.{any-map}
-use Rattle.lists.proofs.Spans.{length-stretch, getD-stretch}
+use Rattle.lists.proofs.Spans.{getD-inside}
+use Rattle.lists.proofs.Stretches.{span-whole}
 use Rattle.rings.specs.Tables.{sizeOf, rows}
 use Rattle.faces.proofs.Flags.{flag-yes, flag-no}
 use Rattle.rings.proofs.Rows.{ring-size}
@@ -46,11 +46,6 @@ module _ (p : Plan) (u v w x : ℕ) (after-v : w ≡ step p (u, v) .1) (after-w 
   closes-never h = ap (λ (t : Bool). t && eqb (step p (w, x) .1) v) (sym (ne-eqb x u h)) ∙ three-steps (step p (w, x) .1) refl
 
 -- ---- rule 8: the tests of a border ring r of size k, in order; a is its first entry, z its last
-any-default : (r : List ℕ) (i d e : ℕ) → i < length r → getD r i d ≡ getD r i e
-any-default [] i d e h = absurd (omega arith)
-any-default (a ∷ r) zero d e h = refl
-any-default (a ∷ r) (suc i) d e h = any-default r i d e (omega arith)
-
 bad-first : (f g m : Bool) → f ≡ false → true ≡ not (f && g && not m)
 bad-first f g m e = rw e
 
@@ -87,7 +82,7 @@ module _ (p : Plan) (u k : ℕ) (side : u < 4) (long : k ≡ length (ring p u)) 
 
   module _ (some : 0 < k) (a : ℕ) (first : a ≡ getD (ring p u) 0 0) where
     first-is : a ≡ getD r 0 u
-    first-is = first ∙ any-default r 0 0 u (omega arith)
+    first-is = first ∙ getD-inside r 0 0 u (omega arith)
 
     first-ok : a ≡ (u + 1) % 4 → firstOk ≡ true
     first-ok e = eq-eqb (getD r 0 u) ((u + 1) % 4) (sym first-is ∙ e)
@@ -98,7 +93,7 @@ module _ (p : Plan) (u k : ℕ) (side : u < 4) (long : k ≡ length (ring p u)) 
 
     module _ (begins : a ≡ (u + 1) % 4) (z : ℕ) (last : z ≡ getD (ring p u) (k - 1) 0) where
       last-is : z ≡ getD r (length r - 1) u
-      last-is = last ∙ any-default r (k - 1) 0 u (omega arith) ∙ ap (λ (j : ℕ). getD r (j - 1) u) long
+      last-is = last ∙ getD-inside r (k - 1) 0 u (omega arith) ∙ ap (λ (j : ℕ). getD r (j - 1) u) long
 
       pub border-last : (z ≡ (u + 3) % 4 → ⊥) → true ≡ badBorder p u
       unfolding badBorder
@@ -129,14 +124,6 @@ module _ (p : Plan) (u : ℕ) {v w : ℕ} {t : Bool} (there : v ≡ w) (bad : t 
 
   pub dart-good : t ≡ false → badDart p u w ≡ false
   dart-good h = flag-no bad-there h
-
--- a span of all of a list is the list
-span-whole : (l : List ℕ) (k : ℕ) → k ≡ length l → span l 0 k ≡ l
-span-whole l k e =
-    let z : k - 0 ≡ k = omega arith in
-    ap (stretch l 0) z
-    ∙ ext-getD 0 (stretch l 0 k) l (length-stretch l 0 k ∙ e)
-    (λ i h. let s = length-stretch l 0 k in getD-stretch l 0 k i (omega arith) ∙ ap (λ (j : ℕ). getD l j 0) (omega arith))
 
 pub face-darts : (p : Plan) (u k : ℕ) → k ≡ length (ring p u) → any (badDart p u) (span (ring p u) 0 k) ≡ badFace p u
 unfolding badFace dartsFrom

@@ -5,7 +5,7 @@ use mathlib.Core.List.{List, [], _∷_}
 use mathlib.Core.Bool.{Bool, true, false, cond, not, _&&_, _||_, false≢true, true≢false}
 use native.Mathlib.Numerals.{add-one}
 use native.Mathlib.Omega.{arith}
-use lib.ListN.{length, getD, set, replicate}
+use lib.ListN.{length, getD, set}
 use lib.Seq.{getD-set-same, getD-set-other}
 use lib.Arith.{lt-of-le-ne}
 use lib.Dec.{eqb, ltb}
@@ -18,6 +18,7 @@ use Rattle.lists.proofs.Bools.{and-yes, no-or}
 use Rattle.lists.proofs.Spans.{length-zeros}
 use Rattle.lists.proofs.Tests.{member-mem}
 use Rattle.lists.proofs.Places.{getD-any, index-below, index-is}
+use Rattle.lists.proofs.Padded.{getD-zeros}
 use Rattle.model.specs.Plan.{Plan, count, ring, adjacent, next, step, closes}
 use Rattle.model.proofs.Plans.{ring-outside}
 use Rattle.rings.proofs.Rows.{next-after, next-round, next-alone}
@@ -163,17 +164,6 @@ module _ (p : Plan) where
       go a x y f g false q = g a (lt-of-le-ne {i = i} {k = a} x (eqb-false i a q)) (omega arith)
 
   -- ---- from a table of zeros
-  no-mark : (k : ℕ) → getD (zeros 40000) k 0 ≡ 0
-  no-mark k = go 40000 k
-    where
-      go : (n k : ℕ) → getD (zeros n) k 0 ≡ 0
-      go n k = unfold zeros in none n k
-        where
-          none : (n k : ℕ) → getD {A = ℕ} (replicate n 0) k 0 ≡ 0
-          none zero k = refl
-          none (suc n) zero = refl
-          none (suc n) (suc k) = none n k
-
   -- each cell of the table of followers
   followers-cell : (u v : ℕ) → u < 200 → v < 200 → getD (followersOf p) (cell u v) 0 ≡ says u v
   unfolding followersOf noteRings tell
@@ -183,15 +173,15 @@ module _ (p : Plan) where
       m = min (count p) 200
 
       go : (b : Bool) → ltb u m ≡ b → getD (each (row p) 0 (m - 0) (zeros 40000, true) .0) (cell u v) 0 ≡ says u v
-      go true e = let l = ltb-true u m e in each-cell u v k 0 (m - 0) (zeros 40000, true) (length-zeros 40000) (omega arith) (omega arith) (omega arith) (no-mark (cell u v))
+      go true e = let l = ltb-true u m e in each-cell u v k 0 (m - 0) (zeros 40000, true) (length-zeros 40000) (omega arith) (omega arith) (omega arith) (getD-zeros 40000 (cell u v))
       go false e =
           let l = ltb-false u m e in
-          each-kept u v k 0 (m - 0) (zeros 40000, true) (λ j x y q. omega arith) ∙ no-mark (cell u v) ∙ sym (ap (λ (r : List ℕ). tell v (getD r 0 0) r) (ring-outside p u (omega arith)))
+          each-kept u v k 0 (m - 0) (zeros 40000, true) (λ j x y q. omega arith) ∙ getD-zeros 40000 (cell u v) ∙ sym (ap (λ (r : List ℕ). tell v (getD r 0 0) r) (ring-outside p u (omega arith)))
 
   -- Where every entry has a cell of its own, no ring repeats an entry
   pub apart-once : count p ≤ 200 → apart p ≡ true → (u : ℕ) → u < count p → repeats (ring p u) ≡ false
   unfolding apart noteRings
-  apart-once h e u l = let m : min (count p) 200 ≡ count p = omega arith in each-apart 0 (min (count p) 200 - 0) (zeros 40000, true) (length-zeros 40000) (omega arith) (λ a v x k w. no-mark (cell a v)) e .1 u (omega arith) (omega arith)
+  apart-once h e u l = let m : min (count p) 200 ≡ count p = omega arith in each-apart 0 (min (count p) 200 - 0) (zeros 40000, true) (length-zeros 40000) (omega arith) (λ a v x k w. getD-zeros 40000 (cell a v)) e .1 u (omega arith) (omega arith)
 
 -- the entry after v, where v is there
 next-mark : (v : ℕ) (r : List ℕ) → member v r ≡ true → getD r (suc (indexOf v r)) (getD r 0 0) ≡ next v r

@@ -3,14 +3,13 @@ use Prim.Native.Nat.{ℕ, zero, suc, _+_, _-_, _*_, _≤_, _<_}
 use mathlib.Core.Path.{_≡_, refl, sym, ap, _∙_}
 use mathlib.Core.List.{List, [], _∷_, _++_, map, append-assoc, append-nil}
 use native.Mathlib.Omega.{arith}
-use lib.ListN.{length, getD, set, replicate, length-append, List·getD-append}
-use lib.Seq.{ext-getD}
+use lib.ListN.{length, getD, set, replicate, length-append}
 use Rattle.lists.specs.Ranges.{from}
 use Rattle.lists.specs.Words.{words}
 use Rattle.lists.specs.Spans.{stretch, zeros, padded}
 use Rattle.lists.proofs.Ranges.{getD-map-from}
-use Rattle.lists.proofs.Spans.{length-stretch, getD-stretch}
 use Rattle.lists.proofs.Loops.{padded-none, padded-put}
+use Rattle.lists.proofs.Padded.{stretch-padded}
 use Rattle.model.specs.Outcome.{Outcome, accepted, refused, _>>=_}
 use Rattle.model.specs.File.{Cursor, Framed, frame, fitsRing, frameRings}
 use Rattle.rings.specs.Tables.{startOf, startsOf}
@@ -38,16 +37,6 @@ behind-more : (at : ℕ) (l : List ℕ) (z : ℕ) → behind at (l ++ z ∷ []) 
 unfolding behind
 behind-more at [] z = refl
 behind-more at (k ∷ l) z = behind-more (at + 4 + 2 * k) l z
-
--- the first k of an array that begins with k sizes
-pub stretch-padded : (l : List ℕ) → stretch (padded 200 l) 0 (length l) ≡ l
-unfolding padded
-stretch-padded l =
-    let size = length-stretch (padded 200 l) 0 (length l) in
-    ext-getD 0 (stretch (padded 200 l) 0 (length l)) l size
-    (λ i h.
-    let z : 0 + i ≡ i = omega arith in
-    getD-stretch (padded 200 l) 0 (length l) i (omega arith) ∙ ap (λ (j : ℕ). getD (padded 200 l) j 0) z ∙ List·getD-append l (zeros (200 - length l)) 0 i (omega arith))
 
 -- rings record after record are those of the plan that the sizes and the file make
 rings-lent : (file b : List ℕ) (u k at : ℕ) → u + k ≤ 200 → at ≡ 6 + 4 * u + 2 * startOf b u
@@ -138,7 +127,7 @@ module _ {file : List ℕ} {n at i : ℕ} {sizes : List ℕ} (inv : Walks file n
   walks-sizes q =
       let b = inv .filled in
       let l = inv .seen in
-      b ∙ ap (padded 200) (sym (stretch-padded l)) ∙ λ t. padded 200 (stretch (sym b t) 0 ((inv .count ∙ q) t))
+      b ∙ ap (padded 200) (sym (stretch-padded 200 l)) ∙ λ t. padded 200 (stretch (sym b t) 0 ((inv .count ∙ q) t))
 
   pub walks-end : i ≡ n → n ≤ 200 → accepted (lent (startsOf sizes) sizes file n .rings, cursor file at) ≡ frameRings n n (cursor file 6)
   unfolding frameRings lent
@@ -146,7 +135,7 @@ module _ {file : List ℕ} {n at i : ℕ} {sizes : List ℕ} (inv : Walks file n
       let l = inv .seen in
       let b = inv .filled in
       let z : n - i ≡ 0 = omega arith in
-      let all : stretch sizes 0 n ≡ l = (λ t. stretch (b t) 0 (sym (inv .count ∙ q) t)) ∙ stretch-padded l in
+      let all : stretch sizes 0 n ≡ l = (λ t. stretch (b t) 0 (sym (inv .count ∙ q) t)) ∙ stretch-padded 200 l in
       let begin = start-first sizes in
       let rings = sym (rings-lent file sizes 0 n 6 (omega arith) (omega arith)) ∙ ap (ringsIn file 6) all ∙ sym (append-nil (ringsIn file 6 l)) in
       (λ t. accepted (rings t, cursor file at)) ∙ sym (inv .same ∙ ap (λ (k : ℕ). after (ringsIn file 6 l) (frameRings n k (cursor file at))) z)

@@ -1,21 +1,22 @@
 -- What a line of the engine holds: a list in an array, and marks.
 use Prim.Native.Nat.{ℕ, zero, suc, _+_, _-_, _≤_, _<_}
-use mathlib.Core.Path.{_≡_, refl, ap, sym, _∙_}
+use mathlib.Core.Path.{_≡_, refl, ap, _∙_}
 use mathlib.Core.List.{List, [], _∷_, _++_, List·Memᴰ, List·Memᴰ·head, List·Memᴰ·tail}
 use mathlib.Core.Bool.{Bool, true, false, cond, not, _||_}
 use native.Mathlib.Omega.{arith}
 use lib.ListN.{length, getD, set, length-append, length-set, take, drop}
-use lib.Seq.{getD-set-same, getD-set-other, drop-cons, take-all}
+use lib.Seq.{getD-set-same, getD-set-other}
 use lib.Dec.{eqb, ltb}
 use borrow.Author.Tests.{ne-eqb, eqb-true, eqb-false, lt-ltb}
 use Rattle.lists.specs.Tests.{member, repeats}
-use Rattle.lists.specs.Spans.{zeros, padded, stretch}
+use Rattle.lists.specs.Spans.{padded, stretch}
 use Rattle.lists.proofs.Counts.{counted-le, length-counted}
 use Rattle.lists.proofs.Loops.{padded-put}
+use Rattle.lists.proofs.Spans as spans
+use Rattle.lists.proofs.Padded.{stretch-held, stretch-padded}
 use Rattle.frontier.specs.declared.Line.{Line}
 use Rattle.frontier.specs.Front.{Small, Rep, Marks}
 use Rattle.frontier.specs.Run.{line, pushed, fresh}
-use Rattle.model.specs.Sweep.{below}
 
 -- ---- lists of numbers below 200
 -- two such lists joined
@@ -47,24 +48,6 @@ no-longer l r h =
     omega arith
 
 -- ---- arrays that hold a list
--- every entry of zeros is 0
-pub getD-none : (k i : ℕ) → getD (zeros k) i 0 ≡ 0
-unfolding zeros
-getD-none zero i = refl
-getD-none (suc k) zero = refl
-getD-none (suc k) (suc i) = getD-none k i
-
--- a list and zeros after it read as the list
-getD-padding : (l : List ℕ) (k i : ℕ) → getD (l ++ zeros k) i 0 ≡ getD l i 0
-getD-padding [] k i = getD-none k i
-getD-padding (a ∷ l) k zero = refl
-getD-padding (a ∷ l) k (suc i) = getD-padding l k i
-
--- an array that holds a list reads as the list
-pub getD-padded : (k : ℕ) (l : List ℕ) (i : ℕ) → getD (padded k l) i 0 ≡ getD l i 0
-unfolding padded
-getD-padded k l i = getD-padding l (k - length l) i
-
 -- a line with an entry put at its end holds the list with it
 pub push-rep : (v : Line) (l : List ℕ) (x : ℕ) → Rep v l → length l < 512 → Rep (pushed v x) (l ++ (x ∷ []))
 unfolding pushed
@@ -100,14 +83,11 @@ pushed-marks v x = go (ltb (v .len) 512)
 -- ---- an array that holds a list, read back
 -- a stretch of the array is a part of the list
 pub stretch-part : (f : List ℕ) (a k : ℕ) → a + k ≤ length f → stretch (padded 512 f) a k ≡ take k (drop a f)
-unfolding stretch
-stretch-part f a zero h = refl
-stretch-part f a (suc k) h =
-    (λ i. getD-padded 512 f a i ∷ stretch-part f (suc a) k (omega arith) i) ∙ sym (ap (take (suc k)) (drop-cons f a 0 (omega arith)))
+stretch-part f a k h = stretch-held 512 f a k ∙ spans.stretch-part f a k h
 
 -- the whole list read back
 pub stretch-all : (f : List ℕ) → stretch (padded 512 f) 0 (length f) ≡ f
-stretch-all f = stretch-part f 0 (length f) (omega arith) ∙ take-all (length f) f (omega arith)
+stretch-all f = stretch-padded 512 f
 
 -- a fresh line holds nothing
 pub fresh-rep : (m : List ℕ) → Rep (fresh m) []

@@ -10,12 +10,13 @@ use lib.Dec.{eqb}
 use Rattle.lists.specs.Parts.{indexOf, before}
 use Rattle.lists.specs.Spans.{padded}
 use Rattle.lists.proofs.Members.{mem-take, mem-drop, mem-reverse}
+use Rattle.lists.proofs.Padded.{getD-padded}
 use Rattle.model.specs.Plan.{Plan, ring, onward, between}
 use Rattle.model.specs.Sweep.{below}
 use Rattle.rings.proofs.Rows.{index-le}
 use Rattle.frontier.specs.Front.{Small, Sane}
 use Rattle.frontier.specs.Run.{gap, depth, under}
-use Rattle.frontier.proofs.Lines.{mem-small, getD-padded}
+use Rattle.frontier.proofs.Lines.{mem-small}
 
 -- what stands before an entry is what is taken up to its place
 pub before-take : (b : ℕ) (l : List ℕ) → before b l ≡ take (indexOf b l) l

@@ -8,9 +8,10 @@ use lib.ListN.{length, length-map}
 use Rattle.lists.specs.Parts.{steps, cycle}
 use Rattle.lists.proofs.Sums.{total, total-map, total-most}
 use Rattle.lists.proofs.Cycles.{cycle-map, length-cycle}
+use Rattle.lists.proofs.Ranges.{lt-or-le}
 use Rattle.geometry.specs.Points.{Position, Left}
 use Rattle.geometry.specs.Compass.{Heads, angle, Turning}
-use Rattle.geometry.proofs.Products.{lt-or-le, product-le, product-lt}
+use Rattle.geometry.proofs.Products.{product-le, product-lt}
 use Rattle.geometry.proofs.Walks.{along}
 
 -- the angles from one label to another, over the labels between

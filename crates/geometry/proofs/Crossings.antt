@@ -8,8 +8,9 @@ use native.Mathlib.Omega.{arith}
 use native.Mathlib.Nat.{mul-pos}
 use borrow.Author.Tests.{lt-ltb, le-ltb, le-leb, lt-leb}
 use Rattle.lists.proofs.Sums.{total}
+use Rattle.lists.proofs.Ranges.{lt-or-le}
 use Rattle.geometry.specs.Points.{Position, areaPlus, areaMinus, Left, left, OnSegment, crossing, inside, InBox, scaled}
-use Rattle.geometry.proofs.Products.{lt-or-le, weak, poly, product-le, product-lt}
+use Rattle.geometry.proofs.Products.{weak, poly, product-le, product-lt}
 use Rattle.geometry.proofs.Walks.{along, against}
 
 -- ---- the tests

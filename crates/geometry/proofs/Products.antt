@@ -1,17 +1,8 @@
 -- Two ways to compare numbers, and the sign of a product of differences.
 use Prim.Native.Nat.{ℕ, _+_, _*_, _-_, _≤_, _<_}
 use mathlib.Core.Path.{_≡_, subst}
-use mathlib.Core.Logic.{_⊎_, inl, inr}
 use native.Mathlib.Omega.{arith}
-use native.Mathlib.Decide.{decLt}
 use native.Mathlib.Nat.{mul-add, add-mul, mul-comm, mul-left-comm, mul-assoc}
-
-pub lt-or-le : (a b : ℕ) → (a < b) ⊎ (b ≤ a)
-lt-or-le a b = go (decLt a b)
-  where
-    go : Dec (a < b) → (a < b) ⊎ (b ≤ a)
-    go (yes h) = inl h
-    go (no h) = inr (omega arith)
 
 pub weak : {a b : ℕ} → a < b → a ≤ b
 weak h = omega arith

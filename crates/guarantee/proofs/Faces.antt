@@ -15,10 +15,10 @@ use Rattle.lists.proofs.Joins.{join-mem, mem-join}
 use Rattle.lists.proofs.Concats.{join-join}
 use Rattle.lists.proofs.Once.{Once, once-append, once-join, once-map, once-from}
 use Rattle.lists.proofs.Sums.{tally-join}
+use Rattle.lists.proofs.Ranges.{lt-or-le}
 use Rattle.model.specs.Plan.{Plan, Dart, Face, contexts, ring, adjacent, dartsFrom, darts, sameDart, step, outer, closes, walk, onInnerFace, facesFrom, faces}
 use Rattle.model.proofs.PlanRules.{Sound, border-next}
 use Rattle.model.proofs.Placements.{mem-darts, darts-mem}
-use Rattle.geometry.proofs.Products.{lt-or-le}
 use Rattle.geometry.proofs.Walks.{ClosedMap}
 use Rattle.guarantee.specs.InnerFaces.{InnerFace, InnerFaces, passes}
 use Rattle.guarantee.proofs.Darts.{dart, same-dart, dart-same, border-walk, outer-on-border, border-is-outer, once-darts, Inner, step-inner, three-steps, third-dart, outer-says}

@@ -14,13 +14,13 @@ use Rattle.lists.specs.Parts.{cycle}
 use Rattle.lists.proofs.Bools.{both}
 use Rattle.lists.proofs.Places.{mem-at, getD-any, index-at}
 use Rattle.lists.proofs.Cycles.{cycle-map}
+use Rattle.lists.proofs.Ranges.{lt-or-le}
 use Rattle.model.specs.Plan.{Plan, Dart, neighbour, entries, ring, adjacent, next, outer}
 use Rattle.model.specs.Labels.{unlabelled, turned, start, labelsAround, labelOf}
 use Rattle.model.specs.Transversal.{Transversal}
 use Rattle.model.proofs.Plans.{adjacent-mem, mem-adjacent, adjacent-from}
 use Rattle.model.proofs.PlanRules.{Sound}
 use Rattle.geometry.specs.Compass.{angle}
-use Rattle.geometry.proofs.Products.{lt-or-le}
 use Rattle.guarantee.proofs.Rings.{next-mem, next-on-cycle}
 use Rattle.guarantee.proofs.Runs.{Onward, runs-onward}
 use Rattle.guarantee.proofs.Darts.{dart, below-four, says-outer, once-ring}

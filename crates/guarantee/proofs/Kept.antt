@@ -1,27 +1,28 @@
 -- After every list of calls plan and labels keep their rules, and a chart that stands is their chart; it stands exactly if the last accepted call draws one.
-use Prim.Native.Nat.{ℕ, _%_}
+use Prim.Native.Nat.{ℕ}
 use mathlib.Core.Path.{_≡_, refl, sym, ap, _∙_, subst}
 use mathlib.Core.List.{List, [], _∷_}
 use mathlib.Core.Bool.{true, false, _&&_}
 use mathlib.Core.Option.{Option, some}
 use lib.ListN.{length}
-use lib.Dec.{eqb, ltb}
+use lib.Dec.{eqb}
 use borrow.Author.Tests.{eqb-true}
 use Rattle.lists.specs.Tests.{sameList}
 use Rattle.lists.specs.Parts.{pairs}
 use Rattle.lists.proofs.Bools.{and-yes}
 use Rattle.lists.proofs.Tests.{same-eq}
-use Rattle.model.specs.Outcome.{Outcome, accepted, refused, passed, _>>=_, _>>_, require, rule, taken}
+use Rattle.model.specs.Outcome.{Outcome, accepted, refused, passed, _>>=_, _>>_, require, taken}
 use Rattle.model.specs.Plan.{Plan, count, dartCount, planRules}
 use Rattle.model.specs.Labels.{labelRules}
 use Rattle.model.specs.Chart.{Chart, chart, sameChart}
 use Rattle.model.specs.Sweep.{sweep, sweepFrom, firstState}
-use Rattle.model.specs.Turn.{turn, turnEdges, quarters, badPair}
+use Rattle.model.specs.Turn.{turn, turnEdges, quarters}
 use Rattle.model.specs.File.{Sheet, fresh, opened, labelled, charted}
 use Rattle.model.specs.Calls.{planOf, labelsOf, judge, offered, offerCall, sweepCall, turnCall, chartCall}
 use Rattle.model.specs.CallLists.{Call, open-file, offer-labels, sweep-labels, turn-edges, draw-chart, call, run, Ledger, planAndLabels, enter, standing}
 use Rattle.model.proofs.Outcomes.{same-value, not-both, bind-accepted, then-accepted, require-passed}
 use Rattle.model.proofs.RingPart.{open-accepted}
+use Rattle.model.proofs.LabelCounts.{turn-accepted}
 use Rattle.guarantee.specs.Verdicts.{newer, lastAccepted, draws, present}
 use Rattle.guarantee.proofs.Records.{opened-holds}
 use Rattle.guarantee.proofs.Agreement.{entered, agrees}
@@ -63,13 +64,7 @@ unfolding sweep
 swept-kept p ms e = let (ls, _, r) = bind-accepted (sweepFrom p (count p) (firstState p)) _ ms e in tested p ls ms r
 
 turned-kept : (p : Plan) (ls items : List ℕ) (d : ℕ) (ms : List ℕ) → turn p ls items d ≡ accepted ms → labelRules p ms ≡ passed
-unfolding turn
-turned-kept p ls items d ms e =
-    let es = pairs items in
-    let (_, e₁) = then-accepted (rule 15 (length es) (badPair p es)) _ ms e in
-    let (_, e₂) = then-accepted (require (eqb (length items % 2) 0) 15 (length es)) _ ms e₁ in
-    let (_, e₃) = then-accepted (require (ltb d 2) 15 (length es)) _ ms e₂ in
-    tested p (turnEdges p (quarters d) es ls) ms e₃
+turned-kept p ls items d ms e = tested p (turnEdges p (quarters d) (pairs items) ls) ms (turn-accepted p ls items d ms e)
 
 same-chart : (c d : Chart) → sameChart c d ≡ true → c ≡ d
 unfolding sameChart

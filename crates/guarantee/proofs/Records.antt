@@ -6,45 +6,17 @@ use mathlib.Core.Bool.{Bool, true, false, cond, _&&_, _||_, false≢true}
 use native.Mathlib.Omega.{arith}
 use lib.ListN.{length, drop, length-drop}
 use lib.Dec.{eqb, leb}
-use borrow.Author.Tests.{eqb-true, leb-true}
 use Rattle.lists.specs.Tests.{empty, member}
 use Rattle.lists.specs.Words.{word}
-use Rattle.lists.proofs.Bools.{and-yes}
 use Rattle.model.specs.Outcome.{Outcome, accepted, refused, _>>=_, _>>_, require}
 use Rattle.model.specs.Plan.{Plan}
 use Rattle.model.specs.File.{Sheet, Cursor, Framed, frame, fitsRing, frameRings, frameRest, optional, sheetOf, decode}
 use Rattle.model.specs.Calls.{openCall}
 use Rattle.model.specs.CallLists.{standing, kinds, holdsChart}
-use Rattle.model.proofs.Outcomes.{same-value, not-both, bind-accepted, then-accepted, require-passed}
+use Rattle.model.proofs.Outcomes.{same-value, not-both, bind-accepted, then-accepted}
 use Rattle.model.proofs.RingPart.{open-accepted}
+use Rattle.model.proofs.FileRead.{frame-says}
 use Rattle.guarantee.specs.Verdicts.{present}
-
--- ---- one record
-record Read (c : Cursor) (kind : ℕ) (fits : ℕ → Bool) (r : Framed) : Type 0 where
-  some : 0 < length (c .rest)
-  long : 2 ≤ word (c .rest)
-  is-kind : word (drop 2 (c .rest)) ≡ kind
-  fitted : fits (word (c .rest) - 2) ≡ true
-  after : drop (2 + word (c .rest)) (c .rest) ≡ r .1 .rest
-
-read : (c : Cursor) (kind : ℕ) (fits : ℕ → Bool) (r : Framed) → frame c kind fits ≡ accepted r → Read c kind fits r
-unfolding frame
-read c kind fits r e =
-    let s = c .rest in
-    let m = word s in
-    let (t₁, e₁) = then-accepted (require (leb 2 (length s) && leb 2 m && leb m (length s - 2)) 1 (c .at)) _ r e in
-    let (t₂, e₂) = then-accepted (require (eqb (word (drop 2 s)) kind && fits (m - 2)) 2 (c .at)) _ r e₁ in
-    let (here, _) = and-yes (leb 2 (length s) && leb 2 m) (leb m (length s - 2)) (require-passed _ 1 (c .at) t₁) in
-    let (head, low) = and-yes (leb 2 (length s)) (leb 2 m) here in
-    let (kind-due, size-due) = and-yes (eqb (word (drop 2 s)) kind) (fits (m - 2)) (require-passed _ 2 (c .at) t₂) in
-    let two = leb-true 2 (length s) head in
-    record {
-      some = omega arith;
-      long = leb-true 2 m low;
-      is-kind = eqb-true (word (drop 2 s)) kind kind-due;
-      fitted = size-due;
-      after = ap (λ (f : Framed). f .1 .rest) (same-value e₂);
-    }
 
 -- ---- whether kind 4 is among the kinds of these bytes
 abbrev Finds : List ℕ → Bool → Type 0
@@ -65,7 +37,7 @@ finds-on (a ∷ s) t h l f (suc fuel) k = ap (eqb 4 (word (drop 2 (a ∷ s))) ||
 -- a record that is framed, and what follows it
 finds-record : (c : Cursor) (kind : ℕ) (fits : ℕ → Bool) (r : Framed) (t : Bool) → frame c kind fits ≡ accepted r → Finds (r .1 .rest) t → Finds (c .rest) (eqb 4 kind || t)
 finds-record c kind fits r t e f =
-    let q = read c kind fits r e in
+    let q = frame-says c kind fits r e in
     subst (λ (j : ℕ). Finds (c .rest) (eqb 4 j || t)) (q .is-kind) (finds-on (c .rest) t (q .some) (q .long) (subst (λ (l : List ℕ). Finds l t) (sym (q .after)) f))
 
 finds-rings : (n k : ℕ) (c : Cursor) (r : List (List ℕ) × Cursor) (t : Bool) → frameRings n k c ≡ accepted r → Finds (r .1 .rest) t → Finds (c .rest) t
@@ -92,7 +64,7 @@ finds-rest [] c bs e = go (empty (c .rest)) refl (frame c 0 (λ (m : ℕ). false
   where
     go : (t : Bool) → empty (c .rest) ≡ t → (o : Outcome Framed) → frame c 0 (λ (m : ℕ). false) ≡ o → cond t (accepted []) (o >> accepted []) ≡ accepted bs → Finds (c .rest) (found [] bs)
     go true y o q e = finds-end [] c bs y e
-    go false y (accepted r) q e = absurd (false≢true (read c 0 (λ (m : ℕ). false) r q .fitted))
+    go false y (accepted r) q e = absurd (false≢true (frame-says c 0 (λ (m : ℕ). false) r q .fitted))
     go false y (refused k at) q e = not-both e
 finds-rest (d ∷ due) c bs e = go (finds-rest due) (empty (c .rest)) refl e
   where

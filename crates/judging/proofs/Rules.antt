@@ -6,7 +6,7 @@ use mathlib.Core.Bool.{Bool, true, false, cond, not}
 use native.Mathlib.Omega.{arith}
 use lib.ListN.{length, take, drop, take-append-drop}
 use lib.Seq.{length-take-le}
-use borrow.Author.Tests.{le-leb, lt-leb}
+use borrow.Author.Tests.{le-leb, lt-leb, not-true, not-false}
 use Rattle.lists.specs.Ranges.{lowest}
 use Rattle.lists.specs.Spans.{stretch}
 use Rattle.lists.proofs.Stretches.{stretch-front}
@@ -72,14 +72,6 @@ module _ (sizes es : List ℕ) (n : ℕ) (ls : List ℕ) (few : n ≤ 200) where
   ten-passed e h = rule-past 10 n (breaks (table sizes es n) ls) (as-table e) h ∙ as-rule
 
 -- ---- 11 and 12
-not-yes : (a : Bool) → not a ≡ true → a ≡ false
-not-yes true e = sym e
-not-yes false e = refl
-
-not-no : (a : Bool) → not a ≡ false → a ≡ true
-not-no true e = refl
-not-no false e = sym e
-
 module _ (sizes es : List ℕ) (n : ℕ) (ls : List ℕ) (few : n ≤ 200) (room : startOf sizes n ≤ 1186) where
   chart-for : chartFor sizes es n ls ≡ chart (table sizes es n) ls
   unfolding chartFor inBounds chart
@@ -98,15 +90,15 @@ module _ (sizes es : List ℕ) (n : ℕ) (ls : List ℕ) (few : n ≤ 200) (room
 
     pub eleven-refused : not (r .found) ≡ true → refused 11 0 ≡ chartRules (table sizes es n) ls c
     unfolding chartRules
-    eleven-refused e = ap Compare (told false (not-yes (r .found) e))
+    eleven-refused e = ap Compare (told false (not-true (r .found) e))
 
     pub twelve-refused : not (r .found) ≡ false → {t : Bool} → t ≡ sameChart c Drew → t ≡ false → refused 12 0 ≡ chartRules (table sizes es n) ls c
     unfolding chartRules
-    twelve-refused e q f = ap (λ (t : Bool). require t 12 0) (sym f ∙ q) ∙ ap Compare (told true (not-no (r .found) e))
+    twelve-refused e q f = ap (λ (t : Bool). require t 12 0) (sym f ∙ q) ∙ ap Compare (told true (not-false (r .found) e))
 
     pub chart-kept : not (r .found) ≡ false → {t : Bool} → t ≡ sameChart c Drew → t ≡ true → passed ≡ chartRules (table sizes es n) ls c
     unfolding chartRules
-    chart-kept e q f = ap (λ (t : Bool). require t 12 0) (sym f ∙ q) ∙ ap Compare (told true (not-no (r .found) e))
+    chart-kept e q f = ap (λ (t : Bool). require t 12 0) (sym f ∙ q) ∙ ap Compare (told true (not-false (r .found) e))
 
 -- ---- one part of the rules before another
 pub first-refused : {A : Type 0} (a : Outcome (Unit {0})) (b : Outcome A) {k at : ℕ} → refused k at ≡ a → refused k at ≡ (a >> b)

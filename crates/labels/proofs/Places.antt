@@ -1,7 +1,7 @@
 -- Where the labels of a ring stand in a flat array, and what the model says of them there.
-use Prim.Native.Nat.{ℕ, zero, suc, _+_, _-_, _≤_, _<_, min}
+use Prim.Native.Nat.{ℕ, zero, suc, _+_, _-_, _≤_, _<_}
 use mathlib.Core.Path.{_≡_, refl, sym, ap, _∙_}
-use mathlib.Core.List.{List, [], _∷_, map}
+use mathlib.Core.List.{List, map}
 use mathlib.Core.Bool.{Bool, true, false}
 use native.Mathlib.Omega.{arith}
 use lib.ListN.{length, getD, set, take, drop, length-append, length-take, List·getD-eq-default}
@@ -15,19 +15,8 @@ use Rattle.lists.proofs.Ranges.{getD-map-from}
 use Rattle.lists.proofs.Spans.{length-stretch}
 use Rattle.model.specs.Plan.{Plan, entries, ring, adjacent}
 use Rattle.model.specs.Labels.{unlabelled, start, labelsAround, labelOf, put}
-use Rattle.rings.specs.Tables.{startOf, startsOf, sizeOf, rows, table, held}
+use Rattle.rings.specs.Tables.{startOf, startsOf, sizeOf, rows, table}
 use Rattle.rings.proofs.Rows.{start-first, start-more, size-outside, entries-rows, ring-size, member-index}
-
--- inside a list it does not matter what lies outside
-pub getD-inside : (l : List ℕ) (i d e : ℕ) → i < length l → getD l i d ≡ getD l i e
-getD-inside [] i d e h = absurd (omega arith)
-getD-inside (a ∷ l) zero d e h = refl
-getD-inside (a ∷ l) (suc i) d e h = getD-inside l i d e (omega arith)
-
--- of n contexts, at most 200
-pub held-small : (sizes es : List ℕ) (n : ℕ) → n ≤ 200 → held sizes es n ≡ table sizes es n
-unfolding held
-held-small sizes es n h = let z : min n 200 ≡ n = omega arith in ap (table sizes es) z
 
 -- ---- the lists before the u-th, joined, are as long as the sum of their sizes
 module _ (sizes : List ℕ) (f : ℕ → List ℕ) (long : (w : ℕ) → length (f w) ≡ getD sizes w 0) where

@@ -1,15 +1,15 @@
 -- A ring's labels are four runs exactly when the changes of label around it weigh 4; and the loop that weighs them.
 use Prim.Native.Nat.{ℕ, zero, suc, _+_, _-_, _%_, _≤_, _<_, min}
 use mathlib.Core.Path.{_≡_, refl, sym, ap, _∙_, subst}
-use mathlib.Core.List.{List, [], _∷_, _++_, map, append-nil}
+use mathlib.Core.List.{List, [], _∷_, _++_, append-nil, cons-ne-nil}
 use mathlib.Core.Logic.{_⊎_, inl, inr}
 use mathlib.Core.Bool.{Bool, true, false, cond}
 use native.Mathlib.Omega.{arith}
-use lib.ListN.{length, getD, take, drop, take-append-drop, length-append, length-take, length-drop, drop-of-length-le}
+use lib.ListN.{length, getD, take, drop, take-append-drop, length-append, length-take, drop-of-length-le}
 use lib.Seq.{slice, slice-cons, length-slice, take-all, drop-append-seam, take-append-seam, getD-take, getD-drop}
 use lib.Dec.{eqb, ltb}
-use borrow.Author.Tests.{eqb-true, eqb-false, eq-eqb, ne-eqb, ltb-true, ltb-false, lt-ltb, le-ltb}
-use Rattle.lists.specs.Tests.{any, sameList}
+use borrow.Author.Tests.{eqb-true, eq-eqb, ne-eqb, ltb-true, ltb-false, lt-ltb, le-ltb}
+use Rattle.lists.specs.Tests.{sameList}
 use Rattle.lists.specs.Ranges.{from}
 use Rattle.lists.specs.Parts.{squeezeAfter, squeeze}
 use Rattle.lists.proofs.Tests.{some-of, of-some, any-map, same-eq, eq-same}
@@ -91,14 +91,11 @@ round-rotate (b ∷ l) (c ∷ m) =
     ap (λ (a : ℕ). changeSum a ((b ∷ l) ++ c ∷ m)) e ∙ x ∙ omega arith ∙ sym y ∙ ap (λ (a : ℕ). changeSum a ((c ∷ m) ++ b ∷ l)) (sym f)
 
 -- ---- labels that rise from a by c, and are below 4
-no-cons : {A : Type 0} {a : ℕ} {l : List ℕ} → (a ∷ l) ≡ [] → A
-no-cons {a = a} {l = l} e = let z : suc (length l) ≡ 0 = ap length e in absurd (omega arith)
-
 -- squeezed they are a + 1, a + 2, ..: their changes weigh c and they end with a + c
 rises : (a c : ℕ) (l : List ℕ) → a + c < 4 → squeezeAfter a l ≡ from (suc a) c → (changeSum a l ≡ c) × (lastOf a l ≡ a + c)
 unfolding changeSum lastOf
 rises a zero [] h e = omega arith
-rises a (suc c) [] h e = no-cons (sym e)
+rises a (suc c) [] h e = absurd (cons-ne-nil _ _ (sym e))
 rises a c (b ∷ l) h e = go (λ k. rises b k l) (eqb a b) refl c h e
   where
     go : ((k : ℕ) → b + k < 4 → squeezeAfter b l ≡ from (suc b) k → (changeSum b l ≡ k) × (lastOf b l ≡ b + k))
@@ -109,7 +106,7 @@ rises a c (b ∷ l) h e = go (λ k. rises b k l) (eqb a b) refl c h e
         let w = weight-same a b s in
         let x = r c (omega arith) (subst (λ (k : ℕ). squeezeAfter k l ≡ from (suc k) c) s e) in
         omega arith
-    go r false q zero h e = no-cons e
+    go r false q zero h e = absurd (cons-ne-nil _ _ e)
     go r false q (suc c) h e =
         let s : b ≡ suc a = ap (λ (m : List ℕ). getD m 0 0) e in
         let w = weight-next a b s (omega arith) in
@@ -135,7 +132,7 @@ of-rise a c (b ∷ l) h e = go (λ k. of-rise b k l) (change-of a b) c h e
 -- ---- from four runs to the weight
 squeezed-round : (t : List ℕ) → squeeze t ≡ 0 ∷ 1 ∷ 2 ∷ 3 ∷ [] → roundSum t ≡ 4
 unfolding roundSum lastOf changeSum changeWeight
-squeezed-round [] e = no-cons (sym e)
+squeezed-round [] e = absurd (cons-ne-nil _ _ (sym e))
 squeezed-round (x ∷ l) e = go x (ap (λ (m : List ℕ). getD m 0 0) e) (ap (drop 1) e)
   where
     go : (x : ℕ) → x ≡ 0 → squeezeAfter x l ≡ 1 ∷ 2 ∷ 3 ∷ [] → roundSum (x ∷ l) ≡ 4

@@ -1,7 +1,7 @@
 -- A mark for each number that was passed: whether a list repeats an entry, found in one pass.
 use Prim.Native.Nat.{ℕ, _+_, _≤_, _<_}
 use mathlib.Core.Path.{_≡_, refl, sym, ap, _∙_}
-use mathlib.Core.List.{List, [], _∷_}
+use mathlib.Core.List.{List}
 use mathlib.Core.Bool.{Bool, true, false, _||_, or-true, or-false, or-assoc}
 use native.Mathlib.Omega.{arith}
 use lib.ListN.{length, getD, set, replicate, length-set, length-replicate}
@@ -10,21 +10,9 @@ use lib.Dec.{eqb}
 use borrow.Author.Tests.{eqb-true, eqb-false, eq-eqb, ne-eqb}
 use Rattle.lists.specs.Tests.{any, member, repeats}
 use Rattle.lists.specs.Spans.{span, zeros}
-use Rattle.lists.proofs.Tests.{of-none, any-same, eqb-swap}
+use Rattle.lists.proofs.Tests.{of-none, any-same, eqb-swap, any-or}
 use Rattle.lists.proofs.Spans.{span-more, span-end}
 use Rattle.lists.proofs.Padded.{getD-zeros}
-
--- the four parts of two tests on an entry and on the others, grouped by the tests
-regroup : (a b c d : Bool) → ((a || b) || (c || d)) ≡ ((a || c) || (b || d))
-regroup true b c d = refl
-regroup false true true d = refl
-regroup false true false d = refl
-regroup false false true d = refl
-regroup false false false d = refl
-
-any-or : (f g : ℕ → Bool) (l : List ℕ) → any (λ (a : ℕ). f a || g a) l ≡ (any f l || any g l)
-any-or f g [] = refl
-any-or f g (a ∷ l) = ap (λ (t : Bool). (f a || g a) || t) (any-or f g l) ∙ regroup (f a) (g a) (any f l) (any g l)
 
 -- v is marked
 abbrev marked : List ℕ → ℕ → Bool

@@ -46,6 +46,19 @@ pub any-same : (f g : ℕ → Bool) (l : List ℕ) → ((a : ℕ) → f a ≡ g 
 any-same f g [] h = refl
 any-same f g (a ∷ l) h = λ i. h a i || any-same f g l h i
 
+-- the four parts of two tests on an entry and on the others, grouped by the tests
+regroup : (a b c d : Bool) → ((a || b) || (c || d)) ≡ ((a || c) || (b || d))
+regroup true b c d = refl
+regroup false true true d = refl
+regroup false true false d = refl
+regroup false false true d = refl
+regroup false false false d = refl
+
+-- either of two tests
+pub any-or : (f g : ℕ → Bool) (l : List ℕ) → any (λ (a : ℕ). f a || g a) l ≡ (any f l || any g l)
+any-or f g [] = refl
+any-or f g (a ∷ l) = ap (λ (t : Bool). (f a || g a) || t) (any-or f g l) ∙ regroup (f a) (g a) (any f l) (any g l)
+
 -- equality is the same both ways
 pub eqb-swap : (a b : ℕ) → eqb a b ≡ eqb b a
 eqb-swap a b = go (eqb a b) refl

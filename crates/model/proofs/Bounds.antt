@@ -10,7 +10,7 @@ use lib.Dec.{eqb, ltb, leb}
 use borrow.Author.Tests.{eqb-true, eq-eqb, ne-eqb, ltb-true, ltb-false, lt-ltb, le-ltb, le-leb}
 use Rattle.lists.specs.Ranges.{from}
 use Rattle.lists.proofs.Bools.{and-yes, yes-and, or-yes}
-use Rattle.lists.proofs.Ranges.{length-map-from, getD-map-from}
+use Rattle.lists.proofs.Ranges.{length-map-from, getD-map-from, lt-or-le}
 use Rattle.lists.proofs.Counts.{counted, counted-strict, counted-from}
 use Rattle.model.specs.Outcome.{accepted, passed}
 use Rattle.model.specs.Plan.{Plan, count, adjacent, planRules, north, east, south, west}
@@ -135,6 +135,16 @@ module _ (n : ℕ) (o : Order) where
   unfolding level
   levels-top low u h k a b = levels-at low u (omega arith) ∙ rw (lt-ltb u 4 k, ne-eqb u south a, ne-eqb u low b)
 
+  -- the level rises from u to v: where u is a border context it stands lowest, where v is one it stands highest, and between inner contexts the order tells
+  climbs : (low u v : ℕ) → u < n → v < n → (u < 4 → (4 ≤ v) × (getD (levels low) u 0 ≡ 0)) → (v < 4 → (4 ≤ u) × (getD (levels low) v 0 ≡ n - 3)) → (4 ≤ u → 4 ≤ v → o .before u v ≡ true)
+      → getD (levels low) u 0 < getD (levels low) v 0
+  climbs low u v h k lowest highest between = go (lt-or-le u 4) (lt-or-le v 4)
+    where
+      go : (u < 4) ⊎ (4 ≤ u) → (v < 4) ⊎ (4 ≤ v) → getD (levels low) u 0 < getD (levels low) v 0
+      go (inl a) q = let (i, z) = lowest a in let b = inner-low low v k i in omega arith
+      go (inr i) (inl a) = let (j, z) = highest a in let b = inner-low low u h j in omega arith
+      go (inr i) (inr j) = inner-rises low u v h k i j (between i j)
+
   levels-length : (low : ℕ) → length (levels low) ≡ n
   unfolding levels
   levels-length low = length-map-from (level low) 0 n
@@ -203,64 +213,42 @@ module _ (p : Plan) (ls : List ℕ) (five : 5 ≤ count p) (returned : (u v : �
     -- along an up dart both levels rise
     rises-up : labelOf p ls u v ≡ up → (x grid u < x grid v) × (y grid u < y grid v)
     unfolding grid xOrder yOrder keyed rising falling
-    rises-up e = go (ltb u 4) refl (ltb v 4) refl
+    rises-up e =
+        let dx = k .compass .up-x u v m e in
+        let dy = k .compass .up-y u v m e in (
+          climbs (count p) xOrder west u v in-u in-v (λ h. (from h .0, ap (x grid) (from h .1) ∙ levels-zero (count p) xOrder west (omega arith) (omega arith) .0))
+              (λ h. (to h .0, ap (x grid) (to h .1) ∙ levels-top (count p) xOrder west north (omega arith) (omega arith) (omega arith) (omega arith)))
+              (λ i j. by-order (x d) (rising (y d)) u v (omega arith) (lt-ltb (y d u) (y d v) dy)),
+          climbs (count p) yOrder east u v in-u in-v (λ h. (from h .0, ap (y grid) (from h .1) ∙ levels-zero (count p) yOrder east (omega arith) (omega arith) .0))
+              (λ h. (to h .0, ap (y grid) (to h .1) ∙ levels-top (count p) yOrder east north (omega arith) (omega arith) (omega arith) (omega arith)))
+              (λ i j. by-key (y d) (falling (x d)) u v dy),
+        )
       where
-        go : (r : Bool) → ltb u 4 ≡ r → (q : Bool) → ltb v 4 ≡ q → (x grid u < x grid v) × (y grid u < y grid v)
-        go true a q b =
-            let (iv, due) = from-border p ls returned t u v up m e (omega arith) (ltb-true u 4 a) in
-            let z : u ≡ south = let h = ltb-true u 4 a in omega arith in
-            let xz : x grid u ≡ 0 = ap (x grid) z ∙ levels-zero (count p) xOrder west (omega arith) (omega arith) .0 in
-            let yz : y grid u ≡ 0 = ap (y grid) z ∙ levels-zero (count p) yOrder east (omega arith) (omega arith) .0 in
-            let xv = inner-low (count p) xOrder west v in-v iv in
-            let yv = inner-low (count p) yOrder east v in-v iv in
-            (omega arith, omega arith)
-        go false a true b =
-            let (iu, due) = to-border p ls returned t u v up m e (omega arith) (ltb-true v 4 b) in
-            let z : v ≡ north = let h = ltb-true v 4 b in omega arith in
-            let xz : x grid v ≡ count p - 3 = ap (x grid) z ∙ levels-top (count p) xOrder west north (omega arith) (omega arith) (omega arith) (omega arith) in
-            let yz : y grid v ≡ count p - 3 = ap (y grid) z ∙ levels-top (count p) yOrder east north (omega arith) (omega arith) (omega arith) (omega arith) in
-            let xu = inner-low (count p) xOrder west u in-u iu in
-            let yu = inner-low (count p) yOrder east u in-u iu in
-            (omega arith, omega arith)
-        go false a false b =
-            let iu = ltb-false u 4 a in
-            let iv = ltb-false v 4 b in
-            let dx = k .compass .up-x u v m e in
-            let dy = k .compass .up-y u v m e in (
-              inner-rises (count p) xOrder west u v in-u in-v iu iv (by-order (x d) (rising (y d)) u v (omega arith) (lt-ltb (y d u) (y d v) dy)),
-              inner-rises (count p) yOrder east u v in-u in-v iu iv (by-key (y d) (falling (x d)) u v dy),
-            )
+        from : u < 4 → (4 ≤ v) × (u ≡ south)
+        from h = let (i, due) = from-border p ls returned t u v up m e (omega arith) h in (i, omega arith)
+
+        to : v < 4 → (4 ≤ u) × (v ≡ north)
+        to h = let (i, due) = to-border p ls returned t u v up m e (omega arith) h in (i, omega arith)
 
     -- along a right dart the first rises and the second falls
     rises-right : labelOf p ls u v ≡ right → (x grid u < x grid v) × (y grid v < y grid u)
     unfolding grid xOrder yOrder keyed rising falling
-    rises-right e = go (ltb u 4) refl (ltb v 4) refl
+    rises-right e =
+        let dx = k .compass .right-x u v m e in
+        let dy = k .compass .right-y u v m e in (
+          climbs (count p) xOrder west u v in-u in-v (λ h. (from h .0, ap (x grid) (from h .1) ∙ levels-zero (count p) xOrder west (omega arith) (omega arith) .1))
+              (λ h. (to h .0, ap (x grid) (to h .1) ∙ levels-top (count p) xOrder west east (omega arith) (omega arith) (omega arith) (omega arith)))
+              (λ i j. by-key (x d) (rising (y d)) u v dx),
+          climbs (count p) yOrder east v u in-v in-u (λ h. (to h .0, ap (y grid) (to h .1) ∙ levels-zero (count p) yOrder east (omega arith) (omega arith) .1))
+              (λ h. (from h .0, ap (y grid) (from h .1) ∙ levels-top (count p) yOrder east west (omega arith) (omega arith) (omega arith) (omega arith)))
+              (λ i j. by-order (y d) (falling (x d)) v u (omega arith) (lt-ltb (x d u) (x d v) dx)),
+        )
       where
-        go : (r : Bool) → ltb u 4 ≡ r → (q : Bool) → ltb v 4 ≡ q → (x grid u < x grid v) × (y grid v < y grid u)
-        go true a q b =
-            let (iv, due) = from-border p ls returned t u v right m e (omega arith) (ltb-true u 4 a) in
-            let z : u ≡ west = let h = ltb-true u 4 a in omega arith in
-            let xz : x grid u ≡ 0 = ap (x grid) z ∙ levels-zero (count p) xOrder west (omega arith) (omega arith) .1 in
-            let yz : y grid u ≡ count p - 3 = ap (y grid) z ∙ levels-top (count p) yOrder east west (omega arith) (omega arith) (omega arith) (omega arith) in
-            let xv = inner-low (count p) xOrder west v in-v iv in
-            let yv = inner-low (count p) yOrder east v in-v iv in
-            (omega arith, omega arith)
-        go false a true b =
-            let (iu, due) = to-border p ls returned t u v right m e (omega arith) (ltb-true v 4 b) in
-            let z : v ≡ east = let h = ltb-true v 4 b in omega arith in
-            let xz : x grid v ≡ count p - 3 = ap (x grid) z ∙ levels-top (count p) xOrder west east (omega arith) (omega arith) (omega arith) (omega arith) in
-            let yz : y grid v ≡ 0 = ap (y grid) z ∙ levels-zero (count p) yOrder east (omega arith) (omega arith) .1 in
-            let xu = inner-low (count p) xOrder west u in-u iu in
-            let yu = inner-low (count p) yOrder east u in-u iu in
-            (omega arith, omega arith)
-        go false a false b =
-            let iu = ltb-false u 4 a in
-            let iv = ltb-false v 4 b in
-            let dx = k .compass .right-x u v m e in
-            let dy = k .compass .right-y u v m e in (
-              inner-rises (count p) xOrder west u v in-u in-v iu iv (by-key (x d) (rising (y d)) u v dx),
-              inner-rises (count p) yOrder east v u in-v in-u iv iu (by-order (y d) (falling (x d)) v u (omega arith) (lt-ltb (x d u) (x d v) dx)),
-            )
+        from : u < 4 → (4 ≤ v) × (u ≡ west)
+        from h = let (i, due) = from-border p ls returned t u v right m e (omega arith) h in (i, omega arith)
+
+        to : v < 4 → (4 ≤ u) × (v ≡ east)
+        to h = let (i, due) = to-border p ls returned t u v right m e (omega arith) h in (i, omega arith)
 
   -- the grid is a placement for every slope up to 1
   pub grid-placed : (s : ℕ) → s ≤ 1 → Placed s p ls grid

@@ -1,5 +1,5 @@
 -- What is read was written: a file that decodes to a sheet is the sheet's file, and the sheet fits.
-use Prim.Native.Nat.{ℕ, zero, suc, _+_, _-_, _*_, _%_, _≤_}
+use Prim.Native.Nat.{ℕ, zero, suc, _+_, _-_, _*_, _%_, _≤_, _<_}
 use mathlib.Core.Path.{_≡_, refl, sym, ap, _∙_, subst}
 use mathlib.Core.List.{List, [], _∷_, _++_, map, append-assoc, append-nil, List·Memᴰ, List·Memᴰ·head, List·Memᴰ·tail, List·Memᴰ·not-nil}
 use mathlib.Core.Bool.{Bool, true, false, cond, _&&_, false≢true}
@@ -35,15 +35,20 @@ cut (a ∷ b ∷ x ∷ y ∷ t) h low fits =
     let hx = h x (List·Memᴰ·tail (List·Memᴰ·tail (List·Memᴰ·head refl))) in
     rw (e, size, low-byte a b ha, high-byte a b ha, low-byte x y hx, high-byte x y hx, take-append-drop k t)
 
--- A record that was framed: its body's length fits, and the bytes are the record, written, and what follows it
-pub record FramedAs (c : Cursor) (kind : ℕ) (fits : ℕ → Bool) (body : List ℕ) (d : Cursor) : Type 0 where
-  pub size : fits (length body) ≡ true
-  pub written : Bytes (c .rest) → c .rest ≡ entry kind body ++ d .rest
+-- What a framed record says of the bytes: they have its head and its body, of the kind and the size that are due, and the reading goes on behind it
+pub record FrameSays (c : Cursor) (kind : ℕ) (fits : ℕ → Bool) (r : Framed) : Type 0 where
+  pub some : 0 < length (c .rest)
+  pub long : 2 ≤ word (c .rest)
+  pub whole : 2 + word (c .rest) ≤ length (c .rest)
+  pub is-kind : word (drop 2 (c .rest)) ≡ kind
+  pub fitted : fits (word (c .rest) - 2) ≡ true
+  pub body : take (word (c .rest) - 2) (drop 4 (c .rest)) ≡ r .0
+  pub after : drop (2 + word (c .rest)) (c .rest) ≡ r .1 .rest
+  pub at : c .at + 2 + word (c .rest) ≡ r .1 .at
 
--- A record is framed only where it was written
-pub frame-read : (c : Cursor) (kind : ℕ) (fits : ℕ → Bool) (r : Framed) → frame c kind fits ≡ accepted r → FramedAs c kind fits (r .0) (r .1)
+pub frame-says : (c : Cursor) (kind : ℕ) (fits : ℕ → Bool) (r : Framed) → frame c kind fits ≡ accepted r → FrameSays c kind fits r
 unfolding frame
-frame-read c kind fits r e =
+frame-says c kind fits r e =
     let s = c .rest in
     let m = word s in
     let (t₁, e₁) = then-accepted (require (leb 2 (length s) && leb 2 m && leb m (length s - 2)) 1 (c .at)) _ r e in
@@ -52,15 +57,35 @@ frame-read c kind fits r e =
     let (head, low) = and-yes (leb 2 (length s)) (leb 2 m) here in
     let (kind-due, size-due) = and-yes (eqb (word (drop 2 s)) kind) (fits (m - 2)) (require-passed _ 2 (c .at) t₂) in
     let l₁ : 2 ≤ length s = leb-true 2 (length s) head in
-    let l₂ : 2 ≤ m = leb-true 2 m low in
-    let l₃ : m ≤ length s - 2 = leb-true m (length s - 2) fit in
+    let l₂ : m ≤ length s - 2 = leb-true m (length s - 2) fit in
     let same = same-value e₂ in
-    let body-same : take (m - 2) (drop 4 s) ≡ r .0 = ap (λ (f : Framed). f .0) same in
-    let rest-same : drop (2 + m) s ≡ r .1 .rest = ap (λ (f : Framed). f .1 .rest) same in
-    let size : length (take (m - 2) (drop 4 s)) ≡ m - 2 = length-take-le (m - 2) (drop 4 s) (omega (arith, length-drop 4 s)) in
     record {
-      size = subst (λ (l : List ℕ). fits (length l) ≡ true) body-same (rw size size-due);
-      written = λ b. cut s b l₂ (omega arith) ∙ λ i. entry (eqb-true (word (drop 2 s)) kind kind-due i) (body-same i) ++ rest-same i;
+      some = omega arith;
+      long = leb-true 2 m low;
+      whole = omega arith;
+      is-kind = eqb-true (word (drop 2 s)) kind kind-due;
+      fitted = size-due;
+      body = ap (λ (f : Framed). f .0) same;
+      after = ap (λ (f : Framed). f .1 .rest) same;
+      at = ap (λ (f : Framed). f .1 .at) same;
+    }
+
+-- A record that was framed: its body's length fits, and the bytes are the record, written, and what follows it
+pub record FramedAs (c : Cursor) (kind : ℕ) (fits : ℕ → Bool) (body : List ℕ) (d : Cursor) : Type 0 where
+  pub size : fits (length body) ≡ true
+  pub written : Bytes (c .rest) → c .rest ≡ entry kind body ++ d .rest
+
+-- A record is framed only where it was written
+pub frame-read : (c : Cursor) (kind : ℕ) (fits : ℕ → Bool) (r : Framed) → frame c kind fits ≡ accepted r → FramedAs c kind fits (r .0) (r .1)
+frame-read c kind fits r e =
+    let s = c .rest in
+    let m = word s in
+    let q = frame-says c kind fits r e in
+    let whole = q .whole in
+    let size : length (take (m - 2) (drop 4 s)) ≡ m - 2 = length-take-le (m - 2) (drop 4 s) (omega (arith, length-drop 4 s, q .long)) in
+    record {
+      size = subst (λ (l : List ℕ). fits (length l) ≡ true) (q .body) (rw size (q .fitted));
+      written = λ b. cut s b (q .long) whole ∙ λ i. entry (q .is-kind i) (q .body i) ++ q .after i;
     }
 
 entry-bytes : (kind : ℕ) (body : List ℕ) → Bytes (entry kind body) → Bytes body

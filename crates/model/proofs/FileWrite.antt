@@ -17,6 +17,11 @@ use Rattle.model.specs.Plan.{Plan, count, dartCount}
 use Rattle.model.specs.Chart.{Chart}
 use Rattle.model.specs.File.{Sheet, fresh, opened, labelled, charted, frame, fitsRing, frameRings, frameRest, optional, chartIn, sheetOf, decode, entry, points, chartOut, ringsOut, planOut, encode}
 
+-- a record: a head of 4 bytes, and its body
+pub length-entry : (kind : ℕ) (body : List ℕ) → length (entry kind body) ≡ 4 + length body
+unfolding entry bytes
+length-entry kind body = omega arith
+
 -- A plan that fits into a file: 5 to 200 contexts, and every ring shorter than their number
 pub record PlanFits (p : Plan) : Type 0 where
   pub low : 5 ≤ count p

@@ -104,11 +104,17 @@ turns-long p q (e ∷ es) ls =
     ∙ put-long p (e .0) (e .1) (turned (labelOf p back (e .0) (e .1)) q) back
     ∙ put-long p (e .1) (e .0) (turned (labelOf p ls (e .1) (e .0)) q) ls
 
-pub turn-long : (p : Plan) (ls items : List ℕ) (d : ℕ) (ms : List ℕ) → turn p ls items d ≡ accepted ms → length ms ≡ length ls
+-- a turn that is accepted turns the edges that are named, tests the labels and hands them on
+pub turn-accepted : (p : Plan) (ls items : List ℕ) (d : ℕ) (ms : List ℕ) → turn p ls items d ≡ accepted ms
+    → (labelRules p (turnEdges p (quarters d) (pairs items) ls) >> accepted (turnEdges p (quarters d) (pairs items) ls)) ≡ accepted ms
 unfolding turn
-turn-long p ls items d ms e =
+turn-accepted p ls items d ms e =
     let es = pairs items in
     let (_, e₁) = then-accepted (rule 15 (length es) (badPair p es)) _ ms e in
     let (_, e₂) = then-accepted (require (eqb (length items % 2) 0) 15 (length es)) _ ms e₁ in
-    let (_, e₃) = then-accepted (require (ltb d 2) 15 (length es)) _ ms e₂ in
-    ap length (sym (tested-same p (turnEdges p (quarters d) es ls) ms e₃)) ∙ turns-long p (quarters d) es ls
+    then-accepted (require (ltb d 2) 15 (length es)) _ ms e₂ .1
+
+pub turn-long : (p : Plan) (ls items : List ℕ) (d : ℕ) (ms : List ℕ) → turn p ls items d ≡ accepted ms → length ms ≡ length ls
+turn-long p ls items d ms e =
+    let new = turnEdges p (quarters d) (pairs items) ls in
+    ap length (sym (tested-same p new ms (turn-accepted p ls items d ms e))) ∙ turns-long p (quarters d) (pairs items) ls

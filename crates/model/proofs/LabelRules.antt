@@ -1,30 +1,27 @@
 -- The label test passes exactly where the labels are a transversal structure, as source 001's C1 and C2 and 01 have it.
 use Prim.Native.Nat.{ℕ, zero, suc, _+_, _≤_, _<_, max}
 use mathlib.Core.Path.{_≡_, refl, sym, ap, _∙_, subst}
-use mathlib.Core.List.{List, [], _∷_, _++_, map, List·Memᴰ}
+use mathlib.Core.List.{List, [], _∷_, _++_, List·Memᴰ, cons-ne-nil}
 use mathlib.Core.Logic.{_↔_}
-use mathlib.Core.Bool.{Bool, true, false, cond, not, _&&_, _||_, false≢true}
+use mathlib.Core.Bool.{Bool, true, false, cond, not, _&&_, _||_}
 use native.Mathlib.Omega.{arith}
 use lib.ListN.{length, getD, take, drop, replicate}
 use lib.Dec.{eqb, ltb}
-use borrow.Author.Tests.{eqb-true, eqb-false, eq-eqb, ltb-true, ltb-false, lt-ltb, le-ltb, not-false}
+use borrow.Author.Tests.{eqb-true, eq-eqb, ltb-true, ltb-false, lt-ltb, le-ltb, not-false}
 use Rattle.lists.specs.Tests.{any, sameList}
 use Rattle.lists.specs.Ranges.{from}
-use Rattle.lists.specs.Parts.{squeezeAfter, squeeze, rotations}
+use Rattle.lists.specs.Parts.{squeezeAfter, squeeze}
 use Rattle.lists.proofs.Bools.{or-no, no-or, and-yes, yes-and, no-not}
 use Rattle.lists.proofs.Tests.{some-of, of-some, none-of, of-none, any-map, same-eq, eq-same}
 use Rattle.lists.proofs.Ranges.{from-mem, mem-from}
 use Rattle.model.specs.Outcome.{passed}
 use Rattle.model.specs.Plan.{Plan, count, ring, border, adjacent, north, east, south, west}
 use Rattle.model.specs.Labels.{up, right, down, left, borderLabel, labelOf, labelsAround, turned, due, badDart, notDue, fourRuns, badRing, breaks, labelRules}
-use Rattle.model.specs.Transversal.{FourRuns, Borders, Transversal}
+use Rattle.model.specs.Transversal.{FourRuns, Transversal}
 use Rattle.model.proofs.Outcomes.{rule-passes}
 use Rattle.model.proofs.Plans.{adjacent-from, adjacent-mem, mem-adjacent}
 
 -- ---- runs: what is squeezed to nothing repeats a; what is squeezed to b and more repeats a and goes on with b
-no-cons : {A : Type 0} {a : ℕ} {l : List ℕ} → (a ∷ l) ≡ [] → A
-no-cons {a = a} {l = l} e = let z : suc (length l) ≡ 0 = ap length e in absurd (omega arith)
-
 head-eq : {a b : ℕ} {l m : List ℕ} → (a ∷ l) ≡ (b ∷ m) → a ≡ b
 head-eq e = ap (λ (l : List ℕ). getD l 0 0) e
 
@@ -37,10 +34,10 @@ peel-end a (x ∷ l) e = go (peel-end a l) (eqb a x) refl e
   where
     go : (squeezeAfter a l ≡ [] → (k : ℕ) × (l ≡ replicate k a)) → (t : Bool) → eqb a x ≡ t → cond t (squeezeAfter a l) (x ∷ squeezeAfter x l) ≡ [] → (k : ℕ) × ((x ∷ l) ≡ replicate k a)
     go r true q e = let (k, h) = r e in (suc k, λ i. sym (eqb-true a x q) i ∷ h i)
-    go r false q e = no-cons e
+    go r false q e = absurd (cons-ne-nil _ _ e)
 
 peel : (a b : ℕ) (l m : List ℕ) → squeezeAfter a l ≡ b ∷ m → (k : ℕ) × (rest : List ℕ) × (l ≡ replicate k a ++ b ∷ rest) × (squeezeAfter b rest ≡ m)
-peel a b [] m e = no-cons (sym e)
+peel a b [] m e = absurd (cons-ne-nil _ _ (sym e))
 peel a b (x ∷ l) m e = go (peel a b l m) (eqb a x) refl e
   where
     go : (squeezeAfter a l ≡ b ∷ m → (k : ℕ) × (rest : List ℕ) × (l ≡ replicate k a ++ b ∷ rest) × (squeezeAfter b rest ≡ m))
@@ -58,7 +55,7 @@ joined : (l₀ l₁ l₂ l₃ : List ℕ) (a b c d : ℕ) → l₀ ≡ replicate
 joined l₀ l₁ l₂ l₃ a b c d e₀ e₁ e₂ e₃ = rw (e₀, e₁, e₂, e₃)
 
 squeezed-runs : (t : List ℕ) → squeeze t ≡ up ∷ right ∷ down ∷ left ∷ [] → (a : ℕ) × (b : ℕ) × (c : ℕ) × (d : ℕ) × (t ≡ Runs (suc a) (suc b) (suc c) (suc d))
-squeezed-runs [] e = no-cons (sym e)
+squeezed-runs [] e = absurd (cons-ne-nil _ _ (sym e))
 squeezed-runs (x ∷ l) e =
     let (a, l₁, e₁, s₁) = peel 0 1 l (2 ∷ 3 ∷ []) (subst (λ (k : ℕ). squeezeAfter k l ≡ 1 ∷ 2 ∷ 3 ∷ []) (head-eq e) (tail-eq e)) in
     let (b, l₂, e₂, s₂) = peel 1 2 l₁ (3 ∷ []) s₁ in

@@ -17,12 +17,8 @@ use Rattle.model.specs.Labels.{start}
 use Rattle.model.specs.File.{Sheet, sheetOf, decode, entry, ringsOut, planOut, optional}
 use Rattle.model.specs.Calls.{planOf, judge, openCall, ringStart, ringCall, ringPart}
 use Rattle.model.proofs.Outcomes.{same-value, bind-accepted, then-accepted, require-passed}
-use Rattle.model.proofs.FileWrite.{restOut}
+use Rattle.model.proofs.FileWrite.{restOut, length-entry}
 use Rattle.model.proofs.FileRead.{ReadAs, decoded}
-
-length-entry : (kind : ℕ) (body : List ℕ) → length (entry kind body) ≡ 4 + length body
-unfolding entry bytes
-length-entry kind body = omega arith
 
 -- u's ring among all rings, written
 among-rings : (rs : List (List ℕ)) (u : ℕ) (rest : List ℕ) → u < length rs

@@ -10,14 +10,15 @@ use lib.Dec.{eqb, ltb}
 use borrow.Author.Tests.{ne-eqb}
 use Rattle.lists.specs.Tests.{member}
 use Rattle.lists.specs.Parts.{squeeze}
-use Rattle.lists.proofs.Tests.{any-append}
+use Rattle.lists.proofs.Tests.{any-append, eqb-swap}
+use Rattle.lists.proofs.Padded.{getD-padded}
 use Rattle.model.specs.Plan.{border}
 use Rattle.frontier.specs.declared.Line.{Line}
 use Rattle.frontier.specs.Front.{Small, Rep, Marks}
 use Rattle.frontier.specs.Run.{line, pushed}
 use Rattle.pairs.specs.Run.{failed, lastIs, barred, noted, added}
-use Rattle.pairs.proofs.Dirt.{eqb-swap, dirty, dirty-left, dirty-end, clean-end, clean-once, endsIn, joined, squeeze-end, squeeze-more}
-use Rattle.frontier.proofs.Lines.{getD-padded, marks-same, marks-set, no-longer, push-rep, pushed-marks, small-append}
+use Rattle.pairs.proofs.Dirt.{dirty, dirty-left, dirty-end, clean-end, clean-once, endsIn, joined, squeeze-end, squeeze-more}
+use Rattle.frontier.proofs.Lines.{marks-same, marks-set, no-longer, push-rep, pushed-marks, small-append}
 
 -- ---- one entry added
 -- the last entry of a list by its place

@@ -3,22 +3,14 @@ use Prim.Native.Nat.{ℕ, _+_, _-_}
 use mathlib.Core.Path.{_≡_, refl, ap, sym, _∙_, subst}
 use mathlib.Core.Logic.{_⊎_, inl, inr}
 use mathlib.Core.List.{List, [], _∷_, _++_, append-assoc, append-nil}
-use mathlib.Core.Bool.{Bool, true, false, cond, not, _||_, or-true}
+use mathlib.Core.Bool.{Bool, true, false, cond, _||_, or-true}
 use lib.Dec.{eqb}
-use borrow.Author.Tests.{eq-eqb, ne-eqb, eqb-true, eqb-false}
+use borrow.Author.Tests.{eqb-true}
 use Rattle.lists.specs.Tests.{any, member, repeats}
 use Rattle.lists.specs.Parts.{squeeze, squeezeAfter}
 use Rattle.lists.proofs.Bools.{or-no, or-yes}
-use Rattle.lists.proofs.Tests.{any-append, repeats-append}
+use Rattle.lists.proofs.Tests.{any-append, repeats-append, eqb-swap}
 use Rattle.model.specs.Plan.{border}
-
--- equality is the same both ways
-pub eqb-swap : (a b : ℕ) → eqb a b ≡ eqb b a
-eqb-swap a b = go (eqb a b) refl
-  where
-    go : (t : Bool) → eqb a b ≡ t → eqb a b ≡ eqb b a
-    go true e = e ∙ sym (eq-eqb b a (sym (eqb-true a b e)))
-    go false e = e ∙ sym (ne-eqb b a (λ h. eqb-false a b e (sym h)))
 
 -- a test or another, the first passes
 pub or-left : (a b : Bool) → a ≡ true → (a || b) ≡ true

@@ -1,27 +1,27 @@
 -- The chart of a table: the numbers of both coordinates and the test that they are a placement give the answer of `leastPlacement`.
-use Prim.Native.Nat.{ℕ, suc, _+_, _-_, _≤_, _<_}
+use Prim.Native.Nat.{ℕ, suc, _+_, _-_, _≤_}
 use mathlib.Core.Path.{_≡_, refl, sym, ap, _∙_}
 use mathlib.Core.List.{List, [], _∷_, map}
-use mathlib.Core.Bool.{Bool, true, false, cond, _&&_, false≢true, true≢false}
+use mathlib.Core.Bool.{Bool, true, false, cond, _&&_, false≢true, true≢false, and-false}
 use native.Mathlib.Omega.{arith}
 use lib.ListN.{length, getD, drop}
 use lib.Dec.{eqb, leb}
 use borrow.Author.Tests.{eq-eqb, ne-eqb, le-leb}
+use Rattle.lists.proofs.Padded.{getD-padded, stretch-padded}
 use Rattle.lists.specs.Tests.{all}
 use Rattle.lists.specs.Ranges.{from}
 use Rattle.lists.specs.Spans.{stretch, padded}
 use Rattle.model.specs.Outcome.{Outcome, accepted, refused, _>>=_, _>>_, require}
-use Rattle.model.specs.Plan.{Plan, count, entryCount, dartCount, north, east, south, west}
-use Rattle.model.specs.Chart.{Chart, Constraint, x, y, meets, isAt, isPlacement, leastNumbers, leastPlacement, slope, chart, tie}
+use Rattle.model.specs.Plan.{Plan, count, entryCount, dartCount, north}
+use Rattle.model.specs.Chart.{Chart, Constraint, meets, isAt, isPlacement, leastNumbers, leastPlacement, slope, chart, tie}
 use Rattle.model.proofs.Least.{least-length}
 use Rattle.model.proofs.Placements.{placed, chart-is, chart-11}
-use Rattle.rings.specs.Tables.{startOf, startsOf, rows, table, inBounds}
+use Rattle.rings.specs.Tables.{startOf, startsOf, table, inBounds}
 use Rattle.rings.proofs.Rows.{count-rows}
 use Rattle.solver.specs.declared.Numbers.{Numbers}
 use Rattle.solver.specs.Constraints.{listedFrom, listed, constraintAt, solved, numbersOf, ties, compass, asked}
 use Rattle.charts.specs.Charts.{chartOn}
 use Rattle.placement.specs.Drawing.{chartFor, drawnAs, drawnOf, drawnIf, standsAt, squared}
-use Rattle.solver.proofs.Arrays.{getD-padded, stretch-padded}
 use Rattle.fit.proofs.Fits.{total-is}
 
 -- ---- border contexts at the corners
@@ -87,10 +87,6 @@ module _ (p : Plan) (ls : List ℕ) where
       (shuffle (eqb (getD xs 2 0) 0 && eqb (getD ys 2 0) 0) (eqb (getD xs 3 0) 0 && eqb (getD ys 3 0) (getD ys 0 0)) (eqb (getD xs 1 0) (getD xs 0 0) && eqb (getD ys 1 0) 0) (all (meets xs) (compass false p ls)) (all (meets ys) (compass true p ls))))
 
 -- ---- from the numbers of both coordinates to the answer
-and-none : (a : Bool) → (a && false) ≡ false
-and-none true = refl
-and-none false = refl
-
 module _ (f : List ℕ → Outcome Chart) where
   none-first : (o : Outcome (List ℕ)) → numbersOf o .found ≡ false → drawnOf (refused 11 0) ≡ drawnOf (o >>= f)
   unfolding numbersOf drawnOf
@@ -167,7 +163,7 @@ module _ (sizes es : List ℕ) (n : ℕ) (ls : List ℕ) where
         ≡ drawnOf (chartFor sizes es n ls)
     unfolding keptIn drawnIf testOf
     whole-test false fy ex ey = rw ex (chart-no-x ex)
-    whole-test true false ex ey = rw (ex, ey, and-none (all (meets (numbersOf (leastNumbers n (asked false P ls)) .at)) (compass false P ls))) (chart-no-y ey)
+    whole-test true false ex ey = rw (ex, ey, and-false (all (meets (numbersOf (leastNumbers n (asked false P ls)) .at)) (compass false P ls))) (chart-no-y ey)
     whole-test true true ex ey = rw (ex, ey) (chart-tested (numbersOf (leastNumbers n (asked false P ls)) .at) (numbersOf (leastNumbers n (asked true P ls)) .at) ex ey refl refl _ refl)
 
     abbrev X : List ℕ
@@ -187,7 +183,7 @@ module _ (sizes es : List ℕ) (n : ℕ) (ls : List ℕ) where
     -- y is not kept
     pub chart-not-y : {t : Bool} → t ≡ keptIn true → t ≡ false → drawnOf (refused 11 0) ≡ drawnOf (chartFor sizes es n ls)
     unfolding drawnIf
-    chart-not-y e f = rw (sym e ∙ f, and-none (keptIn false)) at all-tested
+    chart-not-y e f = rw (sym e ∙ f, and-false (keptIn false)) at all-tested
 
     -- both are
     pub chart-drawn : {s t : Bool} {xs ys : List ℕ} → s ≡ keptIn false → s ≡ true → t ≡ keptIn true → t ≡ true → xs ≡ X → ys ≡ Y → drawnIf (squared xs ys) xs ys ≡ drawnOf (chartFor sizes es n ls)

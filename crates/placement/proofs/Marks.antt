@@ -8,9 +8,9 @@ use lib.ListN.{length, getD, set, replicate, length-set}
 use lib.Seq.{getD-set-same, getD-set-other}
 use lib.Dec.{eqb, ltb}
 use borrow.Author.Tests.{eqb-true, eqb-false, eq-eqb, ltb-true, ltb-false}
+use Rattle.lists.proofs.Padded.{getD-zeros}
 use Rattle.lists.specs.Parts.{indexOf}
 use Rattle.lists.specs.Spans.{zeros}
-use Rattle.solver.proofs.Arrays.{getD-zeros}
 use Rattle.placement.specs.Marking.{Marked, DartAt}
 
 -- what stands at the index of a context

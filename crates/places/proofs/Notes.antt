@@ -1,6 +1,6 @@
 -- The table of positions, noted entry by entry: what a pass over all rings keeps (Notes), with a law for its start, its steps and its end.
-use Prim.Native.Nat.{ℕ, zero, suc, _+_, _-_, _*_, _/_, _%_, _≤_, _<_}
-use mathlib.Core.Path.{_≡_, refl, sym, ap, _∙_, subst}
+use Prim.Native.Nat.{ℕ, suc, _+_, _-_, _*_, _/_, _%_, _≤_, _<_}
+use mathlib.Core.Path.{_≡_, refl, sym, ap, _∙_}
 use mathlib.Core.List.{List, [], _∷_, _++_, map}
 use mathlib.Core.Bool.{Bool, true, false, cond, _&&_, _||_, false≢true}
 use native.Mathlib.Omega.{arith}
@@ -12,10 +12,12 @@ use borrow.Author.Tests.{eqb-true, eqb-false, eq-eqb, ne-eqb, ltb-true, ltb-fals
 use Rattle.lists.specs.Ranges.{from}
 use Rattle.lists.specs.Tests.{member}
 use Rattle.lists.specs.Parts.{indexOf}
+use Rattle.lists.specs.Spans.{zeros}
 use Rattle.lists.proofs.Bools.{or-no}
 use Rattle.lists.proofs.Tests.{any-append}
 use Rattle.lists.proofs.Spans.{past}
 use Rattle.lists.proofs.Ranges.{length-map-from, getD-map-from}
+use Rattle.lists.proofs.Padded.{getD-zeros}
 use Rattle.model.specs.Plan.{Plan, ring}
 use Rattle.places.specs.Places.{place, cell, tabled, placesOf, noted, over, filled}
 
@@ -263,16 +265,10 @@ module _ {p : Plan} {t₀ : List ℕ} {u i : ℕ} {t : List ℕ} (inv : Notes p 
           let l = length-places p in
           inv .beyond k m ∙ sym (ap (over (getD t₀ k 0)) (sym (past (placesOf p) k (omega arith))) ∙ over-zero (getD t₀ k 0))
 
--- a table of zeros
-none-noted : (k i : ℕ) → getD {A = ℕ} (replicate k 0) i 0 ≡ 0
-none-noted zero i = refl
-none-noted (suc k) zero = refl
-none-noted (suc k) (suc i) = none-noted k i
-
 -- A table of 40000 zeros, filled, is the table of positions
 pub filled-zeros : (p : Plan) {t : List ℕ} → t ≡ replicate 40000 0 → filled p t ≡ placesOf p
-unfolding filled
-filled-zeros p {t} q = ext-getD 0 (map fresh (from 0 (length t))) (placesOf p) (size ∙ long ∙ sym (length-places p)) (λ k h. getD-map-from fresh 0 (length t) k 0 (omega (arith, size)) ∙ ap fresh (omega arith) ∙ over-none (getD (placesOf p) k 0) (ap (λ (s : List ℕ). getD s k 0) q ∙ none-noted 40000 k))
+unfolding filled zeros
+filled-zeros p {t} q = ext-getD 0 (map fresh (from 0 (length t))) (placesOf p) (size ∙ long ∙ sym (length-places p)) (λ k h. getD-map-from fresh 0 (length t) k 0 (omega (arith, size)) ∙ ap fresh (omega arith) ∙ over-none (getD (placesOf p) k 0) (ap (λ (s : List ℕ). getD s k 0) q ∙ getD-zeros 40000 k))
   where
     fresh : ℕ → ℕ
     fresh k = over (getD t k 0) (getD (placesOf p) k 0)

@@ -1,14 +1,15 @@
 -- What is printed from each call on, by what the call answers and the struct that it leaves.
-use Prim.Native.Nat.{ℕ, zero, suc, _+_, _-_, _≤_, _<_}
-use mathlib.Core.Path.{_≡_, refl, sym, ap, _∙_, subst}
+use Prim.Native.Nat.{ℕ, zero, suc, _+_, _-_, _≤_}
+use mathlib.Core.Path.{_≡_, refl, sym, ap, _∙_}
 use mathlib.Core.List.{List, [], _∷_, _++_}
 use mathlib.Core.Bool.{true}
-use mathlib.Core.Option.{Option, none, some}
+use mathlib.Core.Option.{Option, none}
 use native.Mathlib.Omega.{arith}
-use lib.ListN.{length, getD}
-use Rattle.lists.specs.Spans.{zeros, padded}
-use Rattle.model.specs.Outcome.{Outcome, accepted, refused, passed, _>>=_}
-use Rattle.model.specs.Plan.{Plan, count, entryCount}
+use lib.ListN.{getD}
+use Rattle.lists.proofs.Padded.{getD-padded}
+use Rattle.lists.specs.Spans.{padded}
+use Rattle.model.specs.Outcome.{Outcome, accepted, refused, passed}
+use Rattle.model.specs.Plan.{Plan, count}
 use Rattle.model.specs.Chart.{Chart, chart}
 use Rattle.model.specs.Sweep.{sweep}
 use Rattle.model.specs.Scan.{Triple}
@@ -17,7 +18,6 @@ use Rattle.model.specs.Calls.{planOf, labelsOf, chartOf, openCall, scanCall, sw
 use Rattle.model.proofs.Outcomes.{not-both, same-value, same-refusal, bind-accepted, then-accepted}
 use Rattle.model.proofs.LabelCounts.{sweep-long}
 use Rattle.model.proofs.RingPart.{open-accepted}
-use Rattle.model.proofs.FileWrite.{Fits}
 use Rattle.model.proofs.FileRead.{read-fits}
 use Rattle.fit.specs.Fits.{fit}
 use Rattle.sheet.specs.declared.Sheet.{Sheet}
@@ -25,6 +25,7 @@ use Rattle.sheet.specs.Sheets.{heldPlan, fits, reads, stageRead, rank, pack, pa
 use Rattle.sheet.specs.Answers.{answerOf, after}
 use Rattle.sheet.proofs.Reading.{plan-early, plan-there, fits-there, count-held, few}
 use Rattle.sheet.proofs.Packed.{reads-packed}
+use Rattle.sheet.proofs.RoundTrips.{has-plan}
 use Rattle.judging.specs.Rules.{rulesFrom8}
 use Rattle.opening.specs.Opening.{lentOf}
 use Rattle.opening.proofs.Opened.{judge-parts, sheet-held}
@@ -89,29 +90,11 @@ labels-plan (file.labelled p ls) a e = ap (λ (b : Plan × List ℕ). accepted (
 labels-plan (file.charted p ls c) a e = ap (λ (b : Plan × List ℕ). accepted (b .0)) (same-value e)
 
 -- ---- chart
--- zeros read as 0, inside and outside
-getD-zeros : (k i : ℕ) → getD (zeros k) i 0 ≡ 0
-unfolding zeros
-getD-zeros zero i = refl
-getD-zeros (suc k) zero = refl
-getD-zeros (suc k) (suc i) = getD-zeros k i
-
--- with zeros behind it a list reads the same
-getD-behind : (l : List ℕ) (k i : ℕ) → getD (l ++ zeros k) i 0 ≡ getD l i 0
-getD-behind [] k i = getD-zeros k i
-getD-behind (a ∷ l) k zero = refl
-getD-behind (a ∷ l) k (suc i) = getD-behind l k i
-
--- so does a padded array
-getD-padded : (l : List ℕ) (k i : ℕ) → getD (padded k l) i 0 ≡ getD l i 0
-unfolding padded
-getD-padded l k i = getD-behind l (k - length l) i
-
 -- zeros behind the numbers of a chart are not printed
 points-padded : (xs ys : List ℕ) (k n : ℕ) → pointLines (padded k xs) (padded k ys) n ≡ pointLines xs ys n
 unfolding pointLines
 points-padded xs ys k zero = refl
-points-padded xs ys k (suc u) = λ i. points-padded xs ys k u i ++ pointLine u (getD-padded xs k u i) (getD-padded ys k u i)
+points-padded xs ys k (suc u) = λ i. points-padded xs ys k u i ++ pointLine u (getD-padded k xs u i) (getD-padded k ys u i)
 
 -- one more point
 pub points-more : (xs ys : List ℕ) (u : ℕ) → pointLines xs ys u ++ pointLine u (getD xs u 0) (getD ys u 0) ≡ pointLines xs ys (u + 1)
@@ -179,14 +162,6 @@ pub plan-printed : (s : Sheet) → planOf (reads s) ≡ accepted (heldPlan s) �
 unfolding planText told
 plan-printed s e = ap (λ (n : ℕ). planLine n ++ scanText (reads s)) (sym (count-held s)) ∙ ap (λ (o : Outcome Plan). told o (λ (p : Plan). planLine (count p) ++ scanText (reads s))) (sym e)
 
--- a sheet that has a file has a plan
-plan-of : (s : file.Sheet) → Fits s → (p : Plan) × (planOf s ≡ accepted p)
-unfolding planOf
-plan-of file.fresh f = absurd f
-plan-of (file.opened p) f = (p, refl)
-plan-of (file.labelled p ls) f = (p, refl)
-plan-of (file.charted p ls c) f = (p, refl)
-
 -- an accepted open leaves a struct with the file's plan
 pub open-accepted-on : (b : List ℕ) (first t : Sheet) → passed ≡ answerOf (openCall b) → t ≡ after first (openCall b) → (planText (reads t) ≡ fileText b) × (planOf (reads t) ≡ accepted (heldPlan t))
 unfolding fileText told answerOf after
@@ -199,6 +174,6 @@ open-accepted-on b first t e q = go (openCall b) refl e q
         let fit = read-fits b s is in
         let kept = then-accepted (lentOf s) (rulesFrom8 s) tt (sym (judge-parts s) ∙ ok) .0 in
         let read = ap reads r ∙ reads-packed s (sheet-held s fit (sym kept)) in
-        let (p, plan) = plan-of s fit in
+        let (p, plan) = has-plan s fit in
         let there = ap planOf read ∙ plan in
         (ap planText read, there ∙ ap accepted (plan-read t p there .0))

@@ -5,6 +5,7 @@ use mathlib.Core.List.{List, _++_}
 use native.Mathlib.Omega.{arith}
 use lib.ListN.{length, drop}
 use lib.Dec.{leb}
+use Rattle.rings.proofs.Rows.{held-small}
 use Rattle.lists.specs.Spans.{stretch}
 use Rattle.model.specs.Outcome.{Outcome, accepted, refused, require, _>>_}
 use Rattle.model.specs.Plan.{Plan}
@@ -16,7 +17,7 @@ use Rattle.writing.specs.declared.Parts.{Parts}
 use Rattle.writing.specs.declared.Written as writing
 use Rattle.writing.specs.declared.Written.the-variants.{Length, Short}
 use Rattle.writing.specs.Files.{dartsHeld, labelsHeld, chartHeld, sheetHeld, outcomeOf, bufferAfter}
-use Rattle.writing.proofs.Held.{kept-all, plan-all}
+use Rattle.writing.proofs.Held.{kept-all}
 use Rattle.sheet.specs.declared.Sheet.{Sheet}
 use Rattle.sheet.specs.declared.Stage.{Stage}
 use Rattle.sheet.specs.declared.Stage.the-variants.{Empty, Open, Labelled, Charted}
@@ -34,7 +35,7 @@ sheetIn q s = sheetHeld q (s .n) (s .sizes) (s .entries) (s .labels) (s .w) (s .
 module _ (s : Sheet) where
   plan-in : s .n ≤ 200 → flat.held (s .sizes) (s .entries) (s .n) ≡ heldPlan s
   unfolding heldPlan
-  plan-in h = plan-all (s .sizes) (s .entries) (s .n) h
+  plan-in h = held-small (s .sizes) (s .entries) (s .n) h
 
   labels-in : s .n ≤ 200 → labelsHeld (s .sizes) (s .labels) (s .n) ≡ heldLabels s
   unfolding labelsHeld dartsHeld heldLabels heldCount

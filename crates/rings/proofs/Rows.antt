@@ -1,5 +1,5 @@
 -- The ring of a context in flat arrays, and look-ups in it.
-use Prim.Native.Nat.{ℕ, zero, suc, _+_, _-_, _*_, _≤_, _<_}
+use Prim.Native.Nat.{ℕ, zero, suc, _+_, _-_, _*_, _≤_, _<_, min}
 use mathlib.Core.Path.{_≡_, refl, sym, ap, _∙_, subst}
 use mathlib.Core.List.{List, [], _∷_, _++_, map}
 use mathlib.Core.Bool.{Bool, true, false, cond, _||_}
@@ -13,7 +13,7 @@ use Rattle.lists.specs.Parts.{indexOf}
 use Rattle.lists.specs.Spans.{stretch, span}
 use Rattle.lists.proofs.Spans.{length-stretch, getD-stretch}
 use Rattle.model.specs.Plan.{Plan, count, neighbour, entries, ring, adjacent, onward, next}
-use Rattle.rings.specs.Tables.{sumOf, startOf, sizeOf, rows}
+use Rattle.rings.specs.Tables.{sumOf, startOf, sizeOf, rows, table, held}
 use Rattle.rings.proofs.Made.{Reads, entries-made, ring-made, count-made, size-made, past-made, at-made}
 
 -- ---- starts: each ring begins where the one before ends
@@ -80,6 +80,11 @@ module _ (starts sizes es : List ℕ) (n : ℕ) where
   ring-index u v =
       let k : getD starts u 0 + sizeOf sizes n u - getD starts u 0 ≡ sizeOf sizes n u = omega arith in
       ap (λ (j : ℕ). indexOf v (map neighbour (stretch es (getD starts u 0) j))) k ∙ ap (indexOf v) (sym (ring-rows u))
+
+-- of n contexts, at most 200
+pub held-small : (sizes es : List ℕ) (n : ℕ) → n ≤ 200 → held sizes es n ≡ table sizes es n
+unfolding held
+held-small sizes es n h = let z : min n 200 ≡ n = omega arith in ap (table sizes es) z
 
 -- an index in a list, or its length
 pub index-le : (v : ℕ) (l : List ℕ) → indexOf v l ≤ length l

@@ -1,46 +1,27 @@
 -- A sheet that fits comes back from the struct that it is packed into.
 use Prim.Native.Nat.{ℕ, zero, suc, _+_, _-_, _≤_, _<_}
-use mathlib.Core.Path.{_≡_, refl, sym, ap, _∙_, subst}
-use mathlib.Core.List.{List, [], _∷_, _++_, map, append-assoc}
+use mathlib.Core.Path.{_≡_, refl, sym, ap, _∙_}
+use mathlib.Core.List.{List, [], _∷_, _++_, map}
 use mathlib.Core.Bool.{Bool, true, false, cond}
 use native.Mathlib.Omega.{arith}
-use lib.ListN.{length, getD, take, drop, length-append, length-map, List·getD-append}
-use lib.Seq.{ext-getD, take-length, getD-append-add}
+use lib.ListN.{length, getD, take, length-append}
+use lib.Seq.{ext-getD, take-length}
 use Rattle.lists.specs.Ranges.{from}
 use Rattle.lists.specs.Parts.{concat}
 use Rattle.lists.specs.Spans.{stretch, zeros, padded}
 use Rattle.lists.proofs.Ranges.{length-map-from, getD-map-from}
-use Rattle.lists.proofs.Spans.{length-stretch, getD-stretch}
+use Rattle.lists.proofs.Padded.{getD-padded, stretch-padded}
+use Rattle.lists.proofs.Stretches.{stretch-joined}
 use Rattle.model.specs.Plan.{Plan, count, entryCount}
 use Rattle.model.specs.Chart.{Chart}
 use Rattle.model.specs.File as file
-use Rattle.rings.specs.Tables.{sumOf, startOf, startsOf, sizeOf, rows, table}
+use Rattle.rings.specs.Tables.{sumOf, startOf, startsOf, rows, table}
 use Rattle.fit.specs.Fits.{fit}
 use Rattle.fit.proofs.Fits.{fit-says}
 use Rattle.sheet.specs.declared.Sheet.{Sheet}
 use Rattle.sheet.specs.declared.Stage.{Stage}
 use Rattle.sheet.specs.declared.Stage.the-variants.{Empty, Open, Labelled, Charted}
 use Rattle.sheet.specs.Sheets.{heldCount, heldPlan, heldLabels, heldChart, held, fits, reads, pack, noChart, packed}
-
--- what stands at the front of an array is read back
-pub stretch-front : (l m : List ℕ) → stretch (l ++ m) 0 (length l) ≡ l
-stretch-front l m =
-    ext-getD 0 (stretch (l ++ m) 0 (length l)) l (length-stretch (l ++ m) 0 (length l))
-    (λ i h. let k : i < length l = let q = length-stretch (l ++ m) 0 (length l) in omega arith in getD-stretch (l ++ m) 0 (length l) i k ∙ ap (λ (j : ℕ). getD (l ++ m) j 0) (omega arith) ∙ List·getD-append l m 0 i k)
-
--- and what stands behind something else
-pub stretch-behind : (l r m : List ℕ) → stretch (l ++ (r ++ m)) (length l) (length r) ≡ r
-stretch-behind l r m =
-    ext-getD 0 (stretch (l ++ (r ++ m)) (length l) (length r)) r (length-stretch (l ++ (r ++ m)) (length l) (length r))
-    (λ i h. let k : i < length r = let q = length-stretch (l ++ (r ++ m)) (length l) (length r) in omega arith in getD-stretch (l ++ (r ++ m)) (length l) (length r) i k ∙ getD-append-add l (r ++ m) i 0 ∙ List·getD-append r m 0 i k)
-
-pub stretch-padded : (k : ℕ) (l : List ℕ) → stretch (padded k l) 0 (length l) ≡ l
-unfolding padded
-stretch-padded k l = stretch-front l (zeros (k - length l))
-
-getD-padded : (k : ℕ) (l : List ℕ) (i : ℕ) → i < length l → getD (padded k l) i 0 ≡ getD l i 0
-unfolding padded
-getD-padded k l i h = List·getD-append l (zeros (k - length l)) 0 i h
 
 -- ---- sizes and starts of packed rings
 take-sizes : (rs : List (List ℕ)) (m : List ℕ) (u : ℕ) → u ≤ length rs → startOf (map length rs ++ m) u ≡ length (concat (take u rs))
@@ -58,25 +39,13 @@ unfolding startsOf
 starts-at sizes u h = getD-map-from (startOf sizes) 0 200 u 0 h ∙ ap (startOf sizes) (omega arith)
 
 -- the u-th ring among all
-ring-behind : (m before : List ℕ) (rs : List (List ℕ)) (u : ℕ) → u < length rs → stretch (before ++ (concat rs ++ m)) (length before + length (concat (take u rs))) (length (getD rs u [])) ≡ getD rs u []
-ring-behind m before [] u h = absurd (omega arith)
-ring-behind m before (r ∷ rs) zero h =
-    let z : length before + 0 ≡ length before = omega arith in
-    ap (λ (k : ℕ). stretch (before ++ (r ++ concat rs ++ m)) k (length r)) z ∙ ap (λ (l : List ℕ). stretch (before ++ l) (length before) (length r)) (append-assoc r (concat rs) m) ∙ stretch-behind before r (concat rs ++ m)
-ring-behind m before (r ∷ rs) (suc u) h =
-    let far : length before + length (r ++ concat (take u rs)) ≡ length (before ++ r) + length (concat (take u rs)) = omega (arith, length-append r (concat (take u rs)), length-append before r) in
-    let all : before ++ (r ++ concat rs ++ m) ≡ before ++ r ++ (concat rs ++ m) = ap (λ (l : List ℕ). before ++ l) (append-assoc r (concat rs) m) ∙ sym (append-assoc before r (concat rs ++ m)) in
-    (λ i. stretch (all i) (far i) (length (getD rs u []))) ∙ ring-behind m (before ++ r) rs u (omega arith)
-
-ring-among : (k : ℕ) (rs : List (List ℕ)) (u : ℕ) → u < length rs → stretch (padded k (concat rs)) (length (concat (take u rs))) (length (getD rs u [])) ≡ getD rs u []
+ring-among : (k : ℕ) (rs : List (List ℕ)) (u : ℕ) → stretch (padded k (concat rs)) (length (concat (take u rs))) (length (getD rs u [])) ≡ getD rs u []
 unfolding padded
-ring-among k rs u h =
-    let z : 0 + length (concat (take u rs)) ≡ length (concat (take u rs)) = omega arith in
-    ap (λ (j : ℕ). stretch (concat rs ++ zeros (k - length (concat rs))) j (length (getD rs u []))) (sym z) ∙ ring-behind (zeros (k - length (concat rs))) [] rs u h
+ring-among k rs u = stretch-joined rs (zeros (k - length (concat rs))) u
 
 -- the size of the u-th ring
 pub size-at : (k : ℕ) (rs : List (List ℕ)) (u : ℕ) → u < length rs → getD (padded k (map length rs)) u 0 ≡ length (getD rs u [])
-size-at k rs u h = getD-padded k (map length rs) u (let l = length-map rs (length {A = ℕ}) in omega arith) ∙ go rs u h
+size-at k rs u h = getD-padded k (map length rs) u ∙ go rs u h
   where
     go : (rs : List (List ℕ)) (u : ℕ) → u < length rs → getD (map length rs) u 0 ≡ length (getD rs u [])
     go [] u h = absurd (omega arith)
@@ -94,7 +63,7 @@ table-packed k rs h = λ i. record { rings = same i }
     each : (u : ℕ) → u < length rs → f u ≡ getD rs u []
     each u q =
         let s = starts-at (padded 200 (map length rs)) u (omega arith) ∙ start-packed 200 rs u (omega arith) in
-        (λ i. stretch (padded k (concat rs)) (s i) (size-at 200 rs u q i)) ∙ ring-among k rs u q
+        (λ i. stretch (padded k (concat rs)) (s i) (size-at 200 rs u q i)) ∙ ring-among k rs u
 
     same : map f (from 0 (length rs)) ≡ rs
     same = ext-getD [] (map f (from 0 (length rs))) rs (length-map-from f 0 (length rs))

@@ -45,7 +45,7 @@ judged-held (file.charted p ls c) f e =
     (plan-held p (f .0) r, f .1 ∙ sym (sound p r .total), record { xs-each = f .2 .xs-each; ys-each = f .2 .ys-each })
 
 -- ---- write, on a sheet that has a file
-has-plan : (t : file.Sheet) → Fits t → (p : Plan) × (planOf t ≡ accepted p)
+pub has-plan : (t : file.Sheet) → Fits t → (p : Plan) × (planOf t ≡ accepted p)
 unfolding planOf
 has-plan file.fresh f = absurd f
 has-plan (file.opened p) f = (p, refl)

@@ -1,49 +1,26 @@
 -- Arrays that hold a list and zeros after it; the constraints that three arrays hold; sums of lists.
 use Prim.Native.Nat.{ℕ, zero, suc, _+_, _-_, _*_, _≤_, _<_}
 use mathlib.Core.Path.{_≡_, refl, sym, ap, _∙_}
-use mathlib.Core.List.{List, [], _∷_, _++_, map, List·Memᴰ, Memᴰ·map, Memᴰ·of-map}
+use mathlib.Core.List.{List, [], _∷_, _++_, List·Memᴰ, Memᴰ·map, Memᴰ·of-map}
 use mathlib.Core.Bool.{Bool, true, false, cond}
 use mathlib.Core.Logic.{_≢_}
 use native.Mathlib.Omega.{arith}
 use native.Mathlib.Nat.{suc-mul}
-use lib.ListN.{length, getD, set, take, length-append, List·getD-eq-default}
+use lib.ListN.{length, getD, set, take, List·getD-eq-default}
 use lib.Seq.{ext-getD, getD-take, length-take-le, getD-set-same, getD-set-other}
 use lib.Dec.{eqb, ltb}
 use borrow.Author.Tests.{ltb-true, ltb-false, eqb-false, eq-eqb, ne-eqb}
 use Rattle.lists.specs.Ranges.{from}
-use Rattle.lists.specs.Spans.{stretch, zeros, padded}
+use Rattle.lists.specs.Spans.{zeros, padded}
 use Rattle.lists.proofs.Ranges.{from-mem, mem-from}
-use Rattle.lists.proofs.Spans.{length-stretch, getD-stretch, length-zeros}
+use Rattle.lists.proofs.Spans.{length-zeros}
+use Rattle.lists.proofs.Padded.{getD-zeros, getD-padded, length-padded}
+use Rattle.lists.proofs.Stretches.{map-from-same, map-from-more}
 use Rattle.model.specs.Chart.{Constraint, constraint}
 use Rattle.rings.specs.Tables.{sumOf}
 use Rattle.solver.specs.Constraints.{rise, constraintAt, listedFrom, listed}
 
 -- ---- a list and zeros after it
-pub getD-zeros : (k i : ℕ) → getD (zeros k) i 0 ≡ 0
-unfolding zeros
-getD-zeros zero i = refl
-getD-zeros (suc k) zero = refl
-getD-zeros (suc k) (suc i) = getD-zeros k i
-
-pub getD-padded : (k : ℕ) (l : List ℕ) (i : ℕ) → getD (padded k l) i 0 ≡ getD l i 0
-unfolding padded
-getD-padded k l i = go l (k - length l) i
-  where
-    go : (l : List ℕ) (j i : ℕ) → getD (l ++ zeros j) i 0 ≡ getD l i 0
-    go [] j i = getD-zeros j i
-    go (a ∷ l) j zero = refl
-    go (a ∷ l) j (suc i) = go l j i
-
-pub length-padded : (k : ℕ) (l : List ℕ) → length l ≤ k → length (padded k l) ≡ k
-unfolding padded
-length-padded k l h = let a = length-append l (zeros (k - length l)) in let b = length-zeros (k - length l) in omega arith
-
--- inside a list it does not matter what is read outside
-pub getD-inside : (l : List ℕ) (i a b : ℕ) → i < length l → getD l i a ≡ getD l i b
-getD-inside [] i a b h = absurd (omega arith)
-getD-inside (k ∷ l) zero a b h = refl
-getD-inside (k ∷ l) (suc i) a b h = getD-inside l i a b (omega arith)
-
 -- the first n entries of an array that has zeros from n on
 module _ (k n : ℕ) (l : List ℕ) (size : length l ≡ k) (fits : n ≤ k) (past : (u : ℕ) → n ≤ u → getD l u 0 ≡ 0) where
   pub getD-first : (u : ℕ) → getD (take n l) u 0 ≡ getD l u 0
@@ -61,13 +38,6 @@ module _ (k n : ℕ) (l : List ℕ) (size : length l ≡ k) (fits : n ≤ k) (pa
       let s = length-take-le n l (omega arith) in
       let p = length-padded k (take n l) (omega arith) in
       ext-getD 0 l (padded k (take n l)) (omega arith) (λ u _. sym (getD-padded k (take n l) u ∙ getD-first u))
-
--- and of an array that holds a list of n
-pub stretch-padded : (k : ℕ) (l : List ℕ) → stretch (padded k l) 0 (length l) ≡ l
-stretch-padded k l =
-    let a = length-stretch (padded k l) 0 (length l) in
-    ext-getD 0 (stretch (padded k l) 0 (length l)) l a
-    (λ u h. getD-stretch (padded k l) 0 (length l) u (omega arith) ∙ ap (λ (j : ℕ). getD (padded k l) j 0) (omega arith) ∙ getD-padded k l u)
 
 -- ---- constraints in three arrays
 pub rise-le : (g : ℕ) → rise g ≤ 1
@@ -98,15 +68,6 @@ module _ (lows highs gaps : List ℕ) (count : ℕ) where
   pub listed-small : (c : Constraint) → List·Memᴰ c (listed lows highs gaps count) → c .gap ≤ 1
   unfolding constraintAt
   listed-small c m = let (k, h, e) = listed-mem c m in let q : rise (getD gaps k 0) ≡ c .gap = ap (λ (d : Constraint). d .gap) e in let r = rise-le (getD gaps k 0) in omega arith
-
--- equal on a range
-pub map-from-same : {A : Type 0} (f g : ℕ → A) (a k : ℕ) → ((j : ℕ) → a ≤ j → j < a + k → f j ≡ g j) → map f (from a k) ≡ map g (from a k)
-map-from-same f g a zero h = refl
-map-from-same f g a (suc k) h = let r = map-from-same f g (suc a) k (λ j b c. h j (omega arith) (omega arith)) in let e = h a (omega arith) (omega arith) in λ i. e i ∷ r i
-
-pub map-from-more : {A : Type 0} (f : ℕ → A) (a k : ℕ) → map f (from a (suc k)) ≡ map f (from a k) ++ (f (a + k) ∷ [])
-map-from-more f a zero = let z : a + 0 ≡ a = omega arith in rw z
-map-from-more {A} f a (suc k) = let z : suc a + k ≡ a + suc k = omega arith in ap (λ (l : List A). f a ∷ l) (map-from-more f (suc a) k ∙ rw z)
 
 -- the first two constraints of arrays that hold one number each
 pub two-first : (zl zh zg : List ℕ) (e : ℕ) → zl ≡ zeros 1188 → zh ≡ zeros 1188 → zg ≡ zeros 1188 → listed (set zl 1 e) (set zh 0 e) zg 2 ≡ constraint 0 e 0 ∷ constraint e 0 0 ∷ []

@@ -1,25 +1,25 @@
 -- What the solver's loops keep, each with a law for its start, its steps and its end; and that what the solver leaves is the least numbers.
-use Prim.Native.Nat.{ℕ, zero, suc, _+_, _-_, _*_, _≤_, _<_}
+use Prim.Native.Nat.{ℕ, suc, _+_, _-_, _*_, _≤_, _<_}
 use mathlib.Core.Path.{_≡_, refl, sym, ap, _∙_, subst}
-use mathlib.Core.List.{List, [], _∷_, map, List·Memᴰ}
+use mathlib.Core.List.{List, List·Memᴰ}
 use mathlib.Core.Logic.{_≢_, _⊎_, inl, inr}
-use mathlib.Core.Bool.{Bool, true, false, cond, _&&_, false≢true, true≢false}
+use mathlib.Core.Bool.{Bool, true, false, _&&_, false≢true, true≢false}
 use native.Mathlib.Omega.{arith}
-use lib.ListN.{length, getD, set, take, replicate, length-set, length-replicate}
+use lib.ListN.{length, getD, set, take, replicate, length-set}
 use lib.Seq.{getD-set-same, getD-set-other, length-take-le}
-use lib.Dec.{eqb, ltb, leb}
+use lib.Dec.{eqb}
 use borrow.Author.Tests.{eqb-true, eqb-false, le-leb, lt-leb}
+use Rattle.lists.proofs.Padded.{getD-zeros}
 use Rattle.lists.specs.Tests.{all}
-use Rattle.lists.specs.Spans.{zeros, padded}
-use Rattle.model.specs.Outcome.{Outcome, accepted, refused}
+use Rattle.lists.specs.Spans.{zeros}
+use Rattle.model.specs.Outcome.{refused}
 use Rattle.model.specs.Chart.{Constraint, meets, leastNumbers}
-use Rattle.model.proofs.Least.{Fits, Low, fits-low, least-is, least-refuses}
+use Rattle.model.proofs.Least.{Fits, fits-low, least-is, least-refuses}
 use Rattle.rings.specs.Tables.{sumOf}
-use Rattle.solver.specs.declared.Numbers.{Numbers}
 use Rattle.solver.specs.declared.Round.{Round}
 use Rattle.solver.specs.Constraints.{rise, constraintAt, listedFrom, listed, solved, numbersOf}
 use Rattle.solver.specs.Relaxing.{Keeps, Raised, MetAt, placeOf, Passing, Passed}
-use Rattle.solver.proofs.Arrays.{getD-zeros, getD-first, padded-first, mem-listed, listed-mem, listed-small, sum-raise, sum-most}
+use Rattle.solver.proofs.Arrays.{getD-first, padded-first, mem-listed, listed-mem, listed-small, sum-raise, sum-most}
 
 -- ---- the order of a pass
 pub place-below : (back : Bool) (count i : ℕ) → i < count → placeOf back count i < count

@@ -2,18 +2,18 @@
 use Prim.Native.Nat.{ℕ, zero, suc, _+_, _-_, _≤_, _<_, min}
 use mathlib.Core.Path.{_≡_, refl, sym, ap, _∙_, subst}
 use mathlib.Core.Logic.{_⊎_, inl, inr}
-use mathlib.Core.List.{List, [], _∷_, _++_}
+use mathlib.Core.List.{List, [], _++_}
 use mathlib.Core.Bool.{Bool, true, false, cond, not, _&&_, _||_, false≢true, true≢false}
 use native.Mathlib.Omega.{arith}
 use lib.ListN.{length, getD, take, drop, length-drop, List·getD-eq-default}
 use lib.Seq.{drop-append-le, take-append-le}
 use lib.Dec.{eqb, ltb}
 use borrow.Author.Tests.{ltb-true, ltb-false, le-leb, lt-leb}
-use Rattle.lists.specs.Tests.{any}
 use Rattle.lists.specs.Ranges.{firstFrom, lowest}
 use Rattle.lists.specs.Parts.{indexOf}
 use Rattle.lists.specs.Spans.{zeros, padded}
 use Rattle.lists.proofs.Loops.{padded-none}
+use Rattle.lists.proofs.Tests.{any-same}
 use Rattle.model.specs.Outcome.{Outcome, accepted, refused, _>>=_, _>>_, require, taken}
 use Rattle.model.specs.Plan.{Plan, count, entries, ring, border, entryCount}
 use Rattle.model.specs.Labels.{borderLabel, unlabelled, start, labelsAround, labelOf, turned, badDart, fourRuns, due, notDue, badRing, breaks, labelRules}
@@ -25,23 +25,17 @@ use Rattle.steps.specs.declared.Ended.{Ended}
 use Rattle.fit.specs.Fits.{fit}
 use Rattle.steps.specs.Run.{swept, stepsOf, endedAs}
 use Rattle.sweep.specs.Swept.{sweepOf, outcomeOf, bare, unswept}
-use Rattle.rings.specs.Tables.{startsOf, rows, table}
-use Rattle.rings.proofs.Rows.{count-rows}
+use Rattle.rings.specs.Tables.{startsOf, table}
+use Rattle.rings.proofs.Rows.{count-rows, held-small}
 use Rattle.rings.specs.Tables.{held}
-use Rattle.labels.proofs.Places.{held-small}
 use Rattle.fit.proofs.Fits.{fit-says}
-use Rattle.steps.proofs.Draws.{as-table, start-next, start-le}
+use Rattle.steps.proofs.Draws.{start-next, start-le}
 use Rattle.steps.proofs.Steps.{swept-14}
 
 -- ---- the label rules on labels with zeros after them
 -- a part of the labels
 part-padded : (s k : ℕ) (ls z : List ℕ) → s + k ≤ length ls → take k (drop s (ls ++ z)) ≡ take k (drop s ls)
 part-padded s k ls z h = ap (take k) (drop-append-le s ls z (omega arith)) ∙ take-append-le k (drop s ls) z (let d = length-drop s ls in omega arith)
-
--- tests that agree on every entry
-any-same : (f g : ℕ → Bool) (l : List ℕ) → ((a : ℕ) → f a ≡ g a) → any f l ≡ any g l
-any-same f g [] h = refl
-any-same f g (a ∷ l) h = λ i. h a i || any-same f g l h i
 
 -- tests that agree have the same lowest number
 lowest-same : (f g : ℕ → Bool) (a k : ℕ) → ((u : ℕ) → f u ≡ g u) → firstFrom f a k ≡ firstFrom g a k

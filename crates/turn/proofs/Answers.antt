@@ -6,13 +6,13 @@ use mathlib.Core.List.{List, [], _∷_, _++_}
 use mathlib.Core.Bool.{Bool, false, cond}
 use native.Mathlib.Omega.{arith}
 use lib.ListN.{length, take, drop, take-append-drop}
-use lib.Seq.{length-take-le, take-all}
+use lib.Seq.{take-all}
 use borrow.Author.Tests.{le-leb, lt-leb, lt-ltb, le-ltb, eq-eqb, ne-eqb}
 use Rattle.lists.specs.Ranges.{lowest}
 use Rattle.lists.specs.Parts.{pairs}
 use Rattle.lists.specs.Spans.{stretch}
 use Rattle.lists.proofs.Parts.{length-pairs}
-use Rattle.lists.proofs.Spans.{length-stretch}
+use Rattle.lists.proofs.Spans.{length-stretch, stretch-first}
 use Rattle.lists.proofs.Stretches.{stretch-front}
 use Rattle.model.specs.Outcome.{accepted, refused, _>>_, require}
 use Rattle.model.specs.Plan.{Plan, Dart, count, entryCount}
@@ -51,13 +51,9 @@ module _ (p : Plan) (q : ℕ) where
       ∙ edges-behind ds (turnDart p q d back) rest (turn-long p q d back ∙ t)
 
 -- ---- what an array begins with, and what is behind
--- the first k
-front-is : (l : List ℕ) (k : ℕ) → k ≤ length l → stretch l 0 k ≡ take k l
-front-is l k h = (λ i. stretch (sym (take-append-drop k l) i) 0 (sym (length-take-le k l h) i)) ∙ stretch-front (take k l) (drop k l)
-
 -- the first k, and the others
 array-split : (l : List ℕ) (k : ℕ) → k ≤ length l → l ≡ stretch l 0 k ++ drop k l
-array-split l k h = sym (take-append-drop k l) ∙ ap (λ (m : List ℕ). m ++ drop k l) (sym (front-is l k h))
+array-split l k h = sym (take-append-drop k l) ∙ ap (λ (m : List ℕ). m ++ drop k l) (sym (stretch-first l k h))
 
 -- ---- the model's turn, in the order of its tests
 module _ (p : Plan) (ls items : List ℕ) (direction : ℕ) where

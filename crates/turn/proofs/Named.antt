@@ -3,7 +3,7 @@ use Prim.Native.Nat.{ℕ, _+_, _*_, _/_, _%_, _≤_}
 use mathlib.Core.Path.{_≡_, refl, sym, ap, _∙_}
 use mathlib.Core.Logic.{_≢_}
 use mathlib.Core.List.{List, [], _∷_, _++_}
-use mathlib.Core.Bool.{Bool, true, false, cond, not, _&&_, _||_, or-true}
+use mathlib.Core.Bool.{Bool, true, false, cond, not, _&&_, _||_, or-true, and-comm, or-comm}
 use native.Mathlib.Omega.{arith}
 use lib.ListN.{length, getD}
 use lib.Seq.{getD-set-same, getD-set-other}
@@ -87,26 +87,12 @@ twice-other l q h e =
     not-odd q k e h = omega arith
 
 -- ---- an edge named in the other order
--- both of two, in the other order
-and-swap : (a b : Bool) → (a && b) ≡ (b && a)
-and-swap true true = refl
-and-swap true false = refl
-and-swap false true = refl
-and-swap false false = refl
-
--- either of two, in the other order
-or-swap : (a b : Bool) → (a || b) ≡ (b || a)
-or-swap true true = refl
-or-swap true false = refl
-or-swap false true = refl
-or-swap false false = refl
-
 -- it is the same edge
 edge-swap : (u v : ℕ) (d : Dart) → sameEdge (dart v u) d ≡ sameEdge (dart u v) d
 unfolding sameEdge
 edge-swap u v d =
-    (λ i. and-swap (eqb v (d .0)) (eqb u (d .1)) i || and-swap (eqb v (d .1)) (eqb u (d .0)) i)
-    ∙ or-swap (eqb u (d .1) && eqb v (d .0)) (eqb u (d .0) && eqb v (d .1))
+    (λ i. and-comm (eqb v (d .0)) (eqb u (d .1)) i || and-comm (eqb v (d .1)) (eqb u (d .0)) i)
+    ∙ or-comm (eqb u (d .1) && eqb v (d .0)) (eqb u (d .0) && eqb v (d .1))
 
 -- it was named before in both orders or in neither
 named-swap : (u v : ℕ) (ds : List Dart) → any (sameEdge (dart v u)) ds ≡ any (sameEdge (dart u v)) ds
@@ -157,7 +143,7 @@ module _ {p : Plan} {old : List ℕ} {ds : List Dart} {new : List ℕ} (inv : Ma
       cases true true e f = renamed (turned (turned (labelOf p new a b) q) q) (forth e) (λ z w. twice-other (labelOf p new a b) q odd (w ∙ sym z))
       cases true false e f = renamed (turned (labelOf p new a b) q) (forth e) (λ z w. once-other (labelOf p new a b) q odd (w ∙ sym z))
       cases false true e f = renamed (turned (labelOf p new a b) q) (reverse f) (λ z w. once-other (labelOf p new a b) q odd (w ∙ sym z))
-      cases false false e f = or-swap (any (sameEdge (dart a b)) ds) false ∙ inv .same a b d
+      cases false false e f = or-comm (any (sameEdge (dart a b)) ds) false ∙ inv .same a b d
 
       -- named by now exactly where the label is another
       now-named : any (sameEdge (dart a b)) (ds ++ (dart u v ∷ [])) ≡ not (eqb (labelOf p (turnDart p q (dart u v) (turnDart p q (dart v u) new)) a b) (labelOf p old a b))

@@ -14,12 +14,13 @@ use Rattle.lists.specs.Parts.{indexOf, pairs}
 use Rattle.lists.proofs.Bools.{or-no}
 use Rattle.lists.proofs.Parts.{length-pairs}
 use Rattle.lists.proofs.Loops.{Looks, looks-start, looks-hit, looks-on, looks-end}
+use Rattle.lists.proofs.Spans.{getD-inside}
 use Rattle.model.specs.Plan.{Plan, Dart, ring, adjacent, border, innerEdge, entryCount}
 use Rattle.model.specs.Labels.{unlabelled, start, labelOf, turned, put}
 use Rattle.model.specs.Turn.{sameEdge, badPair, turnDart, turnEdges}
 use Rattle.rings.specs.Tables.{startOf, startsOf, sizeOf, rows, table}
 use Rattle.rings.proofs.Rows.{count-rows}
-use Rattle.labels.proofs.Places.{getD-inside, start-table, dart-test, place-there}
+use Rattle.labels.proofs.Places.{start-table, dart-test, place-there}
 use Rattle.labels.proofs.Darts.{Place, start-last, place-inside, label-at-place, put-at-place, put-nowhere}
 use Rattle.turn.specs.Run.{placeOf, turnAt, badAt}
 use Rattle.turn.proofs.Named.{dart, turn-long, Marks, marks-start, marks-on}

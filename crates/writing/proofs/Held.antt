@@ -1,29 +1,16 @@
 -- What the arrays hold where n is at most 200 and the arrays reach as far: the plain table, the first labels, the first points.
-use Prim.Native.Nat.{ℕ, zero, suc, _+_, _≤_}
-use mathlib.Core.Path.{_≡_, refl, ap, _∙_}
+use Prim.Native.Nat.{ℕ, _≤_}
+use mathlib.Core.Path.{_≡_, ap, _∙_}
 use mathlib.Core.List.{List}
 use native.Mathlib.Omega.{arith}
-use lib.ListN.{length, take, drop}
-use lib.Seq.{drop-cons}
+use lib.ListN.{length, take}
+use Rattle.lists.proofs.Spans.{stretch-first}
 use Rattle.lists.specs.Spans.{stretch}
-use Rattle.rings.specs.Tables.{startOf, table, held}
+use Rattle.rings.specs.Tables.{startOf}
 use Rattle.writing.specs.Files.{kept, dartsHeld, labelsHeld, chartHeld}
 
 pub kept-all : (n : ℕ) → n ≤ 200 → kept n ≡ n
 kept-all n h = omega arith
-
-pub plan-all : (sizes es : List ℕ) (n : ℕ) → n ≤ 200 → held sizes es n ≡ table sizes es n
-unfolding held
-plan-all sizes es n h = ap (table sizes es) (kept-all n h)
-
--- a stretch inside a list is a part of it
-stretch-part : (l : List ℕ) (i k : ℕ) → i + k ≤ length l → stretch l i k ≡ take k (drop i l)
-unfolding stretch
-stretch-part l i zero h = refl
-stretch-part l i (suc k) h = rw (drop-cons l i 0 (omega arith), stretch-part l (suc i) k (omega arith))
-
-stretch-first : (l : List ℕ) (k : ℕ) → k ≤ length l → stretch l 0 k ≡ take k l
-stretch-first l k h = stretch-part l 0 k (omega arith)
 
 pub labels-all : (sizes ls : List ℕ) (n m : ℕ) → n ≤ 200 → startOf sizes n ≡ m → m ≤ length ls → labelsHeld sizes ls n ≡ take m ls
 unfolding labelsHeld dartsHeld

@@ -4,6 +4,7 @@ use mathlib.Core.Path.{_≡_, refl, sym, ap, _∙_}
 use mathlib.Core.List.{List, [], _∷_, _++_, map}
 use native.Mathlib.Omega.{arith}
 use lib.ListN.{length, getD, length-append}
+use Rattle.model.proofs.FileWrite.{length-entry}
 use Rattle.lists.specs.Ranges.{from}
 use Rattle.lists.specs.Spans.{stretch}
 use Rattle.lists.specs.Words.{bytes}
@@ -16,11 +17,6 @@ use Rattle.rings.proofs.Rows.{start-first, start-more}
 use Rattle.writing.specs.Files.{kept, dartsHeld, labelsHeld, chartHeld, sheetHeld}
 use Rattle.writing.specs.declared.Parts.{Parts}
 use Rattle.writing.specs.declared.Parts.the-variants.{PlanOnly, WithLabels, WithChart}
-
--- a record: a head of four bytes, and the body
-pub length-entry : (kind : ℕ) (body : List ℕ) → length (entry kind body) ≡ 4 + length body
-unfolding entry bytes
-length-entry kind body = omega arith
 
 -- the records of rings: four bytes and two for each entry
 length-rings : (f : ℕ → List ℕ) (sizes : List ℕ) → ((u : ℕ) → length (f u) ≡ getD sizes u 0) → (u k : ℕ)
@@ -79,28 +75,32 @@ length-chart w h xs ys n k q =
     let l = length-entry 4 (bytes (chartOut (chartHeld w h xs ys n))) in
     omega arith
 
+-- ---- the parts of a file
+-- the records of the plan
+abbrev pub planPart : ℕ → List ℕ → List ℕ → List ℕ
+planPart n sizes es = planOut (held sizes es n)
+
+-- the record of the labels
+abbrev pub labelsPart : ℕ → List ℕ → List ℕ → List ℕ
+labelsPart n sizes ls = entry 3 (labelsHeld sizes ls n)
+
+-- the record of the chart
+abbrev pub chartPart : ℕ → ℕ → ℕ → List ℕ → List ℕ → List ℕ
+chartPart n w h xs ys = entry 4 (bytes (chartOut (chartHeld w h xs ys n)))
+
 -- the whole file, by its parts
 module _ (n : ℕ) (sizes es ls : List ℕ) (w h : ℕ) (xs ys : List ℕ) where
-  abbrev P : List ℕ
-  P = planOut (held sizes es n)
-
-  abbrev L : List ℕ
-  L = entry 3 (labelsHeld sizes ls n)
-
-  abbrev C : List ℕ
-  C = entry 4 (bytes (chartOut (chartHeld w h xs ys n)))
-
   abbrev Long : Parts → ℕ
   Long parts = length (encode (sheetHeld parts n sizes es ls w h xs ys))
 
-  pub length-opened : {parts : Parts} {p : ℕ} → parts ≡ PlanOnly → p ≡ length P → p ≡ Long parts
+  pub length-opened : {parts : Parts} {p : ℕ} → parts ≡ PlanOnly → p ≡ length (planPart n sizes es) → p ≡ Long parts
   unfolding encode sheetHeld
   length-opened q e = e ∙ ap Long (sym q)
 
-  pub length-labelled : {parts : Parts} {p l : ℕ} → parts ≡ WithLabels → p ≡ length P → l ≡ length L → p + l ≡ Long parts
+  pub length-labelled : {parts : Parts} {p l : ℕ} → parts ≡ WithLabels → p ≡ length (planPart n sizes es) → l ≡ length (labelsPart n sizes ls) → p + l ≡ Long parts
   unfolding encode sheetHeld
-  length-labelled q e f = (λ i. e i + f i) ∙ sym (length-append P L) ∙ ap Long (sym q)
+  length-labelled q e f = (λ i. e i + f i) ∙ sym (length-append (planPart n sizes es) (labelsPart n sizes ls)) ∙ ap Long (sym q)
 
-  pub length-charted : {parts : Parts} {p l c : ℕ} → parts ≡ WithChart → p ≡ length P → l ≡ length L → c ≡ length C → p + l + c ≡ Long parts
+  pub length-charted : {parts : Parts} {p l c : ℕ} → parts ≡ WithChart → p ≡ length (planPart n sizes es) → l ≡ length (labelsPart n sizes ls) → c ≡ length (chartPart n w h xs ys) → p + l + c ≡ Long parts
   unfolding encode sheetHeld
-  length-charted q e f g = (λ i. e i + f i + g i) ∙ (λ i. sym (length-append P L) i + length C) ∙ sym (length-append (P ++ L) C) ∙ ap Long (sym q)
+  length-charted q e f g = (λ i. e i + f i + g i) ∙ (λ i. sym (length-append (planPart n sizes es) (labelsPart n sizes ls)) i + length (chartPart n w h xs ys)) ∙ sym (length-append (planPart n sizes es ++ labelsPart n sizes ls) (chartPart n w h xs ys)) ∙ ap Long (sym q)

@@ -6,6 +6,7 @@ use native.Mathlib.Omega.{arith}
 use lib.ListN.{length, getD, drop, length-append}
 use lib.Seq.{sets}
 use borrow.Author.Tests.{le-leb, lt-leb}
+use Rattle.model.proofs.FileWrite.{length-entry}
 use Rattle.lists.specs.Ranges.{from}
 use Rattle.lists.specs.Spans.{stretch}
 use Rattle.lists.specs.Words.{bytes}
@@ -23,7 +24,7 @@ use Rattle.writing.specs.declared.Parts.{Parts}
 use Rattle.writing.specs.declared.Parts.the-variants.{PlanOnly, WithLabels, WithChart}
 use Rattle.writing.specs.declared.Written.the-variants.{Length, Short}
 use Rattle.writing.proofs.Emits.{sets-append, sets-front, bytes-two, bytes-cons}
-use Rattle.writing.proofs.Lengths.{length-entry, length-body}
+use Rattle.writing.proofs.Lengths.{length-body, planPart, labelsPart, chartPart}
 
 -- y stored behind x
 pub sets-join : (d : List ℕ) (i : ℕ) (x y : List ℕ) {d′ e : List ℕ} {j : ℕ} → d′ ≡ sets d i x → j ≡ i + length x → e ≡ sets d′ j y → e ≡ sets d i (x ++ y)
@@ -100,29 +101,20 @@ chart-join d i w h xs ys n k {d₁} {d₂} {d₃} {e} {i₁} {i₂} {i₃} q p�
 
 -- ---- the whole file
 module _ (n : ℕ) (sizes es ls : List ℕ) (w h : ℕ) (xs ys : List ℕ) where
-  abbrev P : List ℕ
-  P = planOut (held sizes es n)
-
-  abbrev L : List ℕ
-  L = entry 3 (labelsHeld sizes ls n)
-
-  abbrev C : List ℕ
-  C = entry 4 (bytes (chartOut (chartHeld w h xs ys n)))
-
   abbrev Held : Parts → Sheet
   Held parts = sheetHeld parts n sizes es ls w h xs ys
 
-  pub opened-join : (d : List ℕ) {parts : Parts} {d₁ : List ℕ} → parts ≡ PlanOnly → d₁ ≡ sets d 0 P → d₁ ≡ sets d 0 (encode (Held parts))
+  pub opened-join : (d : List ℕ) {parts : Parts} {d₁ : List ℕ} → parts ≡ PlanOnly → d₁ ≡ sets d 0 (planPart n sizes es) → d₁ ≡ sets d 0 (encode (Held parts))
   unfolding encode sheetHeld
   opened-join d is p = p ∙ ap (λ (s : Parts). sets d 0 (encode (Held s))) (sym is)
 
-  pub labelled-join : (d : List ℕ) {parts : Parts} {d₁ d₂ : List ℕ} {k : ℕ} → parts ≡ WithLabels → d₁ ≡ sets d 0 P → k ≡ length P → d₂ ≡ sets d₁ k L → d₂ ≡ sets d 0 (encode (Held parts))
+  pub labelled-join : (d : List ℕ) {parts : Parts} {d₁ d₂ : List ℕ} {k : ℕ} → parts ≡ WithLabels → d₁ ≡ sets d 0 (planPart n sizes es) → k ≡ length (planPart n sizes es) → d₂ ≡ sets d₁ k (labelsPart n sizes ls) → d₂ ≡ sets d 0 (encode (Held parts))
   unfolding encode sheetHeld
-  labelled-join d is p a q = sets-join d 0 P L p (omega arith) q ∙ ap (λ (s : Parts). sets d 0 (encode (Held s))) (sym is)
+  labelled-join d is p a q = sets-join d 0 (planPart n sizes es) (labelsPart n sizes ls) p (omega arith) q ∙ ap (λ (s : Parts). sets d 0 (encode (Held s))) (sym is)
 
-  pub charted-join : (d : List ℕ) {parts : Parts} {d₁ d₂ d₃ : List ℕ} {k m : ℕ} → parts ≡ WithChart → d₁ ≡ sets d 0 P → k ≡ length P → d₂ ≡ sets d₁ k L → m ≡ length L → d₃ ≡ sets d₂ (k + m) C → d₃ ≡ sets d 0 (encode (Held parts))
+  pub charted-join : (d : List ℕ) {parts : Parts} {d₁ d₂ d₃ : List ℕ} {k m : ℕ} → parts ≡ WithChart → d₁ ≡ sets d 0 (planPart n sizes es) → k ≡ length (planPart n sizes es) → d₂ ≡ sets d₁ k (labelsPart n sizes ls) → m ≡ length (labelsPart n sizes ls) → d₃ ≡ sets d₂ (k + m) (chartPart n w h xs ys) → d₃ ≡ sets d 0 (encode (Held parts))
   unfolding encode sheetHeld
-  charted-join d is p a q b r = let s = length-append P L in sets-join d 0 (P ++ L) C (sets-join d 0 P L p (omega arith) q) (omega arith) r ∙ ap (λ (t : Parts). sets d 0 (encode (Held t))) (sym is)
+  charted-join d is p a q b r = let s = length-append (planPart n sizes es) (labelsPart n sizes ls) in sets-join d 0 (planPart n sizes es ++ labelsPart n sizes ls) (chartPart n w h xs ys) (sets-join d 0 (planPart n sizes es) (labelsPart n sizes ls) p (omega arith) q) (omega arith) r ∙ ap (λ (t : Parts). sets d 0 (encode (Held t))) (sym is)
 
   -- a sheet that has a plan is written where the buffer is long enough, and else refused
   pub written : (parts : Parts) (d : List ℕ) → length (encode (Held parts)) ≤ length d → writeCall (Held parts) d ≡ accepted (length (encode (Held parts)), encode (Held parts) ++ drop (length (encode (Held parts))) d)

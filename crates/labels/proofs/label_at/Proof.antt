@@ -1,9 +1,9 @@
 -- label_at meets its contract.
 use mathlib.Core.Path.{_≡_, sym, _∙_}
 use lib.ListN.{List·getD-eq-default}
-use Rattle.labels.proofs.Places.{getD-inside}
 use native.Mathlib.Omega.{arith}
 use borrow.Author.Needs.{needs}
+use Rattle.lists.proofs.Spans.{getD-inside}
 use Rattle.labels.proofs.label_at.Statement.{statement}
 use Rattle.labels.proofs.label_at.Tie as tie
 

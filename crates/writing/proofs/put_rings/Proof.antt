@@ -12,10 +12,10 @@ use Rattle.model.specs.File.{entry, ringsOut}
 use Rattle.rings.specs.Tables.{startOf}
 use Rattle.rings.proofs.Rows.{start-first, start-next}
 use Rattle.writing.proofs.Emits.{Emits, emits-start, emits-on, emits-end, emits-size, rings-more, rings-done}
-use Rattle.writing.proofs.Lengths.{length-entry}
 use Rattle.writing.proofs.Pieces.{tableRow, table-rings, table-row}
 use native.Mathlib.Omega.{arith}
 use borrow.Author.Needs.{needs}
+use Rattle.model.proofs.FileWrite.{length-entry}
 use Rattle.writing.proofs.put_rings.Statement.{statement}
 use Rattle.writing.proofs.put_rings.Tie as tie
 use Rattle.writing.proofs.put_rings.Reads as reads
