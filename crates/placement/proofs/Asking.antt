@@ -8,6 +8,9 @@ use lib.ListN.{length, getD, set, drop, length-set, drop-of-length-le}
 use lib.Seq.{drop-cons}
 use lib.Dec.{eqb, ltb}
 use borrow.Author.Tests.{ltb-true, ltb-false, lt-ltb, le-ltb, ne-eqb}
+use Rattle.constraints.proofs.Listed.{two-first, listed-none, listed-more}
+use Rattle.placement.specs.Asking.{ties, compass, asked, tiedTo, endOf, gapOf, keptOf}
+use Rattle.constraints.specs.Constraints.{rise, listed}
 use Rattle.lists.specs.Ranges.{from}
 use Rattle.lists.specs.Parts.{concat}
 use Rattle.lists.specs.Spans.{zeros}
@@ -17,8 +20,6 @@ use Rattle.model.specs.Labels.{start, labelOf}
 use Rattle.model.specs.Chart.{Constraint, constraint, xConstraint, yConstraint, xConstraints, yConstraints, tie, slope}
 use Rattle.rings.specs.Tables.{startOf, startsOf, sizeOf, rows, table}
 use Rattle.rings.proofs.Rows.{start-more, size-inside, size-outside, count-rows, ring-size, ring-at}
-use Rattle.solver.specs.Constraints.{rise, listed, ties, compass, asked, tiedTo, endOf, gapOf, keptOf}
-use Rattle.solver.proofs.Arrays.{two-first, listed-none, listed-more}
 
 -- ---- lists joined
 module _ {A B : Type 0} where

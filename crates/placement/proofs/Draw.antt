@@ -7,6 +7,7 @@ use native.Mathlib.Omega.{arith}
 use lib.ListN.{length, getD, drop}
 use lib.Dec.{eqb, leb}
 use borrow.Author.Tests.{eq-eqb, ne-eqb, le-leb}
+use Rattle.constraints.specs.Constraints.{listedFrom, listed, constraintAt}
 use Rattle.lists.proofs.Padded.{getD-padded, stretch-padded}
 use Rattle.lists.specs.Tests.{all}
 use Rattle.lists.specs.Ranges.{from}
@@ -19,9 +20,10 @@ use Rattle.model.proofs.Placements.{placed, chart-is, chart-11}
 use Rattle.rings.specs.Tables.{startOf, startsOf, table, inBounds}
 use Rattle.rings.proofs.Rows.{count-rows}
 use Rattle.solver.specs.declared.Numbers.{Numbers}
-use Rattle.solver.specs.Constraints.{listedFrom, listed, constraintAt, solved, numbersOf, ties, compass, asked}
+use Rattle.solver.specs.Solved.{solved, numbersOf}
 use Rattle.charts.specs.Charts.{chartOn}
 use Rattle.placement.specs.Drawing.{chartFor, drawnAs, drawnOf, drawnIf, standsAt, squared}
+use Rattle.placement.specs.Asking.{ties, compass, asked}
 use Rattle.fit.proofs.Fits.{total-is}
 
 -- ---- border contexts at the corners

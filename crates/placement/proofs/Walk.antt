@@ -5,6 +5,7 @@ use mathlib.Core.List.{List}
 use mathlib.Core.Bool.{Bool, true, false}
 use native.Mathlib.Omega.{arith}
 use lib.ListN.{length, getD, set, replicate}
+use Rattle.constraints.specs.Constraints.{listed}
 use Rattle.lists.specs.Parts.{indexOf}
 use Rattle.lists.specs.Spans.{zeros}
 use Rattle.lists.proofs.Ranges.{getD-map-from}
@@ -13,8 +14,8 @@ use Rattle.model.specs.Labels.{unlabelled, labelOf}
 use Rattle.rings.specs.Tables.{startOf, startsOf, sizeOf, rows, table}
 use Rattle.rings.proofs.Rows.{start-first, start-more, size-inside, ring-size, ring-at}
 use Rattle.labels.proofs.Places.{label-there}
-use Rattle.solver.specs.Constraints.{listed, asked, tiedTo, endOf, gapOf, keptOf}
 use Rattle.placement.specs.Marking.{Marked, DartAt}
+use Rattle.placement.specs.Asking.{asked, tiedTo, endOf, gapOf, keptOf}
 use Rattle.placement.proofs.Marks.{marked-start, marked-next, dart-most}
 use Rattle.placement.proofs.Asking.{Asking, asking-start, asking-room, asking-dart, asking-next, asking-end, ring-ends, dart-at}
 

@@ -1,2 +1,3 @@
+pub mod Asking
 pub mod Drawing
 pub mod Marking

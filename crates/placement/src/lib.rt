@@ -10,7 +10,9 @@ ghost use Rattle.model.specs.Outcome.{refused};
 ghost use Rattle.model.specs.Plan.{ring};
 ghost use Rattle.model.specs.Chart.{meets};
 ghost use Rattle.rings.specs.Tables.{startOf, startsOf, rows, table, inBounds};
-ghost use Rattle.solver.specs.Constraints.{numbersOf, solved, listedFrom, listed, asked, endOf, gapOf, keptOf};
+ghost use Rattle.constraints.specs.Constraints.{listedFrom, listed};
+ghost use Rattle.solver.specs.Solved.{numbersOf, solved};
+ghost use Rattle.placement.specs.Asking.{asked, endOf, gapOf, keptOf};
 ghost use Rattle.placement.specs.Drawing.{chartFor, drawnAs, drawnOf, drawnIf, standsAt, squared};
 ghost use Rattle.placement.specs.Marking.{Marked, DartAt};
 
@@ -183,7 +185,7 @@ fn axis_of<'a>(
         return Axis { kept: false, at };
     }
     Axis {
-        kept: solver::all_met(lows, highs, gaps, 2, count, &at),
+        kept: constraints::all_met(lows, highs, gaps, 2, count, &at),
         at,
     }
 }

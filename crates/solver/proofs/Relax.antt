@@ -3,23 +3,25 @@ use Prim.Native.Nat.{ℕ, suc, _+_, _-_, _*_, _≤_, _<_}
 use mathlib.Core.Path.{_≡_, refl, sym, ap, _∙_, subst}
 use mathlib.Core.List.{List, List·Memᴰ}
 use mathlib.Core.Logic.{_≢_, _⊎_, inl, inr}
-use mathlib.Core.Bool.{Bool, true, false, _&&_, false≢true, true≢false}
+use mathlib.Core.Bool.{Bool, true, false, false≢true, true≢false}
 use native.Mathlib.Omega.{arith}
 use lib.ListN.{length, getD, set, take, replicate, length-set}
 use lib.Seq.{getD-set-same, getD-set-other, length-take-le}
 use lib.Dec.{eqb}
 use borrow.Author.Tests.{eqb-true, eqb-false, le-leb, lt-leb}
+use Rattle.constraints.proofs.Listed.{mem-listed, listed-mem, listed-small}
+use Rattle.constraints.specs.Constraints.{rise, constraintAt, listed}
 use Rattle.lists.proofs.Padded.{getD-zeros}
 use Rattle.lists.specs.Tests.{all}
 use Rattle.lists.specs.Spans.{zeros}
 use Rattle.model.specs.Outcome.{refused}
-use Rattle.model.specs.Chart.{Constraint, meets, leastNumbers}
+use Rattle.model.specs.Chart.{Constraint, leastNumbers}
 use Rattle.model.proofs.Least.{Fits, fits-low, least-is, least-refuses}
 use Rattle.rings.specs.Tables.{sumOf}
 use Rattle.solver.specs.declared.Round.{Round}
-use Rattle.solver.specs.Constraints.{rise, constraintAt, listedFrom, listed, solved, numbersOf}
 use Rattle.solver.specs.Relaxing.{Keeps, Raised, MetAt, placeOf, Passing, Passed}
-use Rattle.solver.proofs.Arrays.{getD-first, padded-first, mem-listed, listed-mem, listed-small, sum-raise, sum-most}
+use Rattle.solver.specs.Solved.{solved, numbersOf}
+use Rattle.solver.proofs.Arrays.{getD-first, padded-first, sum-raise, sum-most}
 
 -- ---- the order of a pass
 pub place-below : (back : Bool) (count i : ℕ) → i < count → placeOf back count i < count
@@ -161,28 +163,3 @@ module _ (n : ℕ) (lows highs gaps : List ℕ) (count : ℕ) where
       meets-all c i b =
           let (k, l, e) = listed-mem lows highs gaps count c i in
           subst (λ (d : Constraint). getD ks (d .low) 0 + d .gap ≤ getD ks (d .high) 0) e (m k l (let z : constraintAt lows highs gaps k .high ≡ c .high = ap (λ (d : Constraint). d .high) e in omega arith))
-
--- ---- while i < count { if at[highs[i]] < due(i) { return false; } i += 1; } true
-pub record Checks (lows highs gaps : List ℕ) (first count : ℕ) (ks : List ℕ) (i : ℕ) : Type 0 where
-  pub same : all (meets ks) (listedFrom lows highs gaps first (count - first)) ≡ all (meets ks) (listedFrom lows highs gaps i (count - i))
-
-pub checks-start : {lows highs gaps : List ℕ} {first count : ℕ} {ks : List ℕ} → Checks lows highs gaps first count ks first
-checks-start = record { same = refl }
-
-module _ {lows highs gaps : List ℕ} {first count : ℕ} {ks : List ℕ} {i : ℕ} (inv : Checks lows highs gaps first count ks i) where
-  one-more : i < count → all (meets ks) (listedFrom lows highs gaps i (count - i)) ≡ (meets ks (constraintAt lows highs gaps i) && all (meets ks) (listedFrom lows highs gaps (suc i) (count - suc i)))
-  unfolding listedFrom
-  one-more h = let s : count - i ≡ suc (count - suc i) = omega arith in rw s
-
-  module _ (h : i < count) {have due : ℕ} (e : have ≡ getD ks (getD highs i 0) 0) (f : due ≡ getD ks (getD lows i 0) 0 + rise (getD gaps i 0)) where
-    pub checks-hit : have < due → false ≡ all (meets ks) (listedFrom lows highs gaps first (count - first))
-    unfolding meets constraintAt
-    checks-hit b = sym (inv .same ∙ one-more h ∙ rw (lt-leb (getD ks (getD lows i 0) 0 + rise (getD gaps i 0)) (getD ks (getD highs i 0) 0) (omega arith)))
-
-    pub checks-on : {i′ : ℕ} → i′ ≡ suc i → due ≤ have → Checks lows highs gaps first count ks i′
-    unfolding meets constraintAt
-    checks-on q b = record { same = inv .same ∙ one-more h ∙ rw (le-leb (getD ks (getD lows i 0) 0 + rise (getD gaps i 0)) (getD ks (getD highs i 0) 0) (omega arith), q) }
-
-  pub checks-end : count ≤ i → true ≡ all (meets ks) (listedFrom lows highs gaps first (count - first))
-  unfolding listedFrom
-  checks-end h = let z : count - i ≡ 0 = omega arith in sym (inv .same ∙ rw z)

@@ -1,2 +1,2 @@
-pub mod Constraints
+pub mod Solved
 pub mod Relaxing

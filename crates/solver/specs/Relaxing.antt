@@ -4,9 +4,9 @@ use mathlib.Core.Path.{_≡_}
 use mathlib.Core.List.{List, List·Memᴰ}
 use mathlib.Core.Bool.{Bool, true, false, cond}
 use lib.ListN.{length, getD}
+use Rattle.constraints.specs.Constraints.{constraintAt, listed}
 use Rattle.model.specs.Chart.{Constraint}
 use Rattle.rings.specs.Tables.{sumOf}
-use Rattle.solver.specs.Constraints.{constraintAt, listed}
 use Rattle.solver.specs.declared.Round.{Round}
 
 -- numbers, given as a function, that meet every constraint on one of the first n

@@ -1,6 +1,6 @@
 // The first pass: numbers raised from 0 in an order in which each constraint comes after those on its lower number, so that where constraints make no circle one pass settles all numbers. Any order is right.
 ghost use Prim.Native.Nat.{_+_, _<_, _≤_, _^_};
-ghost use Rattle.solver.specs.Constraints.{listed};
+ghost use Rattle.constraints.specs.Constraints.{listed};
 ghost use Rattle.solver.specs.Relaxing.{Raised};
 
 // Chains the first count constraints by their lower numbers: `first` gets one more than the first constraint from each number, `next` one more than the constraint after each, `waits` how many constraints are on each number.

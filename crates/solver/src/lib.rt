@@ -1,11 +1,9 @@
 // The least solution of difference constraints: a first pass in an order that settles most numbers, then passes over all constraints, forward and back in turn, until no number rises or one passes n.
 ghost use mathlib.Core.Path.{_≡_};
-ghost use Prim.Native.Nat.{_+_, _-_, _<_, _≤_, _^_};
-ghost use lib.ListN.{getD};
-ghost use Rattle.lists.specs.Tests.{all};
+ghost use Prim.Native.Nat.{_<_, _≤_};
 ghost use Rattle.model.specs.Outcome.{refused};
-ghost use Rattle.model.specs.Chart.{meets};
-ghost use Rattle.solver.specs.Constraints.{rise, constraintAt, listedFrom, listed, solved, numbersOf};
+ghost use Rattle.constraints.specs.Constraints.{listed};
+ghost use Rattle.solver.specs.Solved.{solved, numbersOf};
 ghost use Rattle.solver.specs.Relaxing.{Raised, Passed, placeOf};
 
 mod first;
@@ -21,18 +19,6 @@ struct Round {
     pub over: bool,
     pub rose: bool,
     pub at: [u16; 200],
-}
-
-// What the constraint at i asks of its higher number.
-fn due_at<'a>(lows: &'a [u16], gaps: &'a [u8], at: &'a [u16], i: usize) -> usize
-    ensures { λ r. ⌜ r ≡ getD (now (at .entry)) (getD (now (lows .entry)) i 0) 0 + rise (getD (now (gaps .entry)) i 0) ⌝ }
-    ensures { λ r. ⌜ r < 2 ^ 17 ⌝ }
-{
-    let low = arrays::num(at, arrays::num(lows, i));
-    if arrays::byte(gaps, i) == 0 {
-        return low;
-    }
-    low + 1
 }
 
 // The constraint that a pass comes to after i others.
@@ -65,7 +51,7 @@ fn pass<'a>(
         i += 1;
         let high = arrays::num(highs, k);
         if high < n {
-            let due = due_at(lows, gaps, &at, k);
+            let due = constraints::due_at(lows, gaps, &at, k);
             if arrays::num(&at, high) < due {
                 if n < due {
                     return Round {
@@ -107,7 +93,7 @@ fn raise<'a>(
     if high >= n {
         return;
     }
-    let due = due_at(lows, gaps, at, k);
+    let due = constraints::due_at(lows, gaps, at, k);
     if due > n {
         return;
     }
@@ -156,25 +142,4 @@ pub fn solve<'a>(
         at = raised;
         back = !back;
     }
-}
-
-// Do the numbers meet all constraints from the one at first up to count?
-pub fn all_met<'a>(
-    lows: &'a [u16],
-    highs: &'a [u16],
-    gaps: &'a [u8],
-    first: usize,
-    count: usize,
-    at: &'a [u16],
-) -> bool
-    ensures { λ r. ⌜ r ≡ all (meets (now (at .entry))) (listedFrom (now (lows .entry)) (now (highs .entry)) (now (gaps .entry)) first (count - first)) ⌝ }
-{
-    let mut i = first;
-    while i < count {
-        if arrays::num(at, arrays::num(highs, i)) < due_at(lows, gaps, at, i) {
-            return false;
-        }
-        i += 1;
-    }
-    true
 }

@@ -6,8 +6,8 @@ use borrow.Author.Tests.{not-true, not-false}
 use Rattle.lists.specs.Tests.{all}
 use Rattle.model.specs.Chart.{meets}
 use Rattle.solver.specs.declared.Numbers.{Numbers}
-use Rattle.solver.specs.Constraints.{listedFrom}
 use borrow.Author.Needs.{needs}
+use Rattle.constraints.specs.Constraints.{listedFrom}
 use Rattle.placement.proofs.axis_of.Statement.{statement}
 use Rattle.placement.proofs.axis_of.Tie as tie
 

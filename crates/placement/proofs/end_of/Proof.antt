@@ -1,8 +1,8 @@
 -- end_of meets its contract.
-use Rattle.solver.specs.Constraints.{endOf}
 use borrow.Author.Tests.{eq-eqb, ne-eqb}
 use native.Mathlib.Omega.{arith}
 use borrow.Author.Needs.{needs}
+use Rattle.placement.specs.Asking.{endOf}
 use Rattle.placement.proofs.end_of.Statement.{statement}
 use Rattle.placement.proofs.end_of.Tie as tie
 use Rattle.placement.proofs.end_of.Reads as reads

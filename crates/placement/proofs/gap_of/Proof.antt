@@ -1,9 +1,9 @@
 -- gap_of meets its contract.
-use Rattle.solver.specs.Constraints.{gapOf}
 use Rattle.model.specs.Chart.{slope}
 use borrow.Author.Tests.{eq-eqb, ne-eqb}
 use native.Mathlib.Omega.{arith}
 use borrow.Author.Needs.{needs}
+use Rattle.placement.specs.Asking.{gapOf}
 use Rattle.placement.proofs.gap_of.Statement.{statement}
 use Rattle.placement.proofs.gap_of.Tie as tie
 use Rattle.placement.proofs.gap_of.Reads as reads

@@ -1,8 +1,8 @@
 -- kept_of meets its contract.
-use Rattle.solver.specs.Constraints.{keptOf}
 use borrow.Author.Tests.{lt-ltb, le-ltb}
 use native.Mathlib.Omega.{arith}
 use borrow.Author.Needs.{needs}
+use Rattle.placement.specs.Asking.{keptOf}
 use Rattle.placement.proofs.kept_of.Statement.{statement}
 use Rattle.placement.proofs.kept_of.Tie as tie
 use Rattle.placement.proofs.kept_of.Reads as reads

@@ -1,9 +1,9 @@
 -- nothing meets its contract.
-use Rattle.solver.specs.Constraints.{numbersOf}
 use Rattle.lists.specs.Spans.{zeros}
 use mathlib.Core.Path.{refl}
 use native.Mathlib.Omega.{arith}
 use borrow.Author.Needs.{needs}
+use Rattle.solver.specs.Solved.{numbersOf}
 use Rattle.solver.proofs.nothing.Statement.{statement}
 use Rattle.solver.proofs.nothing.Tie as tie
 use Rattle.solver.proofs.nothing.Reads as reads

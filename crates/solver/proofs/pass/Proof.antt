@@ -10,7 +10,7 @@ use Rattle.solver.proofs.pass.Tie as tie
 use Rattle.solver.proofs.pass.Reads as reads
 use Rattle.solver.proofs.pass.Lts as lts
 use Rattle.arrays.proofs.num.Reads as num-reads
-use Rattle.solver.proofs.due_at.Reads as due-at-reads
+use Rattle.constraints.proofs.due_at.Reads as due-at-reads
 use Rattle.solver.proofs.place.Reads as place-reads
 
 abbrev Inv-loop : tie.InvT-loop

@@ -1,11 +1,11 @@
 -- raise meets its contract.
 use mathlib.Core.Path.{sym, subst}
-use Rattle.solver.specs.Constraints.{constraintAt, listed}
 use Rattle.solver.specs.Relaxing.{Raised}
-use Rattle.solver.proofs.Arrays.{mem-listed}
 use Rattle.solver.proofs.Relax.{raised-up}
 use native.Mathlib.Omega.{arith}
 use borrow.Author.Needs.{needs}
+use Rattle.constraints.proofs.Listed.{mem-listed}
+use Rattle.constraints.specs.Constraints.{constraintAt, listed}
 use Rattle.solver.proofs.raise.Statement.{statement}
 use Rattle.solver.proofs.raise.Tie as tie
 

@@ -1,13 +1,13 @@
 -- solve meets its contract.
 use Rattle.solver.proofs.Relax.{fewer, solved-large, solved-none, solved-found}
 use Rattle.solver.specs.Relaxing.{Raised}
-use Rattle.solver.specs.Constraints.{listed}
 use Rattle.rings.specs.Tables.{sumOf}
 use Prim.Native.Nat.{_-_, _*_}
 use mathlib.Core.Path.{_∙_}
 use borrow.Author.Tests.{not-true, not-false}
 use native.Mathlib.Omega.{arith}
 use borrow.Author.Needs.{needs}
+use Rattle.constraints.specs.Constraints.{listed}
 use Rattle.solver.proofs.solve.Statement.{statement}
 use Rattle.solver.proofs.solve.Tie as tie
 

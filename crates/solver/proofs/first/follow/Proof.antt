@@ -2,10 +2,10 @@
 use mathlib.Core.Path.{_≡_, refl}
 use Prim.Native.Nat.{_+_, _≤_}
 use lib.ListN.{length}
-use Rattle.solver.specs.Constraints.{listed}
 use Rattle.solver.specs.Relaxing.{Raised}
 use native.Mathlib.Omega.{arith}
 use borrow.Author.Needs.{needs}
+use Rattle.constraints.specs.Constraints.{listed}
 use Rattle.solver.proofs.first.follow.Statement.{statement}
 use Rattle.solver.proofs.first.follow.Tie as tie
 

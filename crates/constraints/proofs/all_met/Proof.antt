@@ -1,16 +1,16 @@
 -- all_met meets its contract.
-use Rattle.solver.proofs.Relax.{Checks, checks-start, checks-hit, checks-on, checks-end}
+use Rattle.constraints.proofs.Listed.{Checks, checks-start, checks-hit, checks-on, checks-end}
 use Prim.Native.Nat.{ℕ, _-_}
 use mathlib.Core.Path.{ap, _∙_}
 use lib.ListN.{getD}
 use native.Mathlib.Omega.{arith}
 use borrow.Author.Needs.{needs}
-use Rattle.solver.proofs.all_met.Statement.{statement}
-use Rattle.solver.proofs.all_met.Tie as tie
-use Rattle.solver.proofs.all_met.Reads as reads
-use Rattle.solver.proofs.all_met.Lts as lts
+use Rattle.constraints.proofs.all_met.Statement.{statement}
+use Rattle.constraints.proofs.all_met.Tie as tie
+use Rattle.constraints.proofs.all_met.Reads as reads
+use Rattle.constraints.proofs.all_met.Lts as lts
 use Rattle.arrays.proofs.num.Reads as num-reads
-use Rattle.solver.proofs.due_at.Reads as due-at-reads
+use Rattle.constraints.proofs.due_at.Reads as due-at-reads
 
 abbrev Inv-loop : tie.InvT-loop
 Inv-loop lows highs gaps first count at i₀ i = Checks lows highs gaps first count at i

@@ -1,15 +1,15 @@
 -- due_at meets its contract.
-use Rattle.solver.proofs.Arrays.{due-level, due-up}
-use Rattle.solver.specs.Constraints.{rise}
+use Rattle.constraints.proofs.Listed.{due-level, due-up}
+use Rattle.constraints.specs.Constraints.{rise}
 use lib.ListN.{getD}
 use Prim.Native.Nat.{ℕ, _+_}
 use mathlib.Core.Path.{ap, _∙_}
 use native.Mathlib.Omega.{arith}
 use borrow.Author.Needs.{needs}
-use Rattle.solver.proofs.due_at.Statement.{statement}
-use Rattle.solver.proofs.due_at.Tie as tie
-use Rattle.solver.proofs.due_at.Reads as reads
-use Rattle.solver.proofs.due_at.Lts as lts
+use Rattle.constraints.proofs.due_at.Statement.{statement}
+use Rattle.constraints.proofs.due_at.Tie as tie
+use Rattle.constraints.proofs.due_at.Reads as reads
+use Rattle.constraints.proofs.due_at.Lts as lts
 use Rattle.arrays.proofs.byte.Reads as byte-reads
 use Rattle.arrays.proofs.num.Reads as num-reads
 
