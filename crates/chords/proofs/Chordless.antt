@@ -57,12 +57,12 @@ verdict p g true n s = go (chordless p g) refl (s refl)
 -- ---- one context against a stretch
 module _ (p : Plan) (u : ℕ) (g : List ℕ) (a e : ℕ) where
   -- it lists none of the stretch
-  pub touches-none : touches p u g a e ≡ false → (k : ℕ) → a ≤ k → k < e → adjacent p u (getD g k 0) ≡ false
+  pub touches-none : touches (adjacent p) u g a e ≡ false → (k : ℕ) → a ≤ k → k < e → adjacent p u (getD g k 0) ≡ false
   unfolding touches
   touches-none t k h l = some-none (λ (i : ℕ). adjacent p u (getD g i 0)) a (e - a) t k h (omega arith)
 
   -- or one
-  pub touches-one : touches p u g a e ≡ true → (k : ℕ) × (a ≤ k) × (k < e) × (adjacent p u (getD g k 0) ≡ true)
+  pub touches-one : touches (adjacent p) u g a e ≡ true → (k : ℕ) × (a ≤ k) × (k < e) × (adjacent p u (getD g k 0) ≡ true)
   unfolding touches
   touches-one t = let (k, h, l, y) = some-one (λ (i : ℕ). adjacent p u (getD g i 0)) a (e - a) t in (k, h, omega arith, y)
 
@@ -77,17 +77,17 @@ module _ (p : Plan) (g : List ℕ) where
   same-here k l = λ i. adjacent p (getD-padded 512 g k i) (getD-padded 512 g l i)
 
   -- The engine's test of a whole frontier is the model's
-  pub chorded-is : chorded p A (length g) ≡ not (chordless p g)
+  pub chorded-is : chorded (adjacent p) A (length g) ≡ not (chordless p g)
   unfolding chorded
-  chorded-is = verdict p g (chorded p A (length g)) none one
+  chorded-is = verdict p g (chorded (adjacent p) A (length g)) none one
     where
-      none : chorded p A (length g) ≡ false → (k l : ℕ) → k + 2 ≤ l → l < length g → adjacent p (getD g k 0) (getD g l 0) ≡ false
+      none : chorded (adjacent p) A (length g) ≡ false → (k l : ℕ) → k + 2 ≤ l → l < length g → adjacent p (getD g k 0) (getD g l 0) ≡ false
       none e k l h q =
-          sym (same-here k l) ∙ touches-none p (getD A k 0) A (k + 2) (length g) (some-none (λ (i : ℕ). touches p (getD A i 0) A (i + 2) (length g)) 0 (length g - 2 - 0) e k (omega arith) (omega arith)) l h q
+          sym (same-here k l) ∙ touches-none p (getD A k 0) A (k + 2) (length g) (some-none (λ (i : ℕ). touches (adjacent p) (getD A i 0) A (i + 2) (length g)) 0 (length g - 2 - 0) e k (omega arith) (omega arith)) l h q
 
-      one : chorded p A (length g) ≡ true → Chord p g
+      one : chorded (adjacent p) A (length g) ≡ true → Chord p g
       one e =
-          let (k, _, _, y) = some-one (λ (i : ℕ). touches p (getD A i 0) A (i + 2) (length g)) 0 (length g - 2 - 0) e in
+          let (k, _, _, y) = some-one (λ (i : ℕ). touches (adjacent p) (getD A i 0) A (i + 2) (length g)) 0 (length g - 2 - 0) e in
           let (l, h, q, z) = touches-one p (getD A k 0) A (k + 2) (length g) y in
           record { from = k; to = l; apart = h; inside = q; lists = sym (same-here k l) ∙ z }
 
@@ -121,28 +121,28 @@ module _ (p : Plan) (f l : List ℕ) (i j : ℕ) (h : i + 2 ≤ j) (q : j < leng
   old : chordless p f ≡ true → (a b : ℕ) → a + 2 ≤ b → b < length f → adjacent p (getD F a 0) (getD F b 0) ≡ false
   old c a b x y = (λ d. adjacent p (F-same a d) (F-same b d)) ∙ chordless-apart p f c a b x y
 
-  module _ (c : chordless p f ≡ true) (lefts : chordLeft p F i L (length l) ≡ false) (rights : chordRight p F (length f) j L (length l) ≡ false) where
+  module _ (c : chordless p f ≡ true) (lefts : chordLeft (adjacent p) F i L (length l) ≡ false) (rights : chordRight (adjacent p) F (length f) j L (length l) ≡ false) where
     -- left of the list against the list
     no-left : (k t : ℕ) → k ≤ i → t < length l → k + 2 ≤ suc i + t → adjacent p (getD F k 0) (getD L t 0) ≡ false
     unfolding chordLeft
-    no-left k t a b s = go (touches p (getD F i 0) L 1 (length l)) refl lefts (lt-or-le k i)
+    no-left k t a b s = go (touches (adjacent p) (getD F i 0) L 1 (length l)) refl lefts (lt-or-le k i)
       where
-        go : (x : Bool) → touches p (getD F i 0) L 1 (length l) ≡ x → cond x true (some (λ (n : ℕ). touches p (getD F n 0) L 0 (length l)) 0 i) ≡ false → (k < i) ⊎ (i ≤ k) → adjacent p (getD F k 0) (getD L t 0) ≡ false
+        go : (x : Bool) → touches (adjacent p) (getD F i 0) L 1 (length l) ≡ x → cond x true (some (λ (n : ℕ). touches (adjacent p) (getD F n 0) L 0 (length l)) 0 i) ≡ false → (k < i) ⊎ (i ≤ k) → adjacent p (getD F k 0) (getD L t 0) ≡ false
         go true e y o = absurd (false≢true (sym y))
-        go false e y (inl o) = touches-none p (getD F k 0) L 0 (length l) (some-none (λ (n : ℕ). touches p (getD F n 0) L 0 (length l)) 0 (i - 0) y k (omega arith) (omega arith)) t (omega arith) b
+        go false e y (inl o) = touches-none p (getD F k 0) L 0 (length l) (some-none (λ (n : ℕ). touches (adjacent p) (getD F n 0) L 0 (length l)) 0 (i - 0) y k (omega arith) (omega arith)) t (omega arith) b
         go false e y (inr o) = let z : k ≡ i = omega arith in ap (λ (n : ℕ). adjacent p (getD F n 0) (getD L t 0)) z ∙ touches-none p (getD F i 0) L 1 (length l) e t (omega arith) b
 
     -- a context of the list against those further on
-    at : (x : ℕ) → x < length l → chordAt p F (length f) j L (length l) x ≡ false
+    at : (x : ℕ) → x < length l → chordAt (adjacent p) F (length f) j L (length l) x ≡ false
     unfolding chordRight
-    at x a = some-none (chordAt p F (length f) j L (length l)) 0 (length l - 0) rights x (omega arith) (omega arith)
+    at x a = some-none (chordAt (adjacent p) F (length f) j L (length l)) 0 (length l - 0) rights x (omega arith) (omega arith)
 
     -- against the list
     no-list : (x t : ℕ) → t < length l → x + 2 ≤ t → adjacent p (getD L x 0) (getD L t 0) ≡ false
     unfolding chordAt
-    no-list x t a s = go (ltb (x + 1) (length l)) refl (touches p (getD L x 0) L (x + 1 + 1) (length l)) refl (at x (omega arith))
+    no-list x t a s = go (ltb (x + 1) (length l)) refl (touches (adjacent p) (getD L x 0) L (x + 1 + 1) (length l)) refl (at x (omega arith))
       where
-        go : (y : Bool) → ltb (x + 1) (length l) ≡ y → (z : Bool) → touches p (getD L x 0) L (x + 1 + 1) (length l) ≡ z → cond y (cond z true (touches p (getD L x 0) F j (length f))) (touches p (getD L x 0) F (j + 1) (length f)) ≡ false → adjacent p (getD L x 0) (getD L t 0) ≡ false
+        go : (y : Bool) → ltb (x + 1) (length l) ≡ y → (z : Bool) → touches (adjacent p) (getD L x 0) L (x + 1 + 1) (length l) ≡ z → cond y (cond z true (touches (adjacent p) (getD L x 0) F j (length f))) (touches (adjacent p) (getD L x 0) F (j + 1) (length f)) ≡ false → adjacent p (getD L x 0) (getD L t 0) ≡ false
         go true e true d w = absurd (false≢true (sym w))
         go true e false d w = touches-none p (getD L x 0) L (x + 1 + 1) (length l) d t (omega arith) a
         go false e z d w = let r = ltb-false (x + 1) (length l) e in absurd (omega arith)
@@ -150,9 +150,9 @@ module _ (p : Plan) (f l : List ℕ) (i j : ℕ) (h : i + 2 ≤ j) (q : j < leng
     -- against the right
     no-right : (x t : ℕ) → x < length l → j + t < length f → x + 2 ≤ length l + t → adjacent p (getD L x 0) (getD F (j + t) 0) ≡ false
     unfolding chordAt
-    no-right x t a b s = go (ltb (x + 1) (length l)) refl (touches p (getD L x 0) L (x + 1 + 1) (length l)) refl (at x a)
+    no-right x t a b s = go (ltb (x + 1) (length l)) refl (touches (adjacent p) (getD L x 0) L (x + 1 + 1) (length l)) refl (at x a)
       where
-        go : (y : Bool) → ltb (x + 1) (length l) ≡ y → (z : Bool) → touches p (getD L x 0) L (x + 1 + 1) (length l) ≡ z → cond y (cond z true (touches p (getD L x 0) F j (length f))) (touches p (getD L x 0) F (j + 1) (length f)) ≡ false → adjacent p (getD L x 0) (getD F (j + t) 0) ≡ false
+        go : (y : Bool) → ltb (x + 1) (length l) ≡ y → (z : Bool) → touches (adjacent p) (getD L x 0) L (x + 1 + 1) (length l) ≡ z → cond y (cond z true (touches (adjacent p) (getD L x 0) F j (length f))) (touches (adjacent p) (getD L x 0) F (j + 1) (length f)) ≡ false → adjacent p (getD L x 0) (getD F (j + t) 0) ≡ false
         go true e true d w = absurd (false≢true (sym w))
         go true e false d w = touches-none p (getD L x 0) F j (length f) w (j + t) (omega arith) b
         go false e z d w = let r = ltb-false (x + 1) (length l) e in touches-none p (getD L x 0) F (j + 1) (length f) w (j + t) (omega arith) b
@@ -176,30 +176,30 @@ module _ (p : Plan) (f l : List ℕ) (i j : ℕ) (h : i + 2 ≤ j) (q : j < leng
         go (right s e) (right t g) = (λ d. adjacent p (at-right k s e d) (at-right m t g d)) ∙ old c (j + s) (j + t) (omega arith) (let z = size in omega arith)
 
   -- a chord that the engine finds left of the list
-  one-left : chordLeft p F i L (length l) ≡ true → Chord p R
+  one-left : chordLeft (adjacent p) F i L (length l) ≡ true → Chord p R
   unfolding chordLeft
-  one-left e = go (touches p (getD F i 0) L 1 (length l)) refl e
+  one-left e = go (touches (adjacent p) (getD F i 0) L 1 (length l)) refl e
     where
       size : length R ≡ suc i + length l + (length f - j)
       size = replaced-length f l i j h q
 
-      go : (x : Bool) → touches p (getD F i 0) L 1 (length l) ≡ x → cond x true (some (λ (n : ℕ). touches p (getD F n 0) L 0 (length l)) 0 i) ≡ true → Chord p R
+      go : (x : Bool) → touches (adjacent p) (getD F i 0) L 1 (length l) ≡ x → cond x true (some (λ (n : ℕ). touches (adjacent p) (getD F n 0) L 0 (length l)) 0 i) ≡ true → Chord p R
       go true x y =
           let (t, a, b, z) = touches-one p (getD F i 0) L 1 (length l) x in
           let s = size in
           record { from = i; to = suc i + t; apart = omega arith; inside = omega arith; lists = (λ d. adjacent p (at-left i (omega arith) d) (at-list (suc i + t) t b refl d)) ∙ z }
       go false x y =
-          let (k, _, k-in, w) = some-one (λ (n : ℕ). touches p (getD F n 0) L 0 (length l)) 0 (i - 0) y in
+          let (k, _, k-in, w) = some-one (λ (n : ℕ). touches (adjacent p) (getD F n 0) L 0 (length l)) 0 (i - 0) y in
           let (t, a, b, z) = touches-one p (getD F k 0) L 0 (length l) w in
           let s = size in
           record { from = k; to = suc i + t; apart = omega arith; inside = omega arith; lists = (λ d. adjacent p (at-left k (omega arith) d) (at-list (suc i + t) t b refl d)) ∙ z }
 
   -- or from a context of the list on
-  one-right : chordRight p F (length f) j L (length l) ≡ true → Chord p R
+  one-right : chordRight (adjacent p) F (length f) j L (length l) ≡ true → Chord p R
   unfolding chordRight chordAt
   one-right e =
-      let (x, _, x-in, w) = some-one (chordAt p F (length f) j L (length l)) 0 (length l - 0) e in
-      go x (omega arith) (ltb (x + 1) (length l)) refl (touches p (getD L x 0) L (x + 1 + 1) (length l)) refl w
+      let (x, _, x-in, w) = some-one (chordAt (adjacent p) F (length f) j L (length l)) 0 (length l - 0) e in
+      go x (omega arith) (ltb (x + 1) (length l)) refl (touches (adjacent p) (getD L x 0) L (x + 1 + 1) (length l)) refl w
     where
       size : length R ≡ suc i + length l + (length f - j)
       size = replaced-length f l i j h q
@@ -210,7 +210,7 @@ module _ (p : Plan) (f l : List ℕ) (i j : ℕ) (h : i + 2 ≤ j) (q : j < leng
           let w : j + (k - j) ≡ k = omega arith in
           record { from = suc i + x; to = suc i + length l + (k - j); apart = omega arith; inside = omega arith; lists = (λ d. adjacent p (at-list (suc i + x) x a refl d) ((at-right (suc i + length l + (k - j)) (k - j) refl ∙ ap (λ (o : ℕ). getD F o 0) w) d)) ∙ z }
 
-      go : (x : ℕ) → x < length l → (y : Bool) → ltb (x + 1) (length l) ≡ y → (z : Bool) → touches p (getD L x 0) L (x + 1 + 1) (length l) ≡ z → cond y (cond z true (touches p (getD L x 0) F j (length f))) (touches p (getD L x 0) F (j + 1) (length f)) ≡ true → Chord p R
+      go : (x : ℕ) → x < length l → (y : Bool) → ltb (x + 1) (length l) ≡ y → (z : Bool) → touches (adjacent p) (getD L x 0) L (x + 1 + 1) (length l) ≡ z → cond y (cond z true (touches (adjacent p) (getD L x 0) F j (length f))) (touches (adjacent p) (getD L x 0) F (j + 1) (length f)) ≡ true → Chord p R
       go x a true y true z w =
           let (t, b, t-in, o) = touches-one p (getD L x 0) L (x + 1 + 1) (length l) z in
           let n = size in
@@ -219,10 +219,10 @@ module _ (p : Plan) (f l : List ℕ) (i j : ℕ) (h : i + 2 ≤ j) (q : j < leng
       go x a false y z o w = let r = ltb-false (x + 1) (length l) y in far x a (j + 1) (omega arith) (omega arith) (touches-one p (getD L x 0) F (j + 1) (length f) w)
 
   -- The engine's test of the list alone is the model's test of the new frontier
-  pub fresh-is : chordless p f ≡ true → cond (chordLeft p F i L (length l)) true (chordRight p F (length f) j L (length l)) ≡ not (chordless p R)
-  fresh-is c = go (chordLeft p F i L (length l)) refl (chordRight p F (length f) j L (length l)) refl
+  pub fresh-is : chordless p f ≡ true → cond (chordLeft (adjacent p) F i L (length l)) true (chordRight (adjacent p) F (length f) j L (length l)) ≡ not (chordless p R)
+  fresh-is c = go (chordLeft (adjacent p) F i L (length l)) refl (chordRight (adjacent p) F (length f) j L (length l)) refl
     where
-      go : (x : Bool) → chordLeft p F i L (length l) ≡ x → (y : Bool) → chordRight p F (length f) j L (length l) ≡ y → cond x true y ≡ not (chordless p R)
+      go : (x : Bool) → chordLeft (adjacent p) F i L (length l) ≡ x → (y : Bool) → chordRight (adjacent p) F (length f) j L (length l) ≡ y → cond x true y ≡ not (chordless p R)
       go true x y y′ = verdict p R true (λ e. absurd (false≢true (sym e))) (λ _. one-left x)
       go false x true y = verdict p R true (λ e. absurd (false≢true (sym e))) (λ _. one-right y)
       go false x false y = verdict p R false (λ _. none c x y) (λ e. absurd (false≢true e))

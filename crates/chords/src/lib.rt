@@ -3,7 +3,7 @@ ghost use mathlib.Core.Path.{_≡_};
 ghost use mathlib.Core.Bool.{true};
 ghost use Prim.Native.Nat.{_<_};
 ghost use Rattle.rings.specs.Tables.{rows};
-ghost use Rattle.places.specs.Places.{placesOf};
+ghost use Rattle.places.specs.Places.{adjacentBy};
 ghost use Rattle.frontier.specs.Run.{line};
 ghost use Rattle.chords.specs.Run as run;
 
@@ -19,7 +19,7 @@ fn touches<'a>(
     a: usize,
     e: usize,
 ) -> bool
-    ensures { λ r. ⌜ (now (places .entry) ≡ placesOf (rows (now (starts .entry)) (now (sizes .entry)) (now (entries .entry)) n) → r ≡ run.touches (rows (now (starts .entry)) (now (sizes .entry)) (now (entries .entry)) n) u (now (g .entry)) a e) ⌝ }
+    ensures { λ r. ⌜ r ≡ run.touches (adjacentBy (now (places .entry)) (rows (now (starts .entry)) (now (sizes .entry)) (now (entries .entry)) n)) u (now (g .entry)) a e ⌝ }
 {
     let mut k = a;
     while k < e {
@@ -41,7 +41,7 @@ fn chorded<'a>(
     g: &'a [u16],
     m: usize,
 ) -> bool
-    ensures { λ r. ⌜ (now (places .entry) ≡ placesOf (rows (now (starts .entry)) (now (sizes .entry)) (now (entries .entry)) n) → r ≡ run.chorded (rows (now (starts .entry)) (now (sizes .entry)) (now (entries .entry)) n) (now (g .entry)) m) ⌝ }
+    ensures { λ r. ⌜ r ≡ run.chorded (adjacentBy (now (places .entry)) (rows (now (starts .entry)) (now (sizes .entry)) (now (entries .entry)) n)) (now (g .entry)) m ⌝ }
 {
     let e = numbers::minus(m, 2);
     let mut k = 0;
@@ -67,7 +67,7 @@ fn chord_left<'a>(
     list: &'a [u16],
     q: usize,
 ) -> bool
-    ensures { λ r. ⌜ (now (places .entry) ≡ placesOf (rows (now (starts .entry)) (now (sizes .entry)) (now (entries .entry)) n) → r ≡ run.chordLeft (rows (now (starts .entry)) (now (sizes .entry)) (now (entries .entry)) n) (now (f .entry)) i (now (list .entry)) q) ⌝ }
+    ensures { λ r. ⌜ r ≡ run.chordLeft (adjacentBy (now (places .entry)) (rows (now (starts .entry)) (now (sizes .entry)) (now (entries .entry)) n)) (now (f .entry)) i (now (list .entry)) q ⌝ }
 {
     let u = arrays::num(f, i);
     if touches(places, starts, sizes, entries, n, u, list, 1, q) {
@@ -100,7 +100,7 @@ fn chord_at<'a>(
 ) -> bool
     requires { ⌜ x < q ⌝ }
     requires { ⌜ j < m ⌝ }
-    ensures { λ r. ⌜ (now (places .entry) ≡ placesOf (rows (now (starts .entry)) (now (sizes .entry)) (now (entries .entry)) n) → r ≡ run.chordAt (rows (now (starts .entry)) (now (sizes .entry)) (now (entries .entry)) n) (now (f .entry)) m j (now (list .entry)) q x) ⌝ }
+    ensures { λ r. ⌜ r ≡ run.chordAt (adjacentBy (now (places .entry)) (rows (now (starts .entry)) (now (sizes .entry)) (now (entries .entry)) n)) (now (f .entry)) m j (now (list .entry)) q x ⌝ }
 {
     let u = arrays::num(list, x);
     let next = x + 1;
@@ -127,7 +127,7 @@ fn chord_right<'a>(
     q: usize,
 ) -> bool
     requires { ⌜ j < m ⌝ }
-    ensures { λ r. ⌜ (now (places .entry) ≡ placesOf (rows (now (starts .entry)) (now (sizes .entry)) (now (entries .entry)) n) → r ≡ run.chordRight (rows (now (starts .entry)) (now (sizes .entry)) (now (entries .entry)) n) (now (f .entry)) m j (now (list .entry)) q) ⌝ }
+    ensures { λ r. ⌜ r ≡ run.chordRight (adjacentBy (now (places .entry)) (rows (now (starts .entry)) (now (sizes .entry)) (now (entries .entry)) n)) (now (f .entry)) m j (now (list .entry)) q ⌝ }
 {
     let mut x = 0;
     while x < q {
@@ -154,7 +154,7 @@ fn broken<'a>(
     q: usize,
 ) -> bool
     requires { ⌜ i < j ⌝ }
-    ensures { λ r. ⌜ (now (places .entry) ≡ placesOf (rows (now (starts .entry)) (now (sizes .entry)) (now (entries .entry)) n) → r ≡ run.broken (rows (now (starts .entry)) (now (sizes .entry)) (now (entries .entry)) n) (now (f .entry)) m i j (now (list .entry)) q) ⌝ }
+    ensures { λ r. ⌜ r ≡ run.broken (adjacentBy (now (places .entry)) (rows (now (starts .entry)) (now (sizes .entry)) (now (entries .entry)) n)) (now (f .entry)) m i j (now (list .entry)) q ⌝ }
 {
     let mut next = [0u16; 512];
     let v = pairs::list::replaced(&mut next, f, m, i + 1, j, list, q);
@@ -181,7 +181,7 @@ fn chord_new<'a>(
 ) -> bool
     requires { ⌜ i < j ⌝ }
     requires { ⌜ j < m ⌝ }
-    ensures { λ r. ⌜ (now (places .entry) ≡ placesOf (rows (now (starts .entry)) (now (sizes .entry)) (now (entries .entry)) n) → r ≡ run.chordNew (rows (now (starts .entry)) (now (sizes .entry)) (now (entries .entry)) n) clean (now (f .entry)) m i j (now (list .entry)) q) ⌝ }
+    ensures { λ r. ⌜ r ≡ run.chordNew (adjacentBy (now (places .entry)) (rows (now (starts .entry)) (now (sizes .entry)) (now (entries .entry)) n)) clean (now (f .entry)) m i j (now (list .entry)) q ⌝ }
 {
     if clean {
         if chord_left(places, starts, sizes, entries, n, f, i, list, q) {
@@ -206,7 +206,7 @@ pub fn fits<'a>(
     i: usize,
     j: usize,
 ) -> bool
-    ensures { λ r. ⌜ (now (places .entry) ≡ placesOf (rows (now (starts .entry)) (now (sizes .entry)) (now (entries .entry)) n) → r ≡ run.fits (rows (now (starts .entry)) (now (sizes .entry)) (now (entries .entry)) n) clean (line true m (now (f .entry)) marks) i j) ⌝ }
+    ensures { λ r. ⌜ r ≡ run.fitsBy (now (places .entry)) (rows (now (starts .entry)) (now (sizes .entry)) (now (entries .entry)) n) clean (line true m (now (f .entry)) marks) i j ⌝ }
 {
     if i >= j {
         return false;

@@ -47,7 +47,7 @@ append-marks src a (suc k) v = append-marks src (suc a) k (pushed v (getD src a 
 module _ (f l : List ℕ) (i j : ℕ) (h : i < j) (q : j ≤ length f) (g : Line) (r : Rep g l) (fit : length l + length f ≤ 512) where
   -- the line with the list in place holds the frontier with the list in place
   pub replaced-rep : Rep (run.replaced (padded 512 f) (length f) (suc i) j g) (replaced f i j l)
-  unfolding run.replaced appended replaced
+  unfolding run.replaced run.replacedOn appended replaced
   replaced-rep =
       let a : suc i - 0 ≡ suc i = omega arith in
       let b : g .len - 0 ≡ length l = let e = r .len in omega arith in
@@ -67,7 +67,7 @@ module _ (f l : List ℕ) (i j : ℕ) (h : i < j) (q : j ≤ length f) (g : Line
 
 -- its marks are the list's
 pub replaced-marks : (f : List ℕ) (m a j : ℕ) (g : Line) → (run.replaced f m a j g) .marks ≡ g .marks
-unfolding run.replaced appended fresh
+unfolding run.replaced run.replacedOn appended fresh
 replaced-marks f m a j g =
     let one = each (λ (k : ℕ) w. pushed w (getD f k 0)) 0 (a - 0) (line true 0 (zeros 512) (g .marks)) in
     let two = each (λ (k : ℕ) w. pushed w (getD (g .at) k 0)) 0 (g .len - 0) one in

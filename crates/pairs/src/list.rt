@@ -3,9 +3,7 @@ ghost use mathlib.Core.Path.{_≡_};
 ghost use mathlib.Core.Bool.{true};
 ghost use mathlib.Core.List.{List};
 ghost use Prim.Native.Nat.{ℕ, suc, _+_, _-_, _<_, _^_};
-ghost use Rattle.lists.specs.Spans.{zeros};
 ghost use Rattle.rings.specs.Tables.{rows};
-ghost use Rattle.places.specs.Places.{placesOf};
 ghost use Rattle.frontier.specs.Run.{line, lineOf};
 ghost use Rattle.pairs.specs.Run as run;
 use frontier::Tally;
@@ -69,7 +67,7 @@ fn add_back<'a>(
     k: usize,
     list: Tally,
 ) -> Tally
-    ensures { λ r. ⌜ (now (places .entry) ≡ placesOf (rows (now (starts .entry)) (now (sizes .entry)) (now (entries .entry)) n) → lineOf r (now (at .exit)) (now (marks .exit)) ≡ run.backAdded (rows (now (starts .entry)) (now (sizes .entry)) (now (entries .entry)) n) (now (f .entry)) k (lineOf list (now (at .entry)) (now (marks .entry)))) ⌝ }
+    ensures { λ r. ⌜ lineOf r (now (at .exit)) (now (marks .exit)) ≡ run.backAddedBy (now (places .entry)) (rows (now (starts .entry)) (now (sizes .entry)) (now (entries .entry)) n) (now (f .entry)) k (lineOf list (now (at .entry)) (now (marks .entry))) ⌝ }
 {
     let x = frontier::below::turn_by(places, starts, sizes, entries, n, f, k);
     let q = frontier::below::depth(starts, sizes, entries, n, f, k, x);
@@ -104,7 +102,7 @@ fn add_below<'a>(
     k: usize,
     list: Tally,
 ) -> Tally
-    ensures { λ r. ⌜ (now (places .entry) ≡ placesOf (rows (now (starts .entry)) (now (sizes .entry)) (now (entries .entry)) n) → lineOf r (now (at .exit)) (now (marks .exit)) ≡ run.belowAdded (rows (now (starts .entry)) (now (sizes .entry)) (now (entries .entry)) n) (now (f .entry)) k (lineOf list (now (at .entry)) (now (marks .entry)))) ⌝ }
+    ensures { λ r. ⌜ lineOf r (now (at .exit)) (now (marks .exit)) ≡ run.belowAddedBy (now (places .entry)) (rows (now (starts .entry)) (now (sizes .entry)) (now (entries .entry)) n) (now (f .entry)) k (lineOf list (now (at .entry)) (now (marks .entry))) ⌝ }
 {
     if list.ok {
         return add_back(at, marks, places, starts, sizes, entries, n, f, k, list);
@@ -112,7 +110,7 @@ fn add_below<'a>(
     list
 }
 
-// The list of what is below positions a to j - 1, put into an array of zeros, each context of it marked.
+// The list of what is below positions a to j - 1, put to the front of an array, each context of it marked.
 pub fn listed<'a>(
     at: &mut [u16],
     marks: &mut [u8],
@@ -125,7 +123,7 @@ pub fn listed<'a>(
     a: usize,
     j: usize,
 ) -> Tally
-    ensures { λ r. ⌜ (now (places .entry) ≡ placesOf (rows (now (starts .entry)) (now (sizes .entry)) (now (entries .entry)) n) → now (at .entry) ≡ zeros 512 → lineOf r (now (at .exit)) (now (marks .exit)) ≡ run.listing (rows (now (starts .entry)) (now (sizes .entry)) (now (entries .entry)) n) (now (f .entry)) (now (marks .entry)) a j) ⌝ }
+    ensures { λ r. ⌜ lineOf r (now (at .exit)) (now (marks .exit)) ≡ run.listingBy (now (places .entry)) (rows (now (starts .entry)) (now (sizes .entry)) (now (entries .entry)) n) (now (f .entry)) a j (line true 0 (now (at .entry)) (now (marks .entry))) ⌝ }
 {
     let mut list = Tally { ok: true, len: 0 };
     let mut k = a;
@@ -149,7 +147,7 @@ fn append(at: &mut [u16], line: Tally, f: &[u16], a: usize, e: usize) -> Tally
     v
 }
 
-// The frontier of m contexts with a list of q put in place of positions a to j - 1, in an array of zeros.
+// The frontier of m contexts with a list of q in place of positions a to j - 1, put to the front of an array.
 pub fn replaced<'a>(
     at: &mut [u16],
     f: &'a [u16],
@@ -159,7 +157,7 @@ pub fn replaced<'a>(
     list: &'a [u16],
     q: usize,
 ) -> Tally
-    ensures { λ r. ⌜ ((marks : List ℕ) → now (at .entry) ≡ zeros 512 → lineOf r (now (at .exit)) marks ≡ run.replaced (now (f .entry)) m a j (line true q (now (list .entry)) marks)) ⌝ }
+    ensures { λ r. ⌜ ((marks : List ℕ) → lineOf r (now (at .exit)) marks ≡ run.replacedOn (line true 0 (now (at .entry)) marks) (now (f .entry)) m a j (now (list .entry)) q) ⌝ }
 {
     let left = append(at, Tally { ok: true, len: 0 }, f, 0, a);
     let middle = append(at, left, list, 0, q);

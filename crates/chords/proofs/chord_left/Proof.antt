@@ -1,9 +1,9 @@
 -- chord_left meets its contract.
-use mathlib.Core.Path.{_≡_, sym, ap, _∙_}
+use mathlib.Core.Path.{sym, ap, _∙_}
 use Prim.Native.Nat.{ℕ, _-_}
 use lib.ListN.{getD}
 use Rattle.rings.specs.Tables.{rows}
-use Rattle.places.specs.Places.{placesOf}
+use Rattle.places.specs.Places.{adjacentBy}
 use Rattle.lists.proofs.Folds.{Seeks, seeks-start, seeks-hit, seeks-on, seeks-end}
 use Rattle.chords.proofs.Moves.{left-hit, left-on}
 use Rattle.chords.specs.Run as run
@@ -13,7 +13,7 @@ use Rattle.chords.proofs.chord_left.Statement.{statement}
 use Rattle.chords.proofs.chord_left.Tie as tie
 
 abbrev Inv-loop : tie.InvT-loop
-Inv-loop places starts sizes entries n f i list q u k₀ k = places ≡ placesOf (rows starts sizes entries n) → Seeks (λ (w : ℕ). run.touches (rows starts sizes entries n) (getD f w 0) list 0 q) 0 i k
+Inv-loop places starts sizes entries n f i list q u k₀ k = Seeks (λ (w : ℕ). run.touches (adjacentBy places (rows starts sizes entries n)) (getD f w 0) list 0 q) 0 i k
 
 abbrev μ-loop : tie.MeasureT-loop
 μ-loop places starts sizes entries n f i list q u k₀ k = i - k
@@ -27,10 +27,10 @@ touches-requires c κs = search needs
 returns : tie.Need-returns Inv-loop μ-loop
 returns c =
     let a = c .before .before .before .before .before .before .before .before .before .args in
-    λ own. left-hit (rows (a .starts .now) (a .sizes .now) (a .entries .now) (a .n)) (a .f .now) (a .i) (a .list .now) (a .q) (c .before .before .num .ensures .0) (c .before .touches .ensures own) (c .if1 .taken)
+    left-hit (adjacentBy (a .places .now) (rows (a .starts .now) (a .sizes .now) (a .entries .now) (a .n))) (a .f .now) (a .i) (a .list .now) (a .q) (c .before .before .num .ensures .0) (c .before .touches .ensures) (c .if1 .taken)
 
 loop-holds : tie.Need-loop-holds Inv-loop μ-loop
-loop-holds c = λ own. seeks-start
+loop-holds c = seeks-start
 
 num-requires-2 : tie.Need-num-requires-2 Inv-loop μ-loop
 num-requires-2 c κs = search needs
@@ -41,8 +41,8 @@ touches-requires-2 c κs = search needs
 returns-2 : tie.Need-returns-2 Inv-loop μ-loop
 returns-2 c =
     let a = c .before .before .before .before .before .before .before .before .before .before .before .before .before .before .args in
-    let p = rows (a .starts .now) (a .sizes .now) (a .entries .now) (a .n) in
-    λ own. left-on p (a .f .now) (a .i) (a .list .now) (a .q) (c .before .before .before .before .before .before .before .num .ensures .0) (c .before .before .before .before .before .before .touches .ensures own) (c .before .before .before .before .before .if1 .left) (seeks-hit (c .before .before .before .before .loop .inv own) (omega arith) (ap (λ (u : ℕ). run.touches p u (a .list .now) 0 (a .q)) (sym (c .before .before .num2 .ensures .0)) ∙ sym (c .before .touches2 .ensures own) ∙ c .if2 .taken))
+    let near = adjacentBy (a .places .now) (rows (a .starts .now) (a .sizes .now) (a .entries .now) (a .n)) in
+    left-on near (a .f .now) (a .i) (a .list .now) (a .q) (c .before .before .before .before .before .before .before .num .ensures .0) (c .before .before .before .before .before .before .touches .ensures) (c .before .before .before .before .before .if1 .left) (seeks-hit (c .before .before .before .before .loop .inv) (omega arith) (ap (λ (u : ℕ). run.touches near u (a .list .now) 0 (a .q)) (sym (c .before .before .num2 .ensures .0)) ∙ sym (c .before .touches2 .ensures) ∙ c .if2 .taken))
 
 add-k : tie.Need-add-k Inv-loop μ-loop
 add-k c = search needs
@@ -53,13 +53,13 @@ loop-less c = search needs
 loop-again : tie.Need-loop-again Inv-loop μ-loop
 loop-again c =
     let a = c .before .before .before .before .before .before .before .before .before .before .before .before .before .before .args in
-    let p = rows (a .starts .now) (a .sizes .now) (a .entries .now) (a .n) in
-    λ own. seeks-on (c .before .before .before .before .loop .inv own) (omega arith) (ap (λ (u : ℕ). run.touches p u (a .list .now) 0 (a .q)) (sym (c .before .before .num2 .ensures .0)) ∙ sym (c .before .touches2 .ensures own) ∙ c .if2 .left)
+    let near = adjacentBy (a .places .now) (rows (a .starts .now) (a .sizes .now) (a .entries .now) (a .n)) in
+    seeks-on (c .before .before .before .before .loop .inv) (omega arith) (ap (λ (u : ℕ). run.touches near u (a .list .now) 0 (a .q)) (sym (c .before .before .num2 .ensures .0)) ∙ sym (c .before .touches2 .ensures) ∙ c .if2 .left)
 
 returns-3 : tie.Need-returns-3 Inv-loop μ-loop
 returns-3 c =
     let a = c .before .before .before .before .before .before .before .before .before .before .before .args in
-    λ own. left-on (rows (a .starts .now) (a .sizes .now) (a .entries .now) (a .n)) (a .f .now) (a .i) (a .list .now) (a .q) (c .before .before .before .before .num .ensures .0) (c .before .before .before .touches .ensures own) (c .before .before .if1 .left) (seeks-end (c .before .loop .inv own) (omega arith))
+    left-on (adjacentBy (a .places .now) (rows (a .starts .now) (a .sizes .now) (a .entries .now) (a .n))) (a .f .now) (a .i) (a .list .now) (a .q) (c .before .before .before .before .num .ensures .0) (c .before .before .before .touches .ensures) (c .before .before .if1 .left) (seeks-end (c .before .loop .inv) (omega arith))
 
 pub chord-left-spec : {M : Type 1} → statement M
 chord-left-spec = tie.close (tie.spec Inv-loop μ-loop num-requires touches-requires returns loop-holds num-requires-2 touches-requires-2 returns-2 add-k loop-less loop-again returns-3)

@@ -13,7 +13,7 @@ returns : tie.Need-returns
 unfolding run.chordNew
 returns c =
     let on : c .before .before .before .before .before .before .before .before .before .args .clean ≡ true = c .before .before .if1 .taken in
-    λ own. sym (rw (on, sym (c .before .chord-left .ensures own) ∙ c .if2 .taken))
+    sym (rw (on, sym (c .before .chord-left .ensures) ∙ c .if2 .taken))
 
 chord-right-requires : tie.Need-chord-right-requires
 chord-right-requires c κs = search needs
@@ -22,7 +22,7 @@ returns-2 : tie.Need-returns-2
 unfolding run.chordNew
 returns-2 c =
     let on : c .before .before .before .before .before .before .before .before .before .before .args .clean ≡ true = c .before .before .before .if1 .taken in
-    λ own. c .chord-right .ensures own ∙ sym (rw (on, sym (c .before .before .chord-left .ensures own) ∙ c .before .if2 .left))
+    c .chord-right .ensures ∙ sym (rw (on, sym (c .before .before .chord-left .ensures) ∙ c .before .if2 .left))
 
 broken-requires : tie.Need-broken-requires
 broken-requires c κs = search needs
@@ -31,7 +31,7 @@ returns-3 : tie.Need-returns-3
 unfolding run.chordNew
 returns-3 c =
     let off : c .before .before .before .before .before .before .before .before .args .clean ≡ false = c .before .if1 .left in
-    λ own. c .broken .ensures own ∙ sym (rw off)
+    c .broken .ensures ∙ sym (rw off)
 
 pub chord-new-spec : {M : Type 1} → statement M
 chord-new-spec = tie.close (tie.spec chord-left-requires returns chord-right-requires returns-2 broken-requires returns-3)

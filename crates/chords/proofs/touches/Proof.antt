@@ -1,11 +1,9 @@
 -- touches meets its contract.
-use mathlib.Core.Path.{_≡_, sym, ap, _∙_}
+use mathlib.Core.Path.{sym, ap, _∙_}
 use Prim.Native.Nat.{ℕ, _-_}
 use lib.ListN.{getD}
-use Rattle.model.specs.Plan.{adjacent}
 use Rattle.rings.specs.Tables.{rows}
-use Rattle.places.specs.Places.{placesOf}
-use Rattle.places.proofs.Look.{adjacent-told}
+use Rattle.places.specs.Places.{adjacentBy}
 use Rattle.lists.proofs.Folds.{Seeks, seeks-start, seeks-hit, seeks-on, seeks-end}
 use Rattle.chords.specs.Run as run
 use native.Mathlib.Omega.{arith}
@@ -14,13 +12,13 @@ use Rattle.chords.proofs.touches.Statement.{statement}
 use Rattle.chords.proofs.touches.Tie as tie
 
 abbrev Inv-loop : tie.InvT-loop
-Inv-loop places starts sizes entries n u g a e k₀ k = places ≡ placesOf (rows starts sizes entries n) → Seeks (λ (i : ℕ). adjacent (rows starts sizes entries n) u (getD g i 0)) a e k
+Inv-loop places starts sizes entries n u g a e k₀ k = Seeks (λ (i : ℕ). adjacentBy places (rows starts sizes entries n) u (getD g i 0)) a e k
 
 abbrev μ-loop : tie.MeasureT-loop
 μ-loop places starts sizes entries n u g a e k₀ k = e - k
 
 loop-holds : tie.Need-loop-holds Inv-loop μ-loop
-loop-holds c = λ own. seeks-start
+loop-holds c = seeks-start
 
 num-requires : tie.Need-num-requires Inv-loop μ-loop
 num-requires c κs = search needs
@@ -33,7 +31,7 @@ unfolding run.touches
 returns c =
     let a = c .before .before .before .before .before .before .before .before .before .before .args in
     let p = rows (a .starts .now) (a .sizes .now) (a .entries .now) (a .n) in
-    λ own. seeks-hit (c .before .before .before .before .loop .inv own) (omega arith) (ap (adjacent p (a .u)) (sym (c .before .before .num .ensures .0)) ∙ sym (adjacent-told p own (a .u) (c .before .before .num .result) (c .before .is-adjacent-by .ensures)) ∙ c .if1 .taken)
+    seeks-hit (c .before .before .before .before .loop .inv) (omega arith) (ap (adjacentBy (a .places .now) p (a .u)) (sym (c .before .before .num .ensures .0)) ∙ sym (c .before .is-adjacent-by .ensures) ∙ c .if1 .taken)
 
 add-k : tie.Need-add-k Inv-loop μ-loop
 add-k c = search needs
@@ -45,11 +43,11 @@ loop-again : tie.Need-loop-again Inv-loop μ-loop
 loop-again c =
     let a = c .before .before .before .before .before .before .before .before .before .before .args in
     let p = rows (a .starts .now) (a .sizes .now) (a .entries .now) (a .n) in
-    λ own. seeks-on (c .before .before .before .before .loop .inv own) (omega arith) (ap (adjacent p (a .u)) (sym (c .before .before .num .ensures .0)) ∙ sym (adjacent-told p own (a .u) (c .before .before .num .result) (c .before .is-adjacent-by .ensures)) ∙ c .if1 .left)
+    seeks-on (c .before .before .before .before .loop .inv) (omega arith) (ap (adjacentBy (a .places .now) p (a .u)) (sym (c .before .before .num .ensures .0)) ∙ sym (c .before .is-adjacent-by .ensures) ∙ c .if1 .left)
 
 returns-2 : tie.Need-returns-2 Inv-loop μ-loop
 unfolding run.touches
-returns-2 c = λ own. seeks-end (c .before .loop .inv own) (omega arith)
+returns-2 c = seeks-end (c .before .loop .inv) (omega arith)
 
 pub touches-spec : {M : Type 1} → statement M
 touches-spec = tie.close (tie.spec Inv-loop μ-loop loop-holds num-requires is-adjacent-by-requires returns add-k loop-less loop-again returns-2)

@@ -18,12 +18,12 @@ same-length-2 c = search needs
 returns : tie.Need-returns
 returns c =
     let a = c .before .before .before .before .before .before .before .before .before .before .before .before .before .before .before .args in
-    λ own. below-on (rows (a .starts .now) (a .sizes .now) (a .entries .now) (a .n)) (a .f .now) (a .k) (lines.lineOf (a .list) (a .at .now) (a .marks .now)) (c .before .before .before .before .before .before .before .if1 .taken) (c .before .before .before .before .add-back .ensures own)
+    below-on (a .places .now) (rows (a .starts .now) (a .sizes .now) (a .entries .now) (a .n)) (a .f .now) (a .k) (lines.lineOf (a .list) (a .at .now) (a .marks .now)) (c .before .before .before .before .before .before .before .if1 .taken) (c .before .before .before .before .add-back .ensures)
 
 returns-2 : tie.Need-returns-2
 returns-2 c =
     let a = c .before .before .before .before .before .before .before .before .args in
-    λ own. below-off (rows (a .starts .now) (a .sizes .now) (a .entries .now) (a .n)) (a .f .now) (a .k) (lines.lineOf (a .list) (a .at .now) (a .marks .now)) (c .if1 .left)
+    below-off (a .places .now) (rows (a .starts .now) (a .sizes .now) (a .entries .now) (a .n)) (a .f .now) (a .k) (lines.lineOf (a .list) (a .at .now) (a .marks .now)) (c .if1 .left)
 
 pub add-below-spec : {M : Type 1} → statement M
 add-below-spec = tie.close (tie.spec add-back-requires same-length same-length-2 returns returns-2)

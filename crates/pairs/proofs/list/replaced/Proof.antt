@@ -1,8 +1,5 @@
 -- list::replaced meets its contract.
 use mathlib.Core.Path.{ap, _∙_}
-use mathlib.Core.Bool.{true}
-use mathlib.Core.List.{List}
-use Prim.Native.Nat.{ℕ}
 use Rattle.frontier.specs.Run as lines
 use Rattle.pairs.specs.Run as run
 use borrow.Author.Needs.{needs}
@@ -22,10 +19,10 @@ same-length : tie.Need-same-length
 same-length c = search needs
 
 returns : tie.Need-returns
-unfolding run.replaced lines.fresh
+unfolding run.replacedOn
 returns c =
     let a = c .before .before .before .before .before .before .before .before .before .before .before .before .before .before .before .args in
-    λ marks empty. c .before .before .append3 .ensures marks ∙ ap (λ v. run.appended v (a .f .now) (a .j) (a .m)) (c .before .before .before .before .before .before .append2 .ensures marks ∙ ap (λ v. run.appended v (a .list .now) 0 (a .q)) (c .before .before .before .before .before .before .before .before .before .before .append .ensures marks ∙ ap (λ (l : List ℕ). run.appended (lines.line true 0 l marks) (a .f .now) 0 (a .a)) empty))
+    λ marks. c .before .before .append3 .ensures marks ∙ ap (λ v. run.appended v (a .f .now) (a .j) (a .m)) (c .before .before .before .before .before .before .append2 .ensures marks ∙ ap (λ v. run.appended v (a .list .now) 0 (a .q)) (c .before .before .before .before .before .before .before .before .before .before .append .ensures marks))
 
 pub replaced-spec : {M : Type 1} → statement M
 replaced-spec = tie.close (tie.spec append-requires append-requires-2 append-requires-3 same-length returns)
