@@ -50,9 +50,9 @@ peel a b (x ∷ l) m e = go (peel a b l m) (eqb a x) refl e
 abbrev Runs : ℕ → ℕ → ℕ → ℕ → List ℕ
 Runs a b c d = replicate a up ++ (replicate b right ++ (replicate c down ++ replicate d left))
 
-joined : (l₀ l₁ l₂ l₃ : List ℕ) (a b c d : ℕ) → l₀ ≡ replicate a 0 ++ 1 ∷ l₁ → l₁ ≡ replicate b 1 ++ 2 ∷ l₂ → l₂ ≡ replicate c 2 ++ 3 ∷ l₃ → l₃ ≡ replicate d 3
-    → (0 ∷ l₀) ≡ Runs (suc a) (suc b) (suc c) (suc d)
-joined l₀ l₁ l₂ l₃ a b c d e₀ e₁ e₂ e₃ = rw (e₀, e₁, e₂, e₃)
+joined : (x : ℕ) (l₀ l₁ l₂ l₃ : List ℕ) (a b c d : ℕ) → x ≡ 0 → l₀ ≡ replicate a 0 ++ 1 ∷ l₁ → l₁ ≡ replicate b 1 ++ 2 ∷ l₂ → l₂ ≡ replicate c 2 ++ 3 ∷ l₃ → l₃ ≡ replicate d 3
+    → (x ∷ l₀) ≡ Runs (suc a) (suc b) (suc c) (suc d)
+joined x l₀ l₁ l₂ l₃ a b c d e e₀ e₁ e₂ e₃ = rw (e, e₀, e₁, e₂, e₃)
 
 squeezed-runs : (t : List ℕ) → squeeze t ≡ up ∷ right ∷ down ∷ left ∷ [] → (a : ℕ) × (b : ℕ) × (c : ℕ) × (d : ℕ) × (t ≡ Runs (suc a) (suc b) (suc c) (suc d))
 squeezed-runs [] e = absurd (cons-ne-nil _ _ (sym e))
@@ -61,7 +61,7 @@ squeezed-runs (x ∷ l) e =
     let (b, l₂, e₂, s₂) = peel 1 2 l₁ (3 ∷ []) s₁ in
     let (c, l₃, e₃, s₃) = peel 2 3 l₂ [] s₂ in
     let (d, e₄) = peel-end 3 l₃ s₃ in
-    (a, b, c, d, ap (λ (k : ℕ). k ∷ l) (head-eq e) ∙ joined l l₁ l₂ l₃ a b c d e₁ e₂ e₃ e₄)
+    (a, b, c, d, joined x l l₁ l₂ l₃ a b c d (head-eq e) e₁ e₂ e₃ e₄)
 
 unpeel : (a k : ℕ) (l : List ℕ) → squeezeAfter a (replicate k a ++ l) ≡ squeezeAfter a l
 unpeel a zero l = refl

@@ -1,9 +1,10 @@
 -- part meets its contract.
-use Prim.Native.Nat.{_+_, _-_}
-use mathlib.Core.Path.{_≡_}
+use Prim.Native.Nat.{ℕ, _+_, _-_}
+use mathlib.Core.Path.{_≡_, ap, _∙_}
 use Rattle.arrays.proofs.Parts.{part-fits, part-past}
 use native.Mathlib.Omega.{arith}
 use borrow.Author.Needs.{needs}
+use lib.ListN.{take, drop}
 use Rattle.arrays.proofs.part.Statement.{statement}
 use Rattle.arrays.proofs.part.Tie as tie
 use Rattle.arrays.proofs.part.Reads as reads
@@ -66,7 +67,7 @@ returns-3 : tie.Need-returns-3
 returns-3 c =
     let a = c .before .before .before .args in
     let e : a .at + a .size - a .at ≡ a .size = omega arith in
-    rw e (part-fits (a .a .now) (a .at) (a .size) (omega arith))
+    ap (λ (k : ℕ). take k (drop (a .at) (a .a .now))) e ∙ part-fits (a .a .now) (a .at) (a .size) (omega arith)
 
 pub part-spec : {M : Type 1} → statement M
 part-spec =
