@@ -1,0 +1,65 @@
+-- check_drawn meets its contract.
+use mathlib.Core.Path.{_∙_}
+use Rattle.verdicts.proofs.Lines.{drawn-due}
+use native.Mathlib.Omega.{arith}
+use borrow.Author.Needs.{needs}
+use Rattle.verdicts.proofs.check_drawn.Statement.{statement}
+use Rattle.verdicts.proofs.check_drawn.Tie as tie
+use Rattle.verdicts.proofs.check_drawn.Reads as reads
+use Rattle.verdicts.proofs.check_drawn.Lts as lts
+use Rattle.console.proofs.show.Reads as show-reads
+use Rattle.io.proofs.write_all.Reads as write-all-reads
+use Rattle.verdicts.proofs.answer_of.Reads as answer-of-reads
+use Rattle.verdicts.proofs.chart_due.Reads as chart-due-reads
+use Rattle.verdicts.proofs.judge.Reads as judge-reads
+use Rattle.verdicts.proofs.show_sheet.Reads as show-sheet-reads
+use Rattle.verdicts.proofs.stage_of.Reads as stage-of-reads
+
+slice-aggregate-write-all : tie.Need-slice-aggregate-write-all
+slice-aggregate-write-all c = search needs
+
+write-all-requires : tie.Need-write-all-requires
+write-all-requires c κs = search needs
+
+show-sheet-requires : tie.Need-show-sheet-requires
+show-sheet-requires c κs = search needs
+
+stage-of-requires : tie.Need-stage-of-requires
+stage-of-requires c κs = search needs
+
+chart-due-requires : tie.Need-chart-due-requires
+chart-due-requires c κs = search needs
+
+answer-of-requires : tie.Need-answer-of-requires
+answer-of-requires c κs = search needs
+
+answer-of-requires-2 : tie.Need-answer-of-requires-2
+answer-of-requires-2 c κs = search needs
+
+slice-aggregate-show : tie.Need-slice-aggregate-show
+slice-aggregate-show c = search needs
+
+show-requires : tie.Need-show-requires
+show-requires c κs = search needs
+
+judge-requires : tie.Need-judge-requires
+judge-requires c κs = search needs
+
+returns : tie.Need-returns
+returns c = c .judge .ensures ∙ drawn-due (c .before .before .before .before .before .before .before .before .before .before .args .tally) (c .before .before .before .before .before .before .before .before .before .before .args .charted) (c .before .before .before .answer-of2 .ensures) (c .before .before .before .before .before .chart-due .ensures) (c .before .before .before .before .before .before .stage-of .ensures)
+
+pub check-drawn-spec : {M : Type 1} → statement M
+check-drawn-spec =
+    tie.close
+    (tie.spec
+    slice-aggregate-write-all
+    write-all-requires
+    show-sheet-requires
+    stage-of-requires
+    chart-due-requires
+    answer-of-requires
+    answer-of-requires-2
+    slice-aggregate-show
+    show-requires
+    judge-requires
+    returns)
