@@ -44,6 +44,15 @@ fn same_of(compared: Compared) -> usize
     }
 }
 
+// Writes what same answers; the answer as a number.
+fn show_same(compared: Compared) -> usize
+    ensures { λ r. ⌜ r ≡ sameNumber compared ⌝ }
+{
+    let same = same_of(compared);
+    console::show(b", same # at #", same % 256, same / 256, 0, 0, 0);
+    same
+}
+
 // The number of a sheet's stage.
 fn stage_of(sheet: Sheet) -> usize
     ensures { λ r. ⌜ r ≡ stageNumber sheet ⌝ }
@@ -51,41 +60,24 @@ fn stage_of(sheet: Sheet) -> usize
     sheet::rank_of(sheet::stage_of(sheet))
 }
 
-// Writes a sheet's stage, width and height.
-fn show_sheet(sheet: Sheet) {
-    let w = lists::wide_word(sheet.w);
-    let h = lists::wide_word(sheet.h);
-    match stage_of(sheet) {
-        0 => {
-            console::show(b"EMPTY #x#", w, h, 0, 0, 0);
-        }
-        1 => {
-            console::show(b"OPEN #x#", w, h, 0, 0, 0);
-        }
-        2 => {
-            console::show(b"LABELLED #x#", w, h, 0, 0, 0);
-        }
-        _ => {
-            console::show(b"CHARTED #x#", w, h, 0, 0, 0);
-        }
+// Writes the stage, width and height of a sheet without a chart, LABELLED or OPEN.
+fn show_undrawn(stage: usize, w: usize, h: usize) {
+    if stage == 2 {
+        console::show(b"LABELLED #x#, not drawn yet", w, h, 0, 0, 0);
+        return;
     }
+    console::show(b"OPEN #x#, not drawn yet", w, h, 0, 0, 0);
 }
 
 // Has a sheet no chart? It has no width and no height, and same is refused 13 at 0.
 fn is_undrawn(sheet: Sheet, compared: Compared) -> bool
     ensures { λ r. ⌜ r ≡ undrawn sheet compared ⌝ }
 {
-    let same = same_of(compared);
-    show_sheet(sheet);
-    console::show(
-        b", not drawn yet, same # at #",
-        same % 256,
-        same / 256,
-        0,
-        0,
-        0,
-    );
-    if lists::wide_word(sheet.w) + lists::wide_word(sheet.h) != 0 {
+    let w = lists::wide_word(sheet.w);
+    let h = lists::wide_word(sheet.h);
+    show_undrawn(stage_of(sheet), w, h);
+    let same = show_same(compared);
+    if w + h != 0 {
         return false;
     }
     same == 13
@@ -146,19 +138,19 @@ pub fn tell_file(
     judge(after, is_triple(sheet, scanned))
 }
 
-// Says what a stage after sweep and chart means; what chart must have answered.
-fn chart_due(stage: usize) -> usize
+// Writes the stage after sweep and chart, width and height, and what they mean; what chart must have answered.
+fn show_drawn(stage: usize, w: usize, h: usize) -> usize
     ensures { λ r. ⌜ r ≡ chartDue stage ⌝ }
 {
     if stage == 3 {
-        io::write_all(1, b", drawn");
+        console::show(b"  drawn: CHARTED #x#, drawn", w, h, 0, 0, 0);
         return 0;
     }
     if stage == 2 {
-        io::write_all(1, b", cannot be drawn");
+        console::show(b"  drawn: LABELLED #x#, cannot be drawn", w, h, 0, 0, 0);
         return 11;
     }
-    io::write_all(1, b", no labels");
+    console::show(b"  drawn: OPEN #x#, no labels", w, h, 0, 0, 0);
     13
 }
 
@@ -166,9 +158,9 @@ fn chart_due(stage: usize) -> usize
 fn check_drawn(tally: usize, swept: Outcome, charted: Outcome) -> usize
     ensures { λ r. ⌜ r ≡ drawnTally tally charted ⌝ }
 {
-    io::write_all(1, b"  drawn: ");
-    show_sheet(charted.sheet);
-    let due = chart_due(stage_of(charted.sheet));
+    let w = lists::wide_word(charted.sheet.w);
+    let h = lists::wide_word(charted.sheet.h);
+    let due = show_drawn(stage_of(charted.sheet), w, h);
     let sweep = answer_of(swept);
     let chart = answer_of(charted);
     console::show(
@@ -236,7 +228,6 @@ pub fn tell_turn(tally: usize, number: usize, sheet: Sheet, compared: Compared) 
 pub fn tell_afresh(tally: usize, old: Sheet, new: Sheet, compared: Compared) -> usize
     ensures { λ r. ⌜ r ≡ tallied tally (afresh compared) ⌝ }
 {
-    let same = same_of(compared);
     console::show(
         b"  afresh: before #x#, after #x#",
         lists::wide_word(old.w),
@@ -245,8 +236,7 @@ pub fn tell_afresh(tally: usize, old: Sheet, new: Sheet, compared: Compared) -> 
         lists::wide_word(new.h),
         0,
     );
-    console::show(b", same # at #", same % 256, same / 256, 0, 0, 0);
-    judge(tally, same == 0)
+    judge(tally, show_same(compared) == 0)
 }
 
 // The length of a file; 0 where it is refused.

@@ -8,27 +8,23 @@ use Rattle.verdicts.proofs.check_drawn.Tie as tie
 use Rattle.verdicts.proofs.check_drawn.Reads as reads
 use Rattle.verdicts.proofs.check_drawn.Lts as lts
 use Rattle.console.proofs.show.Reads as show-reads
-use Rattle.io.proofs.write_all.Reads as write-all-reads
+use Rattle.lists.proofs.wide_word.Reads as wide-word-reads
 use Rattle.verdicts.proofs.answer_of.Reads as answer-of-reads
-use Rattle.verdicts.proofs.chart_due.Reads as chart-due-reads
 use Rattle.verdicts.proofs.judge.Reads as judge-reads
-use Rattle.verdicts.proofs.show_sheet.Reads as show-sheet-reads
+use Rattle.verdicts.proofs.show_drawn.Reads as show-drawn-reads
 use Rattle.verdicts.proofs.stage_of.Reads as stage-of-reads
 
-slice-aggregate-write-all : tie.Need-slice-aggregate-write-all
-slice-aggregate-write-all c = search needs
+wide-word-requires : tie.Need-wide-word-requires
+wide-word-requires c κs = search needs
 
-write-all-requires : tie.Need-write-all-requires
-write-all-requires c κs = search needs
-
-show-sheet-requires : tie.Need-show-sheet-requires
-show-sheet-requires c κs = search needs
+wide-word-requires-2 : tie.Need-wide-word-requires-2
+wide-word-requires-2 c κs = search needs
 
 stage-of-requires : tie.Need-stage-of-requires
 stage-of-requires c κs = search needs
 
-chart-due-requires : tie.Need-chart-due-requires
-chart-due-requires c κs = search needs
+show-drawn-requires : tie.Need-show-drawn-requires
+show-drawn-requires c κs = search needs
 
 answer-of-requires : tie.Need-answer-of-requires
 answer-of-requires c κs = search needs
@@ -46,17 +42,16 @@ judge-requires : tie.Need-judge-requires
 judge-requires c κs = search needs
 
 returns : tie.Need-returns
-returns c = c .judge .ensures ∙ drawn-due (c .before .before .before .before .before .before .before .before .before .before .args .tally) (c .before .before .before .before .before .before .before .before .before .before .args .charted) (c .before .before .before .answer-of2 .ensures) (c .before .before .before .before .before .chart-due .ensures) (c .before .before .before .before .before .before .stage-of .ensures)
+returns c = c .judge .ensures ∙ drawn-due (c .before .before .before .before .before .before .before .before .before .args .tally) (c .before .before .before .before .before .before .before .before .before .args .charted) (c .before .before .before .answer-of2 .ensures) (c .before .before .before .before .before .show-drawn .ensures) (c .before .before .before .before .before .before .stage-of .ensures)
 
 pub check-drawn-spec : {M : Type 1} → statement M
 check-drawn-spec =
     tie.close
     (tie.spec
-    slice-aggregate-write-all
-    write-all-requires
-    show-sheet-requires
+    wide-word-requires
+    wide-word-requires-2
     stage-of-requires
-    chart-due-requires
+    show-drawn-requires
     answer-of-requires
     answer-of-requires-2
     slice-aggregate-show

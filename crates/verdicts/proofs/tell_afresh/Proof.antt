@@ -12,10 +12,7 @@ use Rattle.verdicts.proofs.tell_afresh.Lts as lts
 use Rattle.console.proofs.show.Reads as show-reads
 use Rattle.lists.proofs.wide_word.Reads as wide-word-reads
 use Rattle.verdicts.proofs.judge.Reads as judge-reads
-use Rattle.verdicts.proofs.same_of.Reads as same-of-reads
-
-same-of-requires : tie.Need-same-of-requires
-same-of-requires c κs = search needs
+use Rattle.verdicts.proofs.show_same.Reads as show-same-reads
 
 slice-aggregate-show : tie.Need-slice-aggregate-show
 slice-aggregate-show c = search needs
@@ -35,31 +32,26 @@ wide-word-requires-4 c κs = search needs
 show-requires : tie.Need-show-requires
 show-requires c κs = search needs
 
-slice-aggregate-show-2 : tie.Need-slice-aggregate-show-2
-slice-aggregate-show-2 c = search needs
-
-show-requires-2 : tie.Need-show-requires-2
-show-requires-2 c κs = search needs
+show-same-requires : tie.Need-show-same-requires
+show-same-requires c κs = search needs
 
 judge-requires : tie.Need-judge-requires
 judge-requires c κs = search needs
 
 returns : tie.Need-returns
 unfolding afresh
-returns c = c .judge .ensures ∙ ap (λ (k : ℕ). tallied (c .before .before .before .before .before .before .before .before .before .before .args .tally) (eqb k 0)) (c .before .before .before .before .before .before .before .before .before .same-of .ensures)
+returns c = c .judge .ensures ∙ ap (λ (k : ℕ). tallied (c .before .before .before .before .before .before .before .before .args .tally) (eqb k 0)) (c .before .show-same .ensures)
 
 pub tell-afresh-spec : {M : Type 1} → statement M
 tell-afresh-spec =
     tie.close
     (tie.spec
-    same-of-requires
     slice-aggregate-show
     wide-word-requires
     wide-word-requires-2
     wide-word-requires-3
     wide-word-requires-4
     show-requires
-    slice-aggregate-show-2
-    show-requires-2
+    show-same-requires
     judge-requires
     returns)
