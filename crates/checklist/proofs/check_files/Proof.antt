@@ -18,47 +18,36 @@ Inv-loop input tally₀ number₀ at₀ tally number at = Unit {0}
 abbrev μ-loop : tie.MeasureT-loop
 μ-loop input tally₀ number₀ at₀ tally number at = length input - at
 
--- src/main.rt:443:5
 loop-holds : tie.Need-loop-holds Inv-loop μ-loop
 loop-holds c = search needs
 
--- src/main.rt:444:13
 word-at-requires : tie.Need-word-at-requires Inv-loop μ-loop
 word-at-requires c κs = search needs
 
--- src/main.rt:445:9
 wrapping-add-usize-requires : tie.Need-wrapping-add-usize-requires Inv-loop μ-loop
 wrapping-add-usize-requires c κs = search needs
 
--- src/main.rt:446:72
 add-part : tie.Need-add-part Inv-loop μ-loop
 add-part c = search needs
 
--- src/main.rt:446:46
 part-requires : tie.Need-part-requires Inv-loop μ-loop
 part-requires c κs = search needs
 
--- src/main.rt:446:13
 check-file-requires : tie.Need-check-file-requires Inv-loop μ-loop
 check-file-requires c κs = search needs
 
--- src/main.rt:448:15
 add-at : tie.Need-add-at Inv-loop μ-loop
 add-at c = search needs
 
--- src/main.rt:448:9
 add-at-2 : tie.Need-add-at-2 Inv-loop μ-loop
 add-at-2 c = search needs
 
--- src/main.rt:443:5
 loop-less : tie.Need-loop-less Inv-loop μ-loop
 loop-less c = search needs
 
--- src/main.rt:443:5
 loop-again : tie.Need-loop-again Inv-loop μ-loop
 loop-again c = search needs
 
--- src/main.rt:436:1
 returns : tie.Need-returns Inv-loop μ-loop
 returns c = search needs
 

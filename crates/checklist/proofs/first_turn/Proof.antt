@@ -6,7 +6,6 @@ use Rattle.checklist.proofs.first_turn.Statement.{statement}
 use Rattle.checklist.proofs.first_turn.Tie as tie
 use Rattle.checklist.proofs.first_turn.Reads as reads
 use Rattle.checklist.proofs.first_turn.Lts as lts
-use Rattle.checklist.proofs.answer_of.Reads as answer-of-reads
 use Rattle.checklist.proofs.turn_by.Reads as turn-by-reads
 
 abbrev Inv-loop : tie.InvT-loop
@@ -15,35 +14,30 @@ Inv-loop sheet number₀ number = number ≤ 102400
 abbrev μ-loop : tie.MeasureT-loop
 μ-loop sheet number₀ number = 102400 - number
 
--- src/main.rt:302:5
 loop-holds : tie.Need-loop-holds Inv-loop μ-loop
 loop-holds c = search needs
 
--- src/main.rt:303:22
 turn-by-requires : tie.Need-turn-by-requires Inv-loop μ-loop
 turn-by-requires c κs = search needs
 
--- src/main.rt:303:12
-answer-of-requires : tie.Need-answer-of-requires Inv-loop μ-loop
-answer-of-requires c κs = search needs
+enum-told : tie.Need-enum-told Inv-loop μ-loop
+enum-told c = search needs
 
--- src/main.rt:304:13
 returns : tie.Need-returns Inv-loop μ-loop
 returns c = search needs
 
--- src/main.rt:306:9
+enum-told-2 : tie.Need-enum-told-2 Inv-loop μ-loop
+enum-told-2 c = search needs
+
 add-number : tie.Need-add-number Inv-loop μ-loop
 add-number c = search needs
 
--- src/main.rt:302:5
 loop-less : tie.Need-loop-less Inv-loop μ-loop
 loop-less c = search needs
 
--- src/main.rt:302:5
 loop-again : tie.Need-loop-again Inv-loop μ-loop
 loop-again c = search needs
 
--- src/main.rt:300:1
 returns-2 : tie.Need-returns-2 Inv-loop μ-loop
 returns-2 c = search needs
 
@@ -55,8 +49,9 @@ first-turn-spec =
     μ-loop
     loop-holds
     turn-by-requires
-    answer-of-requires
+    enum-told
     returns
+    enum-told-2
     add-number
     loop-less
     loop-again
