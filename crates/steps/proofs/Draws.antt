@@ -1,12 +1,14 @@
 -- Labels put on edges one after the other, on the darts of a plan and in an array that holds its labels.
 use Prim.Native.Nat.{ℕ, zero, suc, _+_, _-_, _≤_, _<_}
 use mathlib.Core.Path.{_≡_, refl, sym, ap, _∙_}
+use mathlib.Core.Logic.{_⊎_, inl, inr}
 use mathlib.Core.List.{List, [], _∷_, _++_, map, append-nil}
 use mathlib.Core.Bool.{Bool, true, false, cond}
 use native.Mathlib.Omega.{arith}
 use lib.ListN.{length, getD, set, take, drop, length-append, length-set, take-append-drop, length-map}
 use lib.Seq.{set-append-left, take-suc, take-length}
 use Rattle.lists.specs.Parts.{concat, indexOf, steps}
+use Rattle.lists.specs.Tests.{member}
 use Rattle.lists.specs.Spans.{stretch, span, zeros, padded}
 use Rattle.lists.proofs.Concats.{concat-append}
 use Rattle.lists.proofs.Places.{index-below}
@@ -16,25 +18,76 @@ use Rattle.model.specs.Plan.{Plan, Dart, count, neighbour, entries, ring, adjac
 use Rattle.model.specs.Labels.{start, put, turned}
 use Rattle.model.specs.Sweep.{labelEdges, product}
 use Rattle.model.proofs.Plans.{adjacent-from, adjacent-mem}
-use Rattle.rings.specs.Tables.{startsOf, sizeOf, rows, table}
-use Rattle.labels.proofs.Places.{put-there, put-none}
-use Rattle.steps.specs.Run.{edge, dart, fan}
+use Rattle.rings.specs.Tables.{startsOf, rows, table}
+use Rattle.rings.proofs.Rows.{count-rows}
+use Rattle.fit.specs.Fits.{fit}
+use Rattle.fit.proofs.Fits.{fit-says}
+use Rattle.places.specs.Places.{place, cell, placesOf}
+use Rattle.places.proofs.Notes.{places-cell, place-absent, place-present}
+use Rattle.labels.proofs.Places.{start-held}
+use Rattle.steps.specs.Run.{Guide, edge, dart, fan}
 
 -- the plan of the starts that the sizes give
 pub as-table : (starts sizes es : List ℕ) (n : ℕ) → starts ≡ startsOf sizes → rows starts sizes es n ≡ table sizes es n
 unfolding table
 as-table starts sizes es n same = ap (λ (l : List ℕ). rows l sizes es n) same
 
--- ---- a label on one dart
-module _ (starts sizes es : List ℕ) (n : ℕ) (same : starts ≡ startsOf sizes) (small : n ≤ 200) where
-  module _ (u v : ℕ) {s i k : ℕ} (from-s : s ≡ getD starts u 0) (at : i ≡ indexOf v (ring (rows starts sizes es n) u)) (size : k ≡ sizeOf sizes n u) (ls : List ℕ) (l : ℕ) where
-    -- there is a dart
-    pub put-in : i < k → set ls (s + i) l ≡ put (rows starts sizes es n) u v l ls
-    put-in h = put-there starts sizes es n same small u v from-s at size ls l h ∙ ap (λ (p : Plan). put p u v l ls) (sym (as-table starts sizes es n same))
+-- ---- labels put by the table of positions
+-- the guide of a plan in flat arrays that fits
+pub guide : (starts sizes es : List ℕ) (n : ℕ) {places : List ℕ} → starts ≡ startsOf sizes → fit (rows starts sizes es n) ≡ true → places ≡ placesOf (rows starts sizes es n) → Guide (rows starts sizes es n) places starts
+guide starts sizes es n same fits own =
+    let z = count-rows starts sizes es n in
+    let few = fit-says (rows starts sizes es n) fits .few in
+    record { fits = fits; own = own; begins = λ u h. start-held starts sizes es n same (omega arith) u (omega arith) }
 
-    -- there is none
-    pub put-out : k ≤ i → ls ≡ put (rows starts sizes es n) u v l ls
-    put-out h = put-none starts sizes es n same small u v from-s at size ls l h ∙ ap (λ (p : Plan). put p u v l ls) (sym (as-table starts sizes es n same))
+module _ {p : Plan} {places starts : List ℕ} (g : Guide p places starts) (u v l : ℕ) (ls : List ℕ) where
+  -- what stands in the cell of a dart
+  cell-is : {i : ℕ} → u < 200 → v < 200 → i ≡ getD places (cell u v) 0 → i ≡ place v (ring p u)
+  cell-is h k at = at ∙ ap (λ (t : List ℕ). getD t (cell u v) 0) (g .own) ∙ places-cell p u v h k
+
+  -- there is a dart
+  pub put-in : {i s x : ℕ} → u < 200 → v < 200 → i ≡ getD places (cell u v) 0 → s ≡ getD starts u 0 → 0 < i → x ≡ s + (i - 1) → set ls x l ≡ put p u v l ls
+  unfolding put adjacent
+  put-in {i} {s} {x} h k at from-s more e = go (member v (ring p u)) refl
+    where
+      go : (t : Bool) → member v (ring p u) ≡ t → set ls x l ≡ cond t (set ls (start p u + indexOf v (ring p u)) l) ls
+      go true q =
+          let a = cell-is h k at ∙ place-present v (ring p u) q in
+          let b = from-s ∙ g .begins u (adjacent-from p u v q) in
+          let z : x ≡ start p u + indexOf v (ring p u) = omega arith in
+          ap (λ (y : ℕ). set ls y l) z
+      go false q = let a = cell-is h k at ∙ place-absent v (ring p u) q in absurd (omega arith)
+
+  -- there is none
+  pub put-out : {i : ℕ} → u < 200 → v < 200 → i ≡ getD places (cell u v) 0 → i ≤ 0 → ls ≡ put p u v l ls
+  unfolding put adjacent
+  put-out {i} h k at none = go (member v (ring p u)) refl
+    where
+      go : (t : Bool) → member v (ring p u) ≡ t → ls ≡ cond t (set ls (start p u + indexOf v (ring p u)) l) ls
+      go true q = let a = cell-is h k at ∙ place-present v (ring p u) q in absurd (omega arith)
+      go false q = refl
+
+  -- no dart begins or ends at 200 or above
+  beyond : (200 ≤ u) ⊎ (200 ≤ v) → adjacent p u v ≡ false
+  beyond far = go (adjacent p u v) refl far
+    where
+      go : (t : Bool) → adjacent p u v ≡ t → (200 ≤ u) ⊎ (200 ≤ v) → t ≡ false
+      go false q far = refl
+      go true q (inl h) = let few = fit-says p (g .fits) .few in let k = adjacent-from p u v q in absurd (omega arith)
+      go true q (inr h) = let few = fit-says p (g .fits) .few in let k = fit-says p (g .fits) .inside u v (adjacent-mem p u v q) in absurd (omega arith)
+
+  put-beyond : (200 ≤ u) ⊎ (200 ≤ v) → put p u v l ls ≡ ls
+  unfolding put
+  put-beyond far = rw (beyond far)
+
+-- nor an edge
+pub edge-beyond : {p : Plan} {places starts : List ℕ} → Guide p places starts → (u v l : ℕ) (ls : List ℕ) → (200 ≤ u) ⊎ (200 ≤ v) → ls ≡ edge p l u v ls
+unfolding edge
+edge-beyond {p} g u v l ls far = sym (put-beyond g u v l (put p v u (turned l 2) ls) far ∙ put-beyond g v u (turned l 2) ls (swap far))
+  where
+    swap : (200 ≤ u) ⊎ (200 ≤ v) → (200 ≤ v) ⊎ (200 ≤ u)
+    swap (inl h) = inr h
+    swap (inr h) = inl h
 
 -- ---- while there are darts { ls = edge(ls, dart); }
 pub record Draws (p : Plan) (l : ℕ) (ds₀ : List Dart) (ls₀ : List ℕ) (ds : List Dart) (ls : List ℕ) : Type 0 where
@@ -71,16 +124,6 @@ module _ {p : Plan} {l : ℕ} {ds₀ : List Dart} {ls₀ : List ℕ} {ds : List 
 
 -- ---- the darts of spans, one after the other
 module _ (f : List ℕ) (k e : ℕ) where
-  -- the next dart to North
-  pub north-more : k < e → product (span f k e) (0 ∷ []) ≡ dart (getD f k 0) 0 ∷ product (span f (k + 1) e) (0 ∷ [])
-  unfolding product
-  north-more h = ap (λ (l : List ℕ). product l (0 ∷ [])) (span-more f k e h)
-
-  -- no dart to North is left
-  pub north-end : e ≤ k → product (span f k e) (0 ∷ []) ≡ []
-  unfolding product
-  north-end h = ap (λ (l : List ℕ). product l (0 ∷ [])) (span-end f k e h)
-
   -- the next dart from u
   pub fan-more : (u : ℕ) → k < e → fan u (span f k e) ≡ dart u (getD f k 0) ∷ fan u (span f (k + 1) e)
   unfolding fan

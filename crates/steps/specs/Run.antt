@@ -1,21 +1,29 @@
 -- The steps of the sweep as the engine runs them, on arrays.
-use Prim.Native.Nat.{ℕ, _+_, _-_, _≤_}
+use Prim.Native.Nat.{ℕ, _+_, _-_, _≤_, _<_}
 use mathlib.Core.Path.{_≡_}
 use mathlib.Core.List.{List, [], _∷_, _++_, map}
-use mathlib.Core.Bool.{true, false, cond, _&&_}
-use lib.ListN.{length}
+use mathlib.Core.Bool.{Bool, true, false, cond, _&&_}
+use lib.ListN.{length, getD}
 use Rattle.lists.specs.Parts.{steps}
 use Rattle.lists.specs.Spans.{span, zeros, padded}
 use Rattle.model.specs.Outcome.{Outcome, accepted, refused}
-use Rattle.model.specs.Plan.{Plan, Dart, count, ring, border}
-use Rattle.model.specs.Labels.{up, right, borderLabel, unlabelled, turned, put}
-use Rattle.model.specs.Sweep.{labelEdges, product, bareLabels, firstState, sweepFrom}
+use Rattle.model.specs.Plan.{Plan, Dart, count, ring, border, entryCount}
+use Rattle.model.specs.Labels.{up, right, borderLabel, unlabelled, turned, start, put}
+use Rattle.model.specs.Sweep.{State, labelEdges, product, bareLabels, chordless, firstState, sweepFrom}
 use Rattle.fit.specs.Fits.{fit}
+use Rattle.places.specs.Places.{placesOf}
 use Rattle.frontier.specs.declared.Line.{Line}
+use Rattle.frontier.specs.Front.{Front}
 use Rattle.pairs.specs.Run.{listing, replaced}
 use Rattle.steps.specs.declared.Ended.{Ended}
 
 -- ---- labels
+-- what labels are put by: the table of positions of a plan that fits, and where its rings begin
+pub record Guide (p : Plan) (places starts : List ℕ) : Type 0 where
+  pub fits : fit p ≡ true
+  pub own : places ≡ placesOf p
+  pub begins : (u : ℕ) → u < count p → getD starts u 0 ≡ start p u
+
 -- l on the dart from u to v, and its opposite on the reverse
 unfoldable pub edge : Plan → ℕ → ℕ → ℕ → List ℕ → List ℕ
 edge p l u v ls = put p u v l (put p v u (turned l 2) ls)
@@ -77,3 +85,16 @@ stepsOf p = cond (fit p) (swept p) (refused 13 0)
 unfoldable pub endedAs : Outcome (List ℕ) → Ended
 endedAs (accepted ls) = record { finished = true; labels = padded 1186 ls }
 endedAs (refused k at) = record { finished = false; labels = zeros 1186 }
+
+-- what the sweep has come to, with k steps to go
+pub record Running (p : Plan) (k : ℕ) (clean : Bool) (v : Line) (ls : List ℕ) : Type 0 where
+  pub state : State
+  pub front : Front state v
+  pub chords : clean ≡ true → chordless p (state .frontier) ≡ true
+  pub labels : ls ≡ padded 1186 (state .labels)
+  pub size : length (state .labels) ≡ entryCount p
+  pub same : swept p ≡ sweepFrom p k state
+
+-- how the steps ended, by whether they finished and the labels then
+unfoldable pub ended : Bool → List ℕ → Ended
+ended done ls = cond done (record { finished = true; labels = ls }) stuck

@@ -1,91 +1,35 @@
-// Labels put on edges.
+// Labels put on edges, by a plan's table of positions and the starts of its rings.
 ghost use mathlib.Core.Path.{_≡_};
-ghost use mathlib.Core.List.{map, [], _∷_};
 ghost use Prim.Native.Nat.{ℕ, _+_, _≤_, _<_};
 ghost use Rattle.lists.specs.Parts.{steps};
 ghost use Rattle.lists.specs.Spans.{span};
+ghost use Rattle.model.specs.Plan.{Plan};
 ghost use Rattle.model.specs.Labels.{up, right, put, turned};
 ghost use Rattle.model.specs.Sweep.{labelEdges, product};
-ghost use Rattle.rings.specs.Tables.{startsOf, rows};
-ghost use Rattle.places.specs.Places.{placesOf};
 ghost use Rattle.steps.specs.Run as run;
 
 // Puts l on the dart from u to v, if there is one.
-fn put_on<'a>(
-    labels: &mut [u8],
-    places: &'a [u8],
-    starts: &'a [u16],
-    sizes: &'a [u8],
-    entries: &'a [u16],
-    n: usize,
-    l: u8,
-    u: usize,
-    v: usize,
-)
-    requires { ⌜ now starts ≡ startsOf (now sizes) ⌝ }
-    requires { ⌜ n ≤ 200 ⌝ }
-    requires { ⌜ now places ≡ placesOf (rows (now starts) (now sizes) (now entries) n) ⌝ }
-    ensures { λ r. ⌜ now (labels .exit) ≡ put (rows (now (starts .entry)) (now (sizes .entry)) (now (entries .entry)) n) u v l (now (labels .entry)) ⌝ }
+fn put_on<'a>(labels: &mut [u8], places: &'a [u8], starts: &'a [u16], l: u8, u: usize, v: usize)
+    requires { ⌜ u < 200 ⌝ }
+    requires { ⌜ v < 200 ⌝ }
+    ensures { λ r. ⌜ ((p : Plan) → run.Guide p (now (places .entry)) (now (starts .entry)) → now (labels .exit) ≡ put p u v l (now (labels .entry))) ⌝ }
 {
-    let i = places::index_by(places, starts, sizes, entries, n, u, v);
-    if i < rings::size_of(sizes, n, u) {
-        lists::set_byte(labels, lists::num(starts, u) + i, l);
+    let i = lists::byte(places, 200 * u + v);
+    if i > 0 {
+        lists::set_byte(labels, lists::num(starts, u) + (i - 1), l);
     }
 }
 
 // Puts l on the dart from u to v, and its opposite on the reverse.
-fn edge<'a>(
-    labels: &mut [u8],
-    places: &'a [u8],
-    starts: &'a [u16],
-    sizes: &'a [u8],
-    entries: &'a [u16],
-    n: usize,
-    l: u8,
-    u: usize,
-    v: usize,
-)
-    requires { ⌜ now starts ≡ startsOf (now sizes) ⌝ }
-    requires { ⌜ n ≤ 200 ⌝ }
-    requires { ⌜ now places ≡ placesOf (rows (now starts) (now sizes) (now entries) n) ⌝ }
+fn edge<'a>(labels: &mut [u8], places: &'a [u8], starts: &'a [u16], l: u8, u: usize, v: usize)
     requires { ⌜ l < 4 ⌝ }
-    ensures { λ r. ⌜ now (labels .exit) ≡ run.edge (rows (now (starts .entry)) (now (sizes .entry)) (now (entries .entry)) n) l u v (now (labels .entry)) ⌝ }
+    ensures { λ r. ⌜ ((p : Plan) → run.Guide p (now (places .entry)) (now (starts .entry)) → now (labels .exit) ≡ run.edge p l u v (now (labels .entry))) ⌝ }
 {
-    put_on(labels, places, starts, sizes, entries, n, (l + 2) % 4, v, u);
-    put_on(labels, places, starts, sizes, entries, n, l, u, v);
-}
-
-// Puts up on the darts from positions a to e - 1 of f to North.
-pub(crate) fn to_north<'a>(
-    labels: &mut [u8],
-    places: &'a [u8],
-    starts: &'a [u16],
-    sizes: &'a [u8],
-    entries: &'a [u16],
-    n: usize,
-    f: &'a [u16],
-    a: usize,
-    e: usize,
-)
-    requires { ⌜ now starts ≡ startsOf (now sizes) ⌝ }
-    requires { ⌜ n ≤ 200 ⌝ }
-    requires { ⌜ now places ≡ placesOf (rows (now starts) (now sizes) (now entries) n) ⌝ }
-    ensures { λ r. ⌜ now (labels .exit) ≡ labelEdges (rows (now (starts .entry)) (now (sizes .entry)) (now (entries .entry)) n) up (product (span (now (f .entry)) a e) (0 ∷ [])) (now (labels .entry)) ⌝ }
-{
-    let mut k = a;
-    while k < e {
-        edge(
-            labels,
-            places,
-            starts,
-            sizes,
-            entries,
-            n,
-            0,
-            lists::num(f, k),
-            0,
-        );
-        k += 1;
+    if u < 200 {
+        if v < 200 {
+            put_on(labels, places, starts, (l + 2) % 4, v, u);
+            put_on(labels, places, starts, l, u, v);
+        }
     }
 }
 
@@ -94,69 +38,37 @@ pub(crate) fn from_one<'a>(
     labels: &mut [u8],
     places: &'a [u8],
     starts: &'a [u16],
-    sizes: &'a [u8],
-    entries: &'a [u16],
-    n: usize,
     u: usize,
     f: &'a [u16],
     a: usize,
     e: usize,
 )
-    requires { ⌜ now starts ≡ startsOf (now sizes) ⌝ }
-    requires { ⌜ n ≤ 200 ⌝ }
-    requires { ⌜ now places ≡ placesOf (rows (now starts) (now sizes) (now entries) n) ⌝ }
-    ensures { λ r. ⌜ now (labels .exit) ≡ labelEdges (rows (now (starts .entry)) (now (sizes .entry)) (now (entries .entry)) n) up (run.fan u (span (now (f .entry)) a e)) (now (labels .entry)) ⌝ }
+    ensures { λ r. ⌜ ((p : Plan) → run.Guide p (now (places .entry)) (now (starts .entry)) → now (labels .exit) ≡ labelEdges p up (run.fan u (span (now (f .entry)) a e)) (now (labels .entry))) ⌝ }
 {
     let mut k = a;
     while k < e {
-        edge(
-            labels,
-            places,
-            starts,
-            sizes,
-            entries,
-            n,
-            0,
-            u,
-            lists::num(f, k),
-        );
+        edge(labels, places, starts, 0, u, lists::num(f, k));
         k += 1;
     }
 }
 
-// Puts up on the darts from the first m of g to positions a to e - 1 of f.
+// Puts up on the darts from positions b to m - 1 of g to positions a to e - 1 of f.
 pub(crate) fn from_all<'a>(
     labels: &mut [u8],
     places: &'a [u8],
     starts: &'a [u16],
-    sizes: &'a [u8],
-    entries: &'a [u16],
-    n: usize,
     g: &'a [u16],
+    b: usize,
     m: usize,
     f: &'a [u16],
     a: usize,
     e: usize,
 )
-    requires { ⌜ now starts ≡ startsOf (now sizes) ⌝ }
-    requires { ⌜ n ≤ 200 ⌝ }
-    requires { ⌜ now places ≡ placesOf (rows (now starts) (now sizes) (now entries) n) ⌝ }
-    ensures { λ r. ⌜ now (labels .exit) ≡ labelEdges (rows (now (starts .entry)) (now (sizes .entry)) (now (entries .entry)) n) up (product (span (now (g .entry)) 0 m) (span (now (f .entry)) a e)) (now (labels .entry)) ⌝ }
+    ensures { λ r. ⌜ ((p : Plan) → run.Guide p (now (places .entry)) (now (starts .entry)) → now (labels .exit) ≡ labelEdges p up (product (span (now (g .entry)) b m) (span (now (f .entry)) a e)) (now (labels .entry))) ⌝ }
 {
-    let mut k = 0;
+    let mut k = b;
     while k < m {
-        from_one(
-            labels,
-            places,
-            starts,
-            sizes,
-            entries,
-            n,
-            lists::num(g, k),
-            f,
-            a,
-            e,
-        );
+        from_one(labels, places, starts, lists::num(g, k), f, a, e);
         k += 1;
     }
 }
@@ -166,17 +78,11 @@ pub(crate) fn along<'a>(
     labels: &mut [u8],
     places: &'a [u8],
     starts: &'a [u16],
-    sizes: &'a [u8],
-    entries: &'a [u16],
-    n: usize,
     f: &'a [u16],
     i: usize,
     e: usize,
 )
-    requires { ⌜ now starts ≡ startsOf (now sizes) ⌝ }
-    requires { ⌜ n ≤ 200 ⌝ }
-    requires { ⌜ now places ≡ placesOf (rows (now starts) (now sizes) (now entries) n) ⌝ }
-    ensures { λ r. ⌜ now (labels .exit) ≡ labelEdges (rows (now (starts .entry)) (now (sizes .entry)) (now (entries .entry)) n) right (steps (span (now (f .entry)) i e)) (now (labels .entry)) ⌝ }
+    ensures { λ r. ⌜ ((p : Plan) → run.Guide p (now (places .entry)) (now (starts .entry)) → now (labels .exit) ≡ labelEdges p right (steps (span (now (f .entry)) i e)) (now (labels .entry))) ⌝ }
 {
     let last = lists::minus(e, 1);
     let mut k = i;
@@ -185,9 +91,6 @@ pub(crate) fn along<'a>(
             labels,
             places,
             starts,
-            sizes,
-            entries,
-            n,
             1,
             lists::num(f, k),
             lists::num(f, k + 1),

@@ -1,29 +1,29 @@
 -- mark::along meets its contract.
-use mathlib.Core.Path.{_∙_}
+use mathlib.Core.Path.{_≡_, refl, _∙_}
 use Prim.Native.Nat.{_+_, _-_}
 use native.Mathlib.Omega.{arith}
-use lib.ListN.{getD}
+use lib.ListN.{length, getD}
 use borrow.Author.Needs.{needs}
 use Rattle.lists.specs.Spans.{span}
 use Rattle.lists.specs.Parts.{steps}
+use Rattle.model.specs.Plan.{Plan}
 use Rattle.model.specs.Labels.{right}
-use Rattle.rings.specs.Tables.{rows}
-use Rattle.steps.proofs.Draws.{Draws, draws-start, draws-on, draws-end, draws-size, steps-more, steps-end}
+use Rattle.steps.proofs.Draws.{Draws, draws-start, draws-on, draws-end, steps-more, steps-end}
 use Rattle.steps.proofs.mark.along.Statement.{statement}
 use Rattle.steps.proofs.mark.along.Tie as tie
 use Rattle.steps.specs.Run as run
 
 abbrev Inv-loop : tie.InvT-loop
-Inv-loop labels₀ places starts sizes entries n f i e last k₀ labels k = Draws (rows starts sizes entries n) right (steps (span f i e)) labels₀ (steps (span f k e)) labels
+Inv-loop labels₀ places starts f i e last k₀ labels k = (length labels ≡ length labels₀) × ((p : Plan) → run.Guide p places starts → Draws p right (steps (span f i e)) labels₀ (steps (span f k e)) labels)
 
 abbrev μ-loop : tie.MeasureT-loop
-μ-loop labels₀ places starts sizes entries n f i e last k₀ labels k = last - k
+μ-loop labels₀ places starts f i e last k₀ labels k = last - k
 
 minus-requires : tie.Need-minus-requires Inv-loop μ-loop
 minus-requires c κs = search needs
 
 loop-holds : tie.Need-loop-holds Inv-loop μ-loop
-loop-holds c = draws-start
+loop-holds c = (refl, λ p g. draws-start)
 
 num-requires : tie.Need-num-requires Inv-loop μ-loop
 num-requires c κs = search needs
@@ -35,7 +35,7 @@ num-requires-2 : tie.Need-num-requires-2 Inv-loop μ-loop
 num-requires-2 c κs = search needs
 
 edge-requires : tie.Need-edge-requires Inv-loop μ-loop
-edge-requires c κs = (c .before .before .before .before .before .before .before .before .before .before .before .before .pre .0, (c .before .before .before .before .before .before .before .before .before .before .before .before .pre .1 .0, (c .before .before .before .before .before .before .before .before .before .before .before .before .pre .1 .1, omega arith)))
+edge-requires c κs = omega arith
 
 add-k : tie.Need-add-k Inv-loop μ-loop
 add-k c = search needs
@@ -45,15 +45,16 @@ loop-less c = search needs
 
 loop-again : tie.Need-loop-again Inv-loop μ-loop
 loop-again c =
-    let a = c .before .before .before .before .before .before .before .before .before .before .before .before .before .before .before .args in
+    let f = c .before .before .before .before .before .before .before .before .before .before .before .before .before .args .f .now in
+    let k = c .before .before .before .before .before .before .before .loop .k in
     let l = c .before .before .before .before .before .before .before .before .minus .ensures in
-    draws-on (c .before .before .before .before .before .before .before .loop .inv) (getD (a .f .now) (c .before .before .before .before .before .before .before .loop .k) 0) (getD (a .f .now) (c .before .before .before .before .before .before .before .loop .k + 1) 0) (steps-more (a .f .now) (c .before .before .before .before .before .before .before .loop .k) (a .e) (omega arith)) (c .before .before .edge .ensures ∙ (λ d. run.edge (rows (a .starts .now) (a .sizes .now) (a .entries .now) (a .n)) 1 (c .before .before .before .before .num .ensures .0 d) (c .before .before .before .num2 .ensures .0 d) (c .before .before .before .before .before .before .before .loop .labels)))
+    (search needs, λ p g. draws-on (c .before .before .before .before .before .before .before .loop .inv .1 p g) (getD f k 0) (getD f (k + 1) 0) (steps-more f k (c .before .before .before .before .before .before .before .before .before .before .before .before .before .args .e) (omega arith)) (c .before .before .edge .ensures p g ∙ (λ d. run.edge p 1 (c .before .before .before .before .num .ensures .0 d) (c .before .before .before .num2 .ensures .0 d) (c .before .before .before .before .before .before .before .loop .labels))))
 
 same-length : tie.Need-same-length Inv-loop μ-loop
-same-length c = draws-size (c .before .loop .inv)
+same-length c = c .before .loop .inv .0
 
 returns : tie.Need-returns Inv-loop μ-loop
-returns c = let a = c .before .before .before .before .before .before .before .before .before .args in let l = c .before .before .minus .ensures in draws-end (c .before .loop .inv) (steps-end (a .f .now) (c .before .loop .k) (a .e) (omega arith))
+returns c = let a = c .before .before .before .before .before .before .before .args in let l = c .before .before .minus .ensures in λ p g. draws-end (c .before .loop .inv .1 p g) (steps-end (a .f .now) (c .before .loop .k) (a .e) (omega arith))
 
 pub along-spec : {M : Type 1} → statement M
 along-spec = tie.close (tie.spec Inv-loop μ-loop minus-requires loop-holds num-requires add-num num-requires-2 edge-requires add-k loop-less loop-again same-length returns)

@@ -2,20 +2,24 @@
 use mathlib.Core.Path.{refl, _∙_}
 use native.Mathlib.Omega.{arith}
 use borrow.Author.Needs.{needs}
-use Rattle.rings.specs.Tables.{rows}
-use Rattle.places.proofs.Look.{index-told}
 use Rattle.steps.proofs.Draws.{put-in, put-out}
 use Rattle.steps.proofs.mark.put_on.Statement.{statement}
 use Rattle.steps.proofs.mark.put_on.Tie as tie
 
-index-by-requires : tie.Need-index-by-requires
-index-by-requires c κs = search needs
+mul-byte : tie.Need-mul-byte
+mul-byte c = search needs
 
-size-of-requires : tie.Need-size-of-requires
-size-of-requires c κs = search needs
+add-byte : tie.Need-add-byte
+add-byte c = search needs
+
+byte-requires : tie.Need-byte-requires
+byte-requires c κs = search needs
 
 num-requires : tie.Need-num-requires
 num-requires c κs = search needs
+
+sub-set-byte : tie.Need-sub-set-byte
+sub-set-byte c = search needs
 
 add-set-byte : tie.Need-add-set-byte
 add-set-byte c = search needs
@@ -27,14 +31,10 @@ same-length : tie.Need-same-length
 same-length c = search needs
 
 returns : tie.Need-returns
-returns c =
-    let a = c .before .before .before .before .before .before .before .before .before .before .before .before .before .args in
-    c .before .before .set-byte .ensures ∙ put-in (a .starts .now) (a .sizes .now) (a .entries .now) (a .n) (c .before .before .before .before .before .before .before .before .before .before .before .before .before .pre .0) (c .before .before .before .before .before .before .before .before .before .before .before .before .before .pre .1 .0) (a .u) (a .v) (c .before .before .before .num .ensures .0) (index-told (rows (a .starts .now) (a .sizes .now) (a .entries .now) (a .n)) (c .before .before .before .before .before .before .before .before .before .before .before .before .before .pre .1 .1) (a .u) (a .v) (c .before .before .before .before .before .before .before .index-by .ensures .0)) (c .before .before .before .before .before .before .size-of .ensures .0) (a .labels .now) (a .l) (omega arith)
+returns c = let a = c .before .before .before .before .before .before .before .before .before .before .args in λ p g. c .before .before .set-byte .ensures ∙ put-in g (a .u) (a .v) (a .l) (a .labels .now) (c .before .before .before .before .before .before .before .before .before .before .pre .0) (c .before .before .before .before .before .before .before .before .before .before .pre .1) (c .before .before .before .before .before .before .byte .ensures .0) (c .before .before .before .num .ensures .0) (omega arith) refl
 
 returns-2 : tie.Need-returns-2
-returns-2 c =
-    let a = c .before .before .before .before .before .before .before .before .args in
-    put-out (a .starts .now) (a .sizes .now) (a .entries .now) (a .n) (c .before .before .before .before .before .before .before .before .pre .0) (c .before .before .before .before .before .before .before .before .pre .1 .0) (a .u) (a .v) refl (index-told (rows (a .starts .now) (a .sizes .now) (a .entries .now) (a .n)) (c .before .before .before .before .before .before .before .before .pre .1 .1) (a .u) (a .v) (c .before .before .index-by .ensures .0)) (c .before .size-of .ensures .0) (a .labels .now) (a .l) (omega arith)
+returns-2 c = let a = c .before .before .before .before .before .args in λ p g. put-out g (a .u) (a .v) (a .l) (a .labels .now) (c .before .before .before .before .before .pre .0) (c .before .before .before .before .before .pre .1) (c .before .byte .ensures .0) (omega arith)
 
 pub put-on-spec : {M : Type 1} → statement M
-put-on-spec = tie.close (tie.spec index-by-requires size-of-requires num-requires add-set-byte set-byte-requires same-length returns returns-2)
+put-on-spec = tie.close (tie.spec mul-byte add-byte byte-requires num-requires sub-set-byte add-set-byte set-byte-requires same-length returns returns-2)

@@ -5,7 +5,6 @@ use Rattle.lists.specs.Spans.{span}
 use Rattle.lists.specs.Parts.{steps}
 use Rattle.model.specs.Labels.{right}
 use Rattle.model.specs.Sweep.{labelEdges}
-use Rattle.rings.specs.Tables.{rows}
 use Rattle.steps.specs.Run as run
 use borrow.Author.Needs.{needs}
 use Rattle.steps.proofs.step.step_labels.Statement.{statement}
@@ -28,9 +27,7 @@ same-length c = search needs
 
 returns : tie.Need-returns
 unfolding run.stepLabels
-returns c =
-    let a = c .before .before .before .before .before .before .before .before .before .before .before .before .before .before .before .args in
-    c .before .before .along .ensures ∙ ap (labelEdges (rows (a .starts .now) (a .sizes .now) (a .entries .now) (a .n)) right (steps (span (a .f .now) (a .i) (a .j + 1)))) (c .before .before .before .before .before .before .from-all .ensures)
+returns c = let a = c .before .before .before .before .before .before .before .before .before .before .before .before .before .args in λ p g. c .before .before .along .ensures p g ∙ ap (labelEdges p right (steps (span (a .f .now) (a .i) (a .j + 1)))) (c .before .before .before .before .before .before .from-all .ensures p g)
 
 pub step-labels-spec : {M : Type 1} → statement M
 step-labels-spec = tie.close (tie.spec add-from-all from-all-requires add-along along-requires same-length returns)
