@@ -26,13 +26,13 @@ use Rattle.frontier.proofs.Lines.{stretch-part, stretch-all}
 use Rattle.pairs.proofs.Pairs.{gathered, unchorded, replaced-marks, next-front}
 use Rattle.ends.proofs.Finishing.{open-is, unfinished-told}
 use Rattle.steps.specs.declared.Ended.{Ended}
-use Rattle.steps.specs.Run.{Guide, fan, stepLabels, Stepped, finishLabels, firstLabels, stuck, swept, Running, endedAs, ended}
+use Rattle.steps.specs.Run.{stepLabels, Stepped, finishLabels, firstLabels, stuck, swept, Running, endedAs, ended}
 use Rattle.frontier.specs.Run.{line}
+use Rattle.edges.specs.Edges.{Guide}
 use Rattle.ends.specs.Ends.{firstLine, unfinishedBy}
 use Rattle.pairs.specs.Run.{listing, replaced}
 use Rattle.model.proofs.LabelCounts.{edges-long, bare-long, first-long, from-long}
-use Rattle.steps.proofs.Draws.{edges-padded, product-one}
-use Rattle.steps.proofs.Fits.{fit-sane}
+use Rattle.steps.proofs.Arrays.{edges-padded}
 use Rattle.ends.proofs.Beginning.{firstFront, first-front, first-at, first-len}
 use Rattle.steps.specs.Run as run
 
@@ -123,7 +123,7 @@ module _ {p : Plan} {places starts : List ℕ} (g : Guide p places starts) {k : 
 
   -- entries are below 200
   sane : Sane p
-  sane = fit-sane p (g .fits)
+  sane = record { entry = g .small }
 
   -- what is found is what the model chooses
   abbrev Chooses : Found → Type 0
@@ -154,8 +154,8 @@ module _ {p : Plan} {places starts : List ℕ} (g : Guide p places starts) {k : 
       let south-darts = product (south ∷ []) (slice 1 (length f - 1) f) in
       let same-labels : b ≡ padded 1186 (finish p s) =
       e
-      ∙ (λ i. labelEdges p right (steps (span (rep .at i) 0 (rep .len i))) (labelEdges p up (fan 2 (span (rep .at i) 1 (rep .len i - 1))) (inv .labels i)))
-      ∙ (λ i. labelEdges p right (steps ((ap (stretch (padded 512 f) 0) whole ∙ stretch-all f) i)) (labelEdges p up ((ap (fan 2) (span-inner f) ∙ sym (product-one 2 (slice 1 (length f - 1) f))) i) (padded 1186 (s .labels))))
+      ∙ (λ i. labelEdges p right (steps (span (rep .at i) 0 (rep .len i))) (labelEdges p up (product (2 ∷ []) (span (rep .at i) 1 (rep .len i - 1))) (inv .labels i)))
+      ∙ (λ i. labelEdges p right (steps ((ap (stretch (padded 512 f) 0) whole ∙ stretch-all f) i)) (labelEdges p up (product (2 ∷ []) (span-inner f i)) (padded 1186 (s .labels))))
       ∙ ap (labelEdges p right (steps f)) (edges-padded p up south-darts (s .labels) (inv .size))
       ∙ edges-padded p right (steps f) (labelEdges p up south-darts (s .labels)) (edges-long p up south-darts (s .labels) ∙ inv .size) in
       ap (ended true) same-labels ∙ sym (ap endedAs (step (k - 1) z ∙ ap (λ (t : Bool). cond t (accepted (finish p s)) rest) over))

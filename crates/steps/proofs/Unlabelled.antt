@@ -15,7 +15,7 @@ use Rattle.model.specs.Plan.{Plan, Dart, count, ring, border, dartsFrom, darts,
 use Rattle.model.specs.Labels.{start, borderLabel, unlabelled}
 use Rattle.model.specs.Sweep.{bareLabels}
 use Rattle.steps.specs.Run.{bareLabel, Adds}
-use Rattle.steps.proofs.Draws.{start-zero, start-next, start-le, start-all, ring-long}
+use Rattle.steps.proofs.Arrays.{start-zero, start-next, start-le, start-all, ring-long}
 
 -- the labels of u's ring
 abbrev pub ringLabels : Plan → ℕ → List ℕ

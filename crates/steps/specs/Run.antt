@@ -1,48 +1,29 @@
 -- The steps of the sweep as the engine runs them, on arrays.
-use Prim.Native.Nat.{ℕ, _+_, _-_, _≤_, _<_}
+use Prim.Native.Nat.{ℕ, _+_, _-_, _≤_}
 use mathlib.Core.Path.{_≡_}
 use mathlib.Core.List.{List, [], _∷_, _++_, map}
 use mathlib.Core.Bool.{Bool, true, false, cond, _&&_}
-use lib.ListN.{length, getD}
+use lib.ListN.{length}
 use Rattle.lists.specs.Parts.{steps}
 use Rattle.lists.specs.Spans.{span, zeros, padded}
 use Rattle.model.specs.Outcome.{Outcome, accepted, refused}
-use Rattle.model.specs.Plan.{Plan, Dart, count, ring, border, entryCount}
-use Rattle.model.specs.Labels.{up, right, borderLabel, unlabelled, turned, start, put}
+use Rattle.model.specs.Plan.{Plan, count, ring, border, entryCount}
+use Rattle.model.specs.Labels.{up, right, borderLabel, unlabelled}
 use Rattle.model.specs.Sweep.{State, labelEdges, product, bareLabels, chordless, firstState, sweepFrom}
 use Rattle.fit.specs.Fits.{fit}
-use Rattle.places.specs.Places.{placesOf}
 use Rattle.frontier.specs.declared.Line.{Line}
 use Rattle.frontier.specs.Front.{Front}
 use Rattle.pairs.specs.Run.{listing, replaced}
 use Rattle.steps.specs.declared.Ended.{Ended}
 
 -- ---- labels
--- what labels are put by: the table of positions of a plan that fits, and where its rings begin
-pub record Guide (p : Plan) (places starts : List ℕ) : Type 0 where
-  pub fits : fit p ≡ true
-  pub own : places ≡ placesOf p
-  pub begins : (u : ℕ) → u < count p → getD starts u 0 ≡ start p u
-
--- l on the dart from u to v, and its opposite on the reverse
-unfoldable pub edge : Plan → ℕ → ℕ → ℕ → List ℕ → List ℕ
-edge p l u v ls = put p u v l (put p v u (turned l 2) ls)
-
--- a dart
-abbrev pub dart : ℕ → ℕ → Dart
-dart u v = (u, v)
-
--- the darts from u
-unfoldable pub fan : ℕ → List ℕ → List Dart
-fan u vs = map (λ (v : ℕ). (u, v)) vs
-
 -- the labels of a step that puts the list l of q in place of positions i + 1 to j − 1
 unfoldable pub stepLabels : Plan → List ℕ → List ℕ → ℕ → ℕ → ℕ → List ℕ → List ℕ
 stepLabels p f l q i j ls = labelEdges p right (steps (span f i (j + 1))) (labelEdges p up (product (span l 0 q) (span f (i + 1) j)) ls)
 
 -- the labels of a finished sweep
 unfoldable pub finishLabels : Plan → List ℕ → ℕ → List ℕ → List ℕ
-finishLabels p f m ls = labelEdges p right (steps (span f 0 m)) (labelEdges p up (fan 2 (span f 1 (m - 1))) ls)
+finishLabels p f m ls = labelEdges p right (steps (span f 0 m)) (labelEdges p up (product (2 ∷ []) (span f 1 (m - 1))) ls)
 
 -- the labels that the sweep begins with
 unfoldable pub firstLabels : Plan → List ℕ → ℕ → List ℕ

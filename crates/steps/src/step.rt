@@ -6,7 +6,9 @@ ghost use Rattle.lists.specs.Parts.{steps};
 ghost use Rattle.lists.specs.Spans.{span, zeros};
 ghost use Rattle.model.specs.Plan.{Plan};
 ghost use Rattle.rings.specs.Tables.{rows};
+ghost use Rattle.fit.specs.Fits.{fit};
 ghost use Rattle.frontier.specs.Run.{line};
+ghost use Rattle.edges.specs.Edges.{Guide};
 ghost use Rattle.steps.specs.Run as run;
 use crate::Ended;
 use choice::Found;
@@ -25,10 +27,10 @@ fn step_labels<'a>(
 )
     requires { ⌜ i < 512 ⌝ }
     requires { ⌜ j < 512 ⌝ }
-    ensures { λ r. ⌜ ((p : Plan) → run.Guide p (now (places .entry)) (now (starts .entry)) → now (labels .exit) ≡ run.stepLabels p (now (f .entry)) (now (list .entry)) q i j (now (labels .entry))) ⌝ }
+    ensures { λ r. ⌜ ((p : Plan) → Guide p (now (places .entry)) (now (starts .entry)) → now (labels .exit) ≡ run.stepLabels p (now (f .entry)) (now (list .entry)) q i j (now (labels .entry))) ⌝ }
 {
-    crate::mark::from_all(labels, places, starts, list, 0, q, f, i + 1, j);
-    crate::mark::along(labels, places, starts, f, i, j + 1);
+    edges::up_between(labels, places, starts, list, 0, q, f, i + 1, j);
+    edges::right_along(labels, places, starts, f, i, j + 1);
 }
 
 // Takes the step of positions i and j of the frontier f of m contexts: puts its labels, marks its list, and puts the new frontier into an array of zeros. How many contexts that has.
@@ -48,7 +50,7 @@ fn take_step<'a>(
 ) -> usize
     requires { ⌜ i < 512 ⌝ }
     requires { ⌜ j < 512 ⌝ }
-    ensures { λ r. ⌜ (run.Guide (rows (now (starts .entry)) (now (sizes .entry)) (now (entries .entry)) n) (now (places .entry)) (now (starts .entry)) → now (next .entry) ≡ zeros 512 → run.Stepped (rows (now (starts .entry)) (now (sizes .entry)) (now (entries .entry)) n) (now (f .entry)) m i j (now (marks .entry)) (now (labels .entry)) (now (marks .exit)) (now (labels .exit)) (now (next .exit)) r) ⌝ }
+    ensures { λ r. ⌜ (Guide (rows (now (starts .entry)) (now (sizes .entry)) (now (entries .entry)) n) (now (places .entry)) (now (starts .entry)) → now (next .entry) ≡ zeros 512 → run.Stepped (rows (now (starts .entry)) (now (sizes .entry)) (now (entries .entry)) n) (now (f .entry)) m i j (now (marks .entry)) (now (labels .entry)) (now (marks .exit)) (now (labels .exit)) (now (next .exit)) r) ⌝ }
 {
     let mut list = [0u16; 512];
     let g = pairs::list::listed(
@@ -69,18 +71,13 @@ fn take_step<'a>(
 }
 
 // Puts the labels of a sweep finished with the frontier f of m contexts: up from South, right along the frontier.
-fn finish_labels<'a>(
-    labels: &mut [u8],
-    places: &'a [u8],
-    starts: &'a [u16],
-    f: &'a [u16],
-    m: usize,
-)
-    ensures { λ r. ⌜ ((p : Plan) → run.Guide p (now (places .entry)) (now (starts .entry)) → now (labels .exit) ≡ run.finishLabels p (now (f .entry)) m (now (labels .entry))) ⌝ }
+fn finish_labels<'a>(labels: &mut [u8], places: &'a [u8], starts: &'a [u16], f: &'a [u16], m: usize)
+    ensures { λ r. ⌜ ((p : Plan) → Guide p (now (places .entry)) (now (starts .entry)) → now (labels .exit) ≡ run.finishLabels p (now (f .entry)) m (now (labels .entry))) ⌝ }
 {
+    let south = [2u16; 1];
     let last = lists::minus(m, 1);
-    crate::mark::from_one(labels, places, starts, 2, f, 1, last);
-    crate::mark::along(labels, places, starts, f, 0, m);
+    edges::up_between(labels, places, starts, &south, 0, 1, f, 1, last);
+    edges::right_along(labels, places, starts, f, 0, m);
 }
 
 // The steps of the sweep from its first frontier, at most n of them. Whether they finish.
@@ -93,7 +90,7 @@ fn descend<'a>(
     n: usize,
     first: Line,
 ) -> bool
-    requires { ⌜ run.Guide (rows (now starts) (now sizes) (now entries) n) (now places) (now starts) ⌝ }
+    requires { ⌜ Guide (rows (now starts) (now sizes) (now entries) n) (now places) (now starts) ⌝ }
     requires { ⌜ run.Running (rows (now starts) (now sizes) (now entries) n) n false (line true (first .len) (first .at) (first .marks)) (now labels) ⌝ }
     ensures { λ r. ⌜ run.ended r (now (labels .exit)) ≡ run.endedAs (run.swept (rows (now (starts .entry)) (now (sizes .entry)) (now (entries .entry)) n)) ⌝ }
 {
@@ -151,14 +148,15 @@ pub(crate) fn run<'a>(
     entries: &'a [u16],
     n: usize,
 ) -> Ended
-    requires { ⌜ run.Guide (rows (now starts) (now sizes) (now entries) n) (now places) (now starts) ⌝ }
+    requires { ⌜ fit (rows (now starts) (now sizes) (now entries) n) ≡ true ⌝ }
+    requires { ⌜ Guide (rows (now starts) (now sizes) (now entries) n) (now places) (now starts) ⌝ }
     ensures { λ r. ⌜ r ≡ run.endedAs (run.swept (rows (now (starts .entry)) (now (sizes .entry)) (now (entries .entry)) n)) ⌝ }
 {
     let first = ends::first_line(starts, sizes, entries, n);
     let mut labels = crate::first::bare_labels(starts, sizes, entries, n);
     let north = [0u16; 1];
     let last = lists::minus(first.len, 1);
-    crate::mark::from_all(
+    edges::up_between(
         &mut labels,
         places,
         starts,

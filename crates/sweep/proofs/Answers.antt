@@ -30,7 +30,7 @@ use Rattle.rings.proofs.Rows.{count-rows}
 use Rattle.rings.specs.Tables.{held}
 use Rattle.labels.proofs.Places.{held-small}
 use Rattle.fit.proofs.Fits.{fit-says}
-use Rattle.steps.proofs.Draws.{as-table, start-next, start-le}
+use Rattle.steps.proofs.Arrays.{as-table, start-next, start-le}
 use Rattle.steps.proofs.Steps.{swept-14}
 
 -- ---- the label rules on labels with zeros after them

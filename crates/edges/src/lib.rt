@@ -1,18 +1,17 @@
-// Labels put on edges, by a plan's table of positions and the starts of its rings.
+// Labels put on edges, by a table of positions and the starts of the rings.
 ghost use mathlib.Core.Path.{_≡_};
-ghost use Prim.Native.Nat.{ℕ, _+_, _≤_, _<_};
+ghost use Prim.Native.Nat.{ℕ, _<_};
 ghost use Rattle.lists.specs.Parts.{steps};
 ghost use Rattle.lists.specs.Spans.{span};
-ghost use Rattle.model.specs.Plan.{Plan};
-ghost use Rattle.model.specs.Labels.{up, right, put, turned};
-ghost use Rattle.model.specs.Sweep.{labelEdges, product};
-ghost use Rattle.steps.specs.Run as run;
+ghost use Rattle.model.specs.Labels.{up, right};
+ghost use Rattle.model.specs.Sweep.{product};
+ghost use Rattle.edges.specs.Edges.{putBy, edgeBy, edgesBy, fan};
 
-// Puts l on the dart from u to v, if there is one.
+// Puts l on the dart from u to v, if the table has it.
 fn put_on<'a>(labels: &mut [u8], places: &'a [u8], starts: &'a [u16], l: u8, u: usize, v: usize)
     requires { ⌜ u < 200 ⌝ }
     requires { ⌜ v < 200 ⌝ }
-    ensures { λ r. ⌜ ((p : Plan) → run.Guide p (now (places .entry)) (now (starts .entry)) → now (labels .exit) ≡ put p u v l (now (labels .entry))) ⌝ }
+    ensures { λ r. ⌜ now (labels .exit) ≡ putBy (now (places .entry)) (now (starts .entry)) u v l (now (labels .entry)) ⌝ }
 {
     let i = lists::byte(places, 200 * u + v);
     if i > 0 {
@@ -23,7 +22,7 @@ fn put_on<'a>(labels: &mut [u8], places: &'a [u8], starts: &'a [u16], l: u8, u: 
 // Puts l on the dart from u to v, and its opposite on the reverse.
 fn edge<'a>(labels: &mut [u8], places: &'a [u8], starts: &'a [u16], l: u8, u: usize, v: usize)
     requires { ⌜ l < 4 ⌝ }
-    ensures { λ r. ⌜ ((p : Plan) → run.Guide p (now (places .entry)) (now (starts .entry)) → now (labels .exit) ≡ run.edge p l u v (now (labels .entry))) ⌝ }
+    ensures { λ r. ⌜ now (labels .exit) ≡ edgeBy (now (places .entry)) (now (starts .entry)) l u v (now (labels .entry)) ⌝ }
 {
     if u < 200 {
         if v < 200 {
@@ -34,7 +33,7 @@ fn edge<'a>(labels: &mut [u8], places: &'a [u8], starts: &'a [u16], l: u8, u: us
 }
 
 // Puts up on the darts from u to positions a to e - 1 of f.
-pub(crate) fn from_one<'a>(
+fn up_from<'a>(
     labels: &mut [u8],
     places: &'a [u8],
     starts: &'a [u16],
@@ -43,7 +42,7 @@ pub(crate) fn from_one<'a>(
     a: usize,
     e: usize,
 )
-    ensures { λ r. ⌜ ((p : Plan) → run.Guide p (now (places .entry)) (now (starts .entry)) → now (labels .exit) ≡ labelEdges p up (run.fan u (span (now (f .entry)) a e)) (now (labels .entry))) ⌝ }
+    ensures { λ r. ⌜ now (labels .exit) ≡ edgesBy (now (places .entry)) (now (starts .entry)) up (fan u (span (now (f .entry)) a e)) (now (labels .entry)) ⌝ }
 {
     let mut k = a;
     while k < e {
@@ -53,7 +52,7 @@ pub(crate) fn from_one<'a>(
 }
 
 // Puts up on the darts from positions b to m - 1 of g to positions a to e - 1 of f.
-pub(crate) fn from_all<'a>(
+pub fn up_between<'a>(
     labels: &mut [u8],
     places: &'a [u8],
     starts: &'a [u16],
@@ -64,17 +63,17 @@ pub(crate) fn from_all<'a>(
     a: usize,
     e: usize,
 )
-    ensures { λ r. ⌜ ((p : Plan) → run.Guide p (now (places .entry)) (now (starts .entry)) → now (labels .exit) ≡ labelEdges p up (product (span (now (g .entry)) b m) (span (now (f .entry)) a e)) (now (labels .entry))) ⌝ }
+    ensures { λ r. ⌜ now (labels .exit) ≡ edgesBy (now (places .entry)) (now (starts .entry)) up (product (span (now (g .entry)) b m) (span (now (f .entry)) a e)) (now (labels .entry)) ⌝ }
 {
     let mut k = b;
     while k < m {
-        from_one(labels, places, starts, lists::num(g, k), f, a, e);
+        up_from(labels, places, starts, lists::num(g, k), f, a, e);
         k += 1;
     }
 }
 
 // Puts right on the edges along positions i to e - 1 of f.
-pub(crate) fn along<'a>(
+pub fn right_along<'a>(
     labels: &mut [u8],
     places: &'a [u8],
     starts: &'a [u16],
@@ -82,7 +81,7 @@ pub(crate) fn along<'a>(
     i: usize,
     e: usize,
 )
-    ensures { λ r. ⌜ ((p : Plan) → run.Guide p (now (places .entry)) (now (starts .entry)) → now (labels .exit) ≡ labelEdges p right (steps (span (now (f .entry)) i e)) (now (labels .entry))) ⌝ }
+    ensures { λ r. ⌜ now (labels .exit) ≡ edgesBy (now (places .entry)) (now (starts .entry)) right (steps (span (now (f .entry)) i e)) (now (labels .entry)) ⌝ }
 {
     let last = lists::minus(e, 1);
     let mut k = i;
