@@ -7,12 +7,12 @@ use mathlib.Core.Bool.{Bool, true, false, cond, not, false≢true, true≢false}
 use native.Mathlib.Omega.{arith}
 use lib.ListN.{getD}
 use lib.Dec.{eqb, ltb}
-use borrow.Author.Tests.{eqb-true, eqb-false, ltb-true}
+use borrow.Author.Tests.{eqb-true, eqb-false, ltb-true, not-false}
 use Rattle.model.specs.Plan.{Plan, adjacent}
 use Rattle.places.specs.Places.{adjacentBy}
 use Rattle.choice.specs.declared.Lead.{Lead}
 use Rattle.choice.specs.Run.{lead, same, barred, knot}
-use Rattle.choice.specs.Search.{Reason, edge, old, twice, right, beside, later, Lowest, Takes}
+use Rattle.choice.specs.Search.{Reason, edge, old, twice, right, beside, later, split, Pocket, Lowest, Takes}
 
 -- ---- the lowest position
 module _ {t : List ℕ} {p : Plan} {place : List ℕ} {m c : ℕ} where
@@ -72,14 +72,6 @@ module _ {t : List ℕ} {p : Plan} {f on seen place : List ℕ} {m c j k : ℕ} 
   pub takes-no : same (l .some) (l .first) c ≡ false → Reason p f on seen place (l .some) (l .first) c j k → r .ok ≡ false → Takes t p f on seen place m c j k l r
   takes-no other why e = record { yes = λ o. absurd (true≢false (sym o ∙ e)); no = λ _. (other, why) }
 
-  -- it may
-  pub takes-yes : {lo : ℕ} → r ≡ lead true true c lo → Lowest t p place m c (l .lo) lo → Takes t p f on seen place m c j k l r
-  takes-yes {lo} e low =
-      record {
-        yes = λ _. (ap (λ (x : Lead). x .some) e, ap (λ (x : Lead). x .first) e, subst (Lowest t p place m c (l .lo)) (sym (ap (λ (x : Lead). x .lo) e)) low);
-        no = λ n. absurd (true≢false (sym (ap (λ (x : Lead). x .ok) e) ∙ n));
-      }
-
 module _ {t : List ℕ} {p : Plan} {f on seen place : List ℕ} {m c j k : ℕ} {l : Lead} where
   -- it stands there
   pub takes-same : same (l .some) (l .first) c ≡ true → l .ok ≡ true → Takes t p f on seen place m c j k l l
@@ -91,12 +83,6 @@ module _ {t : List ℕ} {p : Plan} {f on seen place : List ℕ} {m c j k : ℕ} 
       go true x false y s = absurd (false≢true s)
       go true x true y s = record { yes = λ _. (x, sym (eqb-true c (l .first) y), lowest-start); no = λ n. absurd (true≢false (sym o ∙ n)) }
 
--- ---- after a look
-module _ {t : List ℕ} {p : Plan} {f on seen place : List ℕ} {m c j k : ℕ} (l : Lead) {r : Lead} (did : Takes t p f on seen place m c j k (lead true (l .some) (l .first) m) r) where
-  -- it is refused
-  pub takes-refused : same (l .some) (l .first) c ≡ false → r .ok ≡ false → Takes t p f on seen place m c j k l r
-  takes-refused h o = takes-no h (did .no o .1) o
-
-  -- it may come before the list
-  pub takes-lower : {lo : ℕ} → r .ok ≡ true → lo ≡ min (l .lo) (r .lo) → Takes t p f on seen place m c j k l (lead true true c lo)
-  takes-lower o q = takes-yes refl (lowest-of (did .yes o .2) q)
+-- after a look at all its neighbours it may come before the list, unless it is in a pocket
+pub takes-looked : {t : List ℕ} {p : Plan} {f on seen place : List ℕ} {m c j k : ℕ} (l : Lead) {b : Bool} {found lo : ℕ} → same (l .some) (l .first) c ≡ false → (b ≡ true → Pocket p f c k) → Lowest t p place m c m found → lo ≡ min (l .lo) found → Takes t p f on seen place m c j k l (lead (not b) true c lo)
+takes-looked l {b} other h low e = record { yes = λ _. (refl, refl, lowest-of low e); no = λ n. (other, split (h (not-false b n))) }

@@ -102,47 +102,6 @@ fn lower(places: &[u8], lo: usize, x: usize, w: usize, c: usize) -> usize
     x - 1
 }
 
-// The lead of c put before a list, by a look at each neighbour of c; its position is the lowest that lists c, or m. It is not ok where a neighbour stands on the frontier beyond j, or would not be adjacent to c.
-fn look<'a>(
-    places: &'a [u8],
-    starts: &'a [u16],
-    sizes: &'a [u8],
-    entries: &'a [u16],
-    n: usize,
-    on: &'a [u8],
-    place: &'a [u16],
-    lead: Lead,
-    m: usize,
-    c: usize,
-    j: usize,
-) -> Lead
-    ensures { λ r. ⌜ ((f seen : List ℕ) → (k : ℕ) → run.same (lead .some) (lead .first) c ≡ false → Takes (now (places .entry)) (rows (now (starts .entry)) (now (sizes .entry)) (now (entries .entry)) n) f (now (on .entry)) seen (now (place .entry)) m c j k (run.lead true (lead .some) (lead .first) m) r) ⌝ }
-{
-    let q = rings::size_of(sizes, n, c);
-    let mut lo = m;
-    let mut t = 0;
-    while t < q {
-        let w = rings::neighbour_at(starts, sizes, entries, n, c, t);
-        let x = lists::num(place, w);
-        if knot(on, lead.some, lead.first, j, x, w) {
-            return Lead {
-                ok: false,
-                some: false,
-                first: 0,
-                lo: 0,
-            };
-        }
-        lo = lower(places, lo, x, w, c);
-        t += 1;
-    }
-    Lead {
-        ok: true,
-        some: true,
-        first: c,
-        lo,
-    }
-}
-
 // Is c below position a?
 fn is_below<'a>(
     places: &'a [u8],
@@ -195,6 +154,49 @@ fn pocket<'a>(
     false
 }
 
+// The lead of the list with c put before it, by a look at each neighbour of c. It is not ok where one stands on the frontier beyond j, or would not be adjacent to c, or where c is in a pocket before k.
+fn look<'a>(
+    places: &'a [u8],
+    starts: &'a [u16],
+    sizes: &'a [u8],
+    entries: &'a [u16],
+    n: usize,
+    f: &'a [u16],
+    m: usize,
+    on: &'a [u8],
+    place: &'a [u16],
+    lead: Lead,
+    c: usize,
+    j: usize,
+    k: usize,
+) -> Lead
+    ensures { λ r. ⌜ ((seen : List ℕ) → run.same (lead .some) (lead .first) c ≡ false → now (places .entry) ≡ placesOf (rows (now (starts .entry)) (now (sizes .entry)) (now (entries .entry)) n) → Takes (now (places .entry)) (rows (now (starts .entry)) (now (sizes .entry)) (now (entries .entry)) n) (now (f .entry)) (now (on .entry)) seen (now (place .entry)) m c j k lead r) ⌝ }
+{
+    let q = rings::size_of(sizes, n, c);
+    let mut lo = m;
+    let mut t = 0;
+    while t < q {
+        let w = rings::neighbour_at(starts, sizes, entries, n, c, t);
+        let x = lists::num(place, w);
+        if knot(on, lead.some, lead.first, j, x, w) {
+            return Lead {
+                ok: false,
+                some: false,
+                first: 0,
+                lo: 0,
+            };
+        }
+        lo = lower(places, lo, x, w, c);
+        t += 1;
+    }
+    Lead {
+        ok: !pocket(places, starts, sizes, entries, n, f, lo, k, c),
+        some: true,
+        first: c,
+        lo: lists::lesser(lead.lo, lo),
+    }
+}
+
 // The lead of the list with c put before it. It is not ok where c may not come before the list.
 fn take<'a>(
     places: &'a [u8],
@@ -226,24 +228,21 @@ fn take<'a>(
             lo: 0,
         };
     }
-    let r = look(places, starts, sizes, entries, n, on, place, lead, m, c, j);
-    if !r.ok {
-        return r;
-    }
-    if pocket(places, starts, sizes, entries, n, f, r.lo, k, c) {
-        return Lead {
-            ok: false,
-            some: false,
-            first: 0,
-            lo: 0,
-        };
-    }
-    Lead {
-        ok: true,
-        some: true,
-        first: c,
-        lo: lists::lesser(lead.lo, r.lo),
-    }
+    look(
+        places,
+        starts,
+        sizes,
+        entries,
+        n,
+        f,
+        m,
+        on,
+        place,
+        lead,
+        c,
+        j,
+        k,
+    )
 }
 
 // The lead of the list with what is below position k put before it; each context that is put is marked.
@@ -376,6 +375,7 @@ fn search<'a>(
     };
     let mut k = j;
     while k > 1 {
+        k -= 1;
         let t = extend(
             &mut on,
             places,
@@ -388,14 +388,13 @@ fn search<'a>(
             &marks,
             place,
             lead,
-            k - 1,
+            k,
             j,
         );
         if !t.ok {
             return 0;
         }
         lead = t;
-        k -= 1;
         let i = k - 1;
         if i <= t.lo {
             if chords::fits(places, starts, sizes, entries, n, f, m, marks, clean, i, j) {
@@ -459,6 +458,7 @@ pub fn choose<'a>(
     let place = placed(f, m);
     let mut j = m;
     while j > 0 {
+        j -= 1;
         let i = seek(
             places,
             starts,
@@ -470,12 +470,11 @@ pub fn choose<'a>(
             marks,
             clean,
             &place,
-            j - 1,
+            j,
         );
         if i > 0 {
-            return Found::At(i - 1, j - 1);
+            return Found::At(i - 1, j);
         }
-        j -= 1;
     }
     Found::Nothing
 }

@@ -23,26 +23,20 @@ placed-requires c κs = search needs
 loop-holds : tie.Need-loop-holds Inv-loop μ-loop
 loop-holds c = (omega arith, λ s rd. choosing-start (let e = rd .front .rep .len in omega arith))
 
+sub-j : tie.Need-sub-j Inv-loop μ-loop
+sub-j c = search needs
+
 slice-aggregate-seek : tie.Need-slice-aggregate-seek Inv-loop μ-loop
 slice-aggregate-seek c = search needs
-
-sub-seek : tie.Need-sub-seek Inv-loop μ-loop
-sub-seek c = search needs
 
 seek-requires : tie.Need-seek-requires Inv-loop μ-loop
 seek-requires c κs = (c .before .before .before .placed .ensures, omega arith)
 
-sub-t18 : tie.Need-sub-t18 Inv-loop μ-loop
-sub-t18 c = search needs
-
-sub-t19 : tie.Need-sub-t19 Inv-loop μ-loop
-sub-t19 c = search needs
+sub-t17 : tie.Need-sub-t17 Inv-loop μ-loop
+sub-t17 c = search needs
 
 returns : tie.Need-returns Inv-loop μ-loop
 returns c = λ s rd. choosing-hit (c .before .before .before .before .loop .inv .1 s rd) (omega arith) (let e = rd .front .rep .len in let h = c .before .before .before .before .loop .inv .0 in omega arith) (c .before .seek .ensures s rd) (omega arith)
-
-sub-j : tie.Need-sub-j Inv-loop μ-loop
-sub-j c = search needs
 
 loop-less : tie.Need-loop-less Inv-loop μ-loop
 loop-less c = search needs
@@ -54,4 +48,4 @@ returns-2 : tie.Need-returns-2 Inv-loop μ-loop
 returns-2 c = λ s rd. choosing-end (c .before .loop .inv .1 s rd) (omega arith)
 
 pub choose-spec : {M : Type 1} → statement M
-choose-spec = tie.close (tie.spec Inv-loop μ-loop placed-requires loop-holds slice-aggregate-seek sub-seek seek-requires sub-t18 sub-t19 returns sub-j loop-less loop-again returns-2)
+choose-spec = tie.close (tie.spec Inv-loop μ-loop placed-requires loop-holds sub-j slice-aggregate-seek seek-requires sub-t17 returns loop-less loop-again returns-2)

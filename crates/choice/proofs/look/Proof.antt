@@ -8,17 +8,17 @@ use Rattle.model.proofs.Eligible.{getD-mem}
 use Rattle.rings.specs.Tables.{rows}
 use Rattle.rings.proofs.Rows.{ring-size}
 use Rattle.choice.specs.Search.{Lowest}
-use Rattle.choice.proofs.Takes.{lowest-start, lowest-on, knot-reason, takes-no, takes-yes}
+use Rattle.choice.proofs.Takes.{lowest-start, lowest-on, knot-reason, takes-no, takes-looked}
 use native.Mathlib.Omega.{arith}
 use borrow.Author.Needs.{needs}
 use Rattle.choice.proofs.look.Statement.{statement}
 use Rattle.choice.proofs.look.Tie as tie
 
 abbrev Inv-loop : tie.InvT-loop
-Inv-loop places starts sizes entries n on place lead m c j q lo₀ t₀ lo t = Lowest places (rows starts sizes entries n) place m c m lo
+Inv-loop places starts sizes entries n f m on place lead c j k q lo₀ t₀ lo t = Lowest places (rows starts sizes entries n) place m c m lo
 
 abbrev μ-loop : tie.MeasureT-loop
-μ-loop places starts sizes entries n on place lead m c j q lo₀ t₀ lo t = q - t
+μ-loop places starts sizes entries n f m on place lead c j k q lo₀ t₀ lo t = q - t
 
 size-of-requires : tie.Need-size-of-requires Inv-loop μ-loop
 size-of-requires c κs = search needs
@@ -37,11 +37,11 @@ knot-requires c κs = search needs
 
 returns : tie.Need-returns Inv-loop μ-loop
 returns c =
-    let a = c .before .before .before .before .before .before .before .before .before .before .before .before .before .args in
+    let a = c .before .before .before .before .before .before .before .before .before .before .before .before .before .before .args in
     let p = rows (a .starts .now) (a .sizes .now) (a .entries .now) (a .n) in
     let size = c .before .before .before .before .before .before .size-of .ensures .0 ∙ sym (ring-size (a .starts .now) (a .sizes .now) (a .entries .now) (a .n) (a .c)) in
     let near = ap (adjacent p (a .c)) (c .before .before .before .neighbour-at .ensures) ∙ mem-adjacent p (a .c) (getD (ring p (a .c)) (c .before .before .before .before .before .loop .t) 0) (getD-mem (ring p (a .c)) (c .before .before .before .before .before .loop .t) (omega arith)) in
-    λ f seen k other. takes-no other (knot-reason (c .before .before .before .neighbour-at .result) near (c .before .before .num .ensures .0) (sym (c .before .knot .ensures) ∙ c .if1 .taken)) refl
+    λ seen other own. takes-no other (knot-reason (c .before .before .before .neighbour-at .result) near (c .before .before .num .ensures .0) (sym (c .before .knot .ensures) ∙ c .if1 .taken)) refl
 
 lower-requires : tie.Need-lower-requires Inv-loop μ-loop
 lower-requires c κs = search needs
@@ -54,11 +54,17 @@ loop-less c = search needs
 
 loop-again : tie.Need-loop-again Inv-loop μ-loop
 loop-again c =
-    let a = c .before .before .before .before .before .before .before .before .before .before .before .before .before .before .args in
+    let a = c .before .before .before .before .before .before .before .before .before .before .before .before .before .before .before .args in
     lowest-on (c .before .before .before .before .before .before .loop .inv) (c .lower .ensures (rows (a .starts .now) (a .sizes .now) (a .entries .now) (a .n)) (a .place .now) (a .m) (c .before .before .before .num .ensures .0))
 
+pocket-requires : tie.Need-pocket-requires Inv-loop μ-loop
+pocket-requires c κs = search needs
+
+lesser-requires : tie.Need-lesser-requires Inv-loop μ-loop
+lesser-requires c κs = search needs
+
 returns-2 : tie.Need-returns-2 Inv-loop μ-loop
-returns-2 c = λ f seen k other. takes-yes refl (c .before .loop .inv)
+returns-2 c = λ seen other own. takes-looked (c .before .before .before .before .before .before .before .before .before .before .before .before .args .lead) other (c .before .pocket .ensures own) (c .before .before .before .loop .inv) (c .lesser .ensures)
 
 pub look-spec : {M : Type 1} → statement M
-look-spec = tie.close (tie.spec Inv-loop μ-loop size-of-requires loop-holds neighbour-at-requires num-requires knot-requires returns lower-requires add-t loop-less loop-again returns-2)
+look-spec = tie.close (tie.spec Inv-loop μ-loop size-of-requires loop-holds neighbour-at-requires num-requires knot-requires returns lower-requires add-t loop-less loop-again pocket-requires lesser-requires returns-2)

@@ -30,14 +30,14 @@ loop-holds c =
     let line = lines.line true (a .m) (a .f .now) (a .t8) in
     (refl, refl, λ hi inj s rd. seeking-start p (rd .sane) s line (rd .front) (a .place .now) hi (a .j) inj)
 
+sub-k : tie.Need-sub-k Inv-loop μ-loop
+sub-k c = search needs
+
 slice-aggregate-extend : tie.Need-slice-aggregate-extend Inv-loop μ-loop
 slice-aggregate-extend c = search needs
 
 slice-aggregate-extend-2 : tie.Need-slice-aggregate-extend-2 Inv-loop μ-loop
 slice-aggregate-extend-2 c = search needs
-
-sub-extend : tie.Need-sub-extend Inv-loop μ-loop
-sub-extend c = search needs
 
 extend-requires : tie.Need-extend-requires Inv-loop μ-loop
 extend-requires c κs = c .before .before .before .loop .inv .1
@@ -48,9 +48,6 @@ returns c =
     let hi = c .before .before .before .before .before .before .before .before .before .before .before .before .before .before .pre .0 in
     let inj = c .before .before .before .before .before .before .before .before .before .before .before .before .before .before .pre .1 in
     λ s rd. seeking-stop (rows (a .starts .now) (a .sizes .now) (a .entries .now) (a .n)) (rd .sane) s (lines.line true (a .m) (a .f .now) (a .t8)) (rd .front) (a .place .now) hi (a .j) inj (c .before .before .before .before .before .before .before .loop .inv .2 hi inj s rd) (omega arith) (omega arith) (c .before .before .before .extend .ensures (rd .own) hi) (not-true (c .before .before .before .extend .result .ok) (c .if1 .taken))
-
-sub-k : tie.Need-sub-k Inv-loop μ-loop
-sub-k c = search needs
 
 sub-i : tie.Need-sub-i Inv-loop μ-loop
 sub-i c = search needs
@@ -91,4 +88,4 @@ returns-3 c =
     λ s rd. seeking-end (rows (a .starts .now) (a .sizes .now) (a .entries .now) (a .n)) (rd .sane) s (lines.line true (a .m) (a .f .now) (a .t8)) (rd .front) (a .place .now) hi (a .j) inj (c .before .loop .inv .2 hi inj s rd) (omega arith)
 
 pub search-spec : {M : Type 1} → statement M
-search-spec = tie.close (tie.spec Inv-loop μ-loop loop-holds slice-aggregate-extend slice-aggregate-extend-2 sub-extend extend-requires returns sub-k sub-i fits-requires returns-2 loop-less loop-again loop-less-2 loop-again-2 returns-3)
+search-spec = tie.close (tie.spec Inv-loop μ-loop loop-holds sub-k slice-aggregate-extend slice-aggregate-extend-2 extend-requires returns sub-i fits-requires returns-2 loop-less loop-again loop-less-2 loop-again-2 returns-3)
