@@ -405,42 +405,6 @@ fn search<'a>(
     0
 }
 
-// The same, where the search need not begin if the context below the frontier edge left of j may not be on a list.
-fn seek<'a>(
-    places: &'a [u8],
-    starts: &'a [u16],
-    sizes: &'a [u8],
-    entries: &'a [u16],
-    n: usize,
-    f: &'a [u16],
-    m: usize,
-    marks: [u8; 256],
-    clean: bool,
-    place: &'a [u16],
-    j: usize,
-) -> usize
-    requires { ⌜ now place ≡ run.placed (now f) m ⌝ }
-    requires { ⌜ j < m ⌝ }
-    ensures { λ r. ⌜ ((s : State) → Ready (now (places .entry)) (rows (now (starts .entry)) (now (sizes .entry)) (now (entries .entry)) n) clean s (line true m (now (f .entry)) marks) → Best (rows (now (starts .entry)) (now (sizes .entry)) (now (entries .entry)) n) s j r) ⌝ }
-{
-    if shut(places, starts, sizes, entries, n, f, m, &marks, place, j) {
-        return 0;
-    }
-    search(
-        places,
-        starts,
-        sizes,
-        entries,
-        n,
-        f,
-        m,
-        marks,
-        clean,
-        place,
-        j,
-    )
-}
-
 // The pair of positions that a step takes: of the eligible pairs of a frontier of m contexts that with the largest j, then with the largest i.
 pub fn choose<'a>(
     places: &'a [u8],
@@ -459,21 +423,23 @@ pub fn choose<'a>(
     let mut j = m;
     while j > 0 {
         j -= 1;
-        let i = seek(
-            places,
-            starts,
-            sizes,
-            entries,
-            n,
-            f,
-            m,
-            marks,
-            clean,
-            &place,
-            j,
-        );
-        if i > 0 {
-            return Found::At(i - 1, j);
+        if !shut(places, starts, sizes, entries, n, f, m, &marks, &place, j) {
+            let i = search(
+                places,
+                starts,
+                sizes,
+                entries,
+                n,
+                f,
+                m,
+                marks,
+                clean,
+                &place,
+                j,
+            );
+            if i > 0 {
+                return Found::At(i - 1, j);
+            }
         }
     }
     Found::Nothing
