@@ -259,6 +259,15 @@ module _ (p : Plan) (sane : Sane p) (s : State) (v : Line) (fr : Front s v) (pla
             let len = fr .rep .len in
             both (adjacent p c (getD f x 0)) (ap (adjacent p c) (sym (at-same x) ∙ x-is) ∙ a) (clear .right-clear x (omega arith) (omega arith))
 
+        -- nor, before a list, one from j on
+        not-from : t .some ≡ true → (w : ℕ) → adjacent p c w ≡ true → j < getD place w 0 → (b : Bool) → ltb (suc j) (getD place w 0) ≡ b → ⊥
+        not-from some w a far true e = not-right w a (ltb-true (suc j) (getD place w 0) e)
+        not-from some w a far false e =
+            let h = ltb-false (suc j) (getD place w 0) e in
+            let z : getD place w 0 ≡ suc j = omega arith in
+            let (_, is) = placed-real (v .at) (v .len) w j (ap (λ (l : List ℕ). getD l w 0) (sym hi) ∙ z) in
+            not-beside some (ap (adjacent p c) (sym (at-same j) ∙ is) ∙ a)
+
         -- nor was c on the frontier
         not-old : (getD (v .marks) c 0 ≡ 0 → ⊥) → ⊥
         not-old b =
@@ -266,12 +275,12 @@ module _ (p : Plan) (sane : Sane p) (s : State) (v : Line) (fr : Front s v) (pla
             both (eqb (getD (v .marks) c 0) 0) (fr .marks .mark c (omega arith) ∙ ap not (clear .new)) (ne-eqb (getD (v .marks) c 0) 0 b)
 
         -- so there is no reason
-        no-reason : Reason p (v .at) (t .on) (v .marks) place (t .some) (t .first) c (getD (v .at) j 0) j k → ⊥
+        no-reason : Reason p (v .at) (t .on) (v .marks) place (t .some) (t .first) c j k → ⊥
         no-reason (edge b) = both (border c) (lt-ltb c 4 b) (clear .inner)
         no-reason (old b) = not-old b
         no-reason (twice b) = not-twice (tr .marks c b)
         no-reason (right w a b) = not-right w a b
-        no-reason (beside some a) = not-beside some (ap (adjacent p c) (sym (at-same j)) ∙ a)
+        no-reason (beside some w a b) = not-from some w a b (ltb (suc j) (getD place w 0)) refl
         no-reason (later some w a n m) = not-later some w (tr .marks w m) n a
         no-reason (split h) = not-split (h .at) (h .before) (subst (List·Memᴰ c) (below-same (h .at)) (h .under)) (ap (λ (u : ℕ). adjacent p u c) (sym (at-same (suc (h .at)))) ∙ h .apart)
 

@@ -1,5 +1,5 @@
 -- What a look at the neighbours of a context says: why it may not come before the list, or what the list comes to with it.
-use Prim.Native.Nat.{ℕ, suc, _<_, min}
+use Prim.Native.Nat.{ℕ, suc, _-_, _<_, min}
 use mathlib.Core.Path.{_≡_, refl, ap, sym, _∙_, subst}
 use mathlib.Core.Logic.{_⊎_, inl, inr, _≢_}
 use mathlib.Core.List.{List}
@@ -7,12 +7,12 @@ use mathlib.Core.Bool.{Bool, true, false, cond, not, false≢true, true≢false}
 use native.Mathlib.Omega.{arith}
 use lib.ListN.{getD}
 use lib.Dec.{eqb, ltb}
-use borrow.Author.Tests.{eqb-true, eqb-false, ltb-true}
+use borrow.Author.Tests.{eqb-true, eqb-false, ltb-true, not-false}
 use Rattle.model.specs.Plan.{Plan, adjacent}
 use Rattle.places.specs.Places.{adjacentBy}
 use Rattle.choice.specs.declared.Lead.{Lead}
 use Rattle.choice.specs.Run.{lead, same, barred, knot}
-use Rattle.choice.specs.Search.{Reason, edge, old, twice, beside, later, Lowest, Takes}
+use Rattle.choice.specs.Search.{Reason, edge, old, twice, right, beside, later, split, Pocket, Lowest, Takes}
 
 -- ---- the lowest position
 module _ {t : List ℕ} {p : Plan} {place : List ℕ} {m c : ℕ} where
@@ -41,64 +41,48 @@ module _ {t : List ℕ} {p : Plan} {place : List ℕ} {m c : ℕ} where
       go n false q = let d : r ≢ lo = eqb-false r lo q in let z : r ≡ found = omega arith in mine (h .is (omega arith)) (omega arith) z
 
 -- ---- reasons
-module _ {p : Plan} {f on seen place : List ℕ} {any : Bool} {first c fj j k : ℕ} where
+module _ {p : Plan} {f on seen place : List ℕ} {any : Bool} {first c j k : ℕ} where
   -- a context that is barred
-  pub barred-reason : barred on seen c ≡ true → Reason p f on seen place any first c fj j k
+  pub barred-reason : barred on seen c ≡ true → Reason p f on seen place any first c j k
   unfolding barred
   barred-reason e = go (ltb c 4) refl (eqb (getD seen c 0) 0) refl (eqb (getD on c 0) 0) refl e
     where
-      go : (x : Bool) → ltb c 4 ≡ x → (y : Bool) → eqb (getD seen c 0) 0 ≡ y → (z : Bool) → eqb (getD on c 0) 0 ≡ z → cond x true (cond (not y) true (not z)) ≡ true → Reason p f on seen place any first c fj j k
+      go : (x : Bool) → ltb c 4 ≡ x → (y : Bool) → eqb (getD seen c 0) 0 ≡ y → (z : Bool) → eqb (getD on c 0) 0 ≡ z → cond x true (cond (not y) true (not z)) ≡ true → Reason p f on seen place any first c j k
       go true x y y′ z z′ e = edge (ltb-true c 4 x)
       go false x false y z z′ e = old (eqb-false (getD seen c 0) 0 y)
       go false x true y false z e = twice (eqb-false (getD on c 0) 0 z)
       go false x true y true z e = absurd (false≢true e)
 
   -- a neighbour that would not be adjacent to it
-  pub knot-reason : (w : ℕ) → adjacent p c w ≡ true → knot on any first fj w ≡ true → Reason p f on seen place any first c fj j k
+  pub knot-reason : (w : ℕ) {x : ℕ} → adjacent p c w ≡ true → x ≡ getD place w 0 → knot on any first j x w ≡ true → Reason p f on seen place any first c j k
   unfolding knot
-  knot-reason w a e = go any refl (eqb w fj) refl (eqb w first) refl (eqb (getD on w 0) 0) refl e
+  knot-reason w {x} a q e = go any refl (ltb j x) refl (eqb w first) refl (eqb (getD on w 0) 0) refl (ltb 1 (x - j)) refl e
     where
-      go : (x : Bool) → any ≡ x → (y : Bool) → eqb w fj ≡ y → (z : Bool) → eqb w first ≡ z → (u : Bool) → eqb (getD on w 0) 0 ≡ u → cond x (cond y true (cond z false (not u))) false ≡ true → Reason p f on seen place any first c fj j k
-      go false x y y′ z z′ u u′ e = absurd (false≢true e)
-      go true x true y z z′ u u′ e = beside x (ap (adjacent p c) (sym (eqb-true w fj y)) ∙ a)
-      go true x false y true z u u′ e = absurd (false≢true e)
-      go true x false y false z true u e = absurd (false≢true e)
-      go true x false y false z false u e = later x w a (eqb-false w first z) (eqb-false (getD on w 0) 0 u)
+      go : (s : Bool) → any ≡ s → (b : Bool) → ltb j x ≡ b → (y : Bool) → eqb w first ≡ y → (z : Bool) → eqb (getD on w 0) 0 ≡ z → (d : Bool) → ltb 1 (x - j) ≡ d → cond s (cond b true (cond y false (not z))) d ≡ true → Reason p f on seen place any first c j k
+      go false s b b′ y y′ z z′ true d e = let h = ltb-true 1 (x - j) d in right w a (omega arith)
+      go false s b b′ y y′ z z′ false d e = absurd (false≢true e)
+      go true s true b y y′ z z′ d d′ e = let h = ltb-true j x b in beside s w a (omega arith)
+      go true s false b true y z z′ d d′ e = absurd (false≢true e)
+      go true s false b false y true z d d′ e = absurd (false≢true e)
+      go true s false b false y false z d d′ e = later s w a (eqb-false w first y) (eqb-false (getD on w 0) 0 z)
 
 -- ---- what the lead comes to
-module _ {t : List ℕ} {p : Plan} {f on seen place : List ℕ} {m c fj j k : ℕ} {l r : Lead} where
+module _ {t : List ℕ} {p : Plan} {f on seen place : List ℕ} {m c j k : ℕ} {l r : Lead} where
   -- c may not come before the list
-  pub takes-no : same (l .some) (l .first) c ≡ false → Reason p f on seen place (l .some) (l .first) c fj j k → r .ok ≡ false → Takes t p f on seen place m c fj j k l r
+  pub takes-no : same (l .some) (l .first) c ≡ false → Reason p f on seen place (l .some) (l .first) c j k → r .ok ≡ false → Takes t p f on seen place m c j k l r
   takes-no other why e = record { yes = λ o. absurd (true≢false (sym o ∙ e)); no = λ _. (other, why) }
 
-  -- it may
-  pub takes-yes : {lo : ℕ} → r ≡ lead true true c lo → Lowest t p place m c (l .lo) lo → Takes t p f on seen place m c fj j k l r
-  takes-yes {lo} e low =
-      record {
-        yes = λ _. (ap (λ (x : Lead). x .some) e, ap (λ (x : Lead). x .first) e, subst (Lowest t p place m c (l .lo)) (sym (ap (λ (x : Lead). x .lo) e)) low);
-        no = λ n. absurd (true≢false (sym (ap (λ (x : Lead). x .ok) e) ∙ n));
-      }
-
+module _ {t : List ℕ} {p : Plan} {f on seen place : List ℕ} {m c j k : ℕ} {l : Lead} where
   -- it stands there
-  pub takes-same : same (l .some) (l .first) c ≡ true → r ≡ lead true (l .some) (l .first) (l .lo) → Takes t p f on seen place m c fj j k l r
+  pub takes-same : same (l .some) (l .first) c ≡ true → l .ok ≡ true → Takes t p f on seen place m c j k l l
   unfolding same
-  takes-same s e = go (l .some) refl (eqb c (l .first)) refl s
+  takes-same s o = go (l .some) refl (eqb c (l .first)) refl s
     where
-      go : (x : Bool) → l .some ≡ x → (y : Bool) → eqb c (l .first) ≡ y → cond x y false ≡ true → Takes t p f on seen place m c fj j k l r
+      go : (x : Bool) → l .some ≡ x → (y : Bool) → eqb c (l .first) ≡ y → cond x y false ≡ true → Takes t p f on seen place m c j k l l
       go false x y z s = absurd (false≢true s)
       go true x false y s = absurd (false≢true s)
-      go true x true y s = takes-yes (e ∙ (λ i. lead true (x i) (sym (eqb-true c (l .first) y) i) (l .lo))) lowest-start
+      go true x true y s = record { yes = λ _. (x, sym (eqb-true c (l .first) y), lowest-start); no = λ n. absurd (true≢false (sym o ∙ n)) }
 
--- ---- a look that begins at no position
--- c is not the first of the list
-pub other-own : (l : Lead) (c : ℕ) {m : ℕ} {b : Lead} → b ≡ lead true (l .some) (l .first) m → same (l .some) (l .first) c ≡ false → same (b .some) (b .first) c ≡ false
-other-own l c e h = ap (λ (x : Lead). same (x .some) (x .first) c) e ∙ h
-
-module _ {t : List ℕ} {p : Plan} {f on seen place : List ℕ} {m c fj j k : ℕ} (l : Lead) {b : Lead} (e : b ≡ lead true (l .some) (l .first) m) where
-  -- it is refused
-  pub takes-refused : {r : Lead} → same (l .some) (l .first) c ≡ false → Takes t p f on seen place m c fj j k b r → r .ok ≡ false → Takes t p f on seen place m c fj j k l r
-  takes-refused h did o = takes-no h (subst (λ (x : Lead). Reason p f on seen place (x .some) (x .first) c fj j k) e (did .no o .1)) o
-
-  -- it may come before the list
-  pub takes-lower : {looked r : Lead} {lo : ℕ} → Takes t p f on seen place m c fj j k b looked → looked .ok ≡ true → lo ≡ min (l .lo) (looked .lo) → r ≡ lead true true c lo → Takes t p f on seen place m c fj j k l r
-  takes-lower {looked} did o q z = takes-yes z (lowest-of (subst (λ (x : Lead). Lowest t p place m c (x .lo) (looked .lo)) e (did .yes o .2)) q)
+-- after a look at all its neighbours it may come before the list, unless it is in a pocket
+pub takes-looked : {t : List ℕ} {p : Plan} {f on seen place : List ℕ} {m c j k : ℕ} (l : Lead) {b : Bool} {found lo : ℕ} → same (l .some) (l .first) c ≡ false → (b ≡ true → Pocket p f c k) → Lowest t p place m c m found → lo ≡ min (l .lo) found → Takes t p f on seen place m c j k l (lead (not b) true c lo)
+takes-looked l {b} other h low e = record { yes = λ _. (refl, refl, lowest-of low e); no = λ n. (other, split (h (not-false b n))) }

@@ -71,7 +71,7 @@ module _ {p : Plan} where
   trails-start m = record { none = λ e. refl; first = λ e. absurd (false≢true e); marks = λ c h. absurd (h (getD-zeros 256 c)); lo = λ h. absurd (omega arith) }
 
   -- one context put before the list
-  pub trails-push : {f on seen place tab : List ℕ} {m c fj j k : ℕ} {l : List ℕ} {before r : Lead} → Trails p f m l (trailOf before on) → Takes tab p f on seen place m c fj j k before r → tab ≡ placesOf p → place ≡ placed f m → r .ok ≡ true → Trails p f m (c ∷ l) (trailOf r (set on c 1))
+  pub trails-push : {f on seen place tab : List ℕ} {m c j k : ℕ} {l : List ℕ} {before r : Lead} → Trails p f m l (trailOf before on) → Takes tab p f on seen place m c j k before r → tab ≡ placesOf p → place ≡ placed f m → r .ok ≡ true → Trails p f m (c ∷ l) (trailOf r (set on c 1))
   trails-push {f} {on} {seen} {place} {tab} {m} {c} {l = l} {before = before} {r = r} h did own hi o =
       let (some, first, low) = did .yes o in
       record { none = λ e. absurd (true≢false (sym some ∙ e)); first = λ e. (l, ap {B = List ℕ} (λ w. w ∷ l) (sym first)); marks = λ d n. mark d (some-number (getD (set on c 1) d 0) n); lo = λ n. least n (low .is n) }
@@ -117,7 +117,7 @@ grows-start = record { holds = λ l h. h }
 
 module _ {p : Plan} {f : List ℕ} {m k : ℕ} {old : Trail} {t : ℕ} {cur : Trail} (inv : Grows p f m k old t cur) where
   -- after a turn of the loop
-  pub grows-on : {on seen place tab : List ℕ} {c fj j t′ : ℕ} {before r : Lead} → cur ≡ trailOf before on → t′ ≡ t + 1 → t < depth p f k → c ≡ getD (under p f k) t 0 → Takes tab p f on seen place m c fj j k before r → tab ≡ placesOf p → place ≡ placed f m → r .ok ≡ true
+  pub grows-on : {on seen place tab : List ℕ} {c j t′ : ℕ} {before r : Lead} → cur ≡ trailOf before on → t′ ≡ t + 1 → t < depth p f k → c ≡ getD (under p f k) t 0 → Takes tab p f on seen place m c j k before r → tab ≡ placesOf p → place ≡ placed f m → r .ok ≡ true
       → {on′ : List ℕ} → on′ ≡ set on c 1 → Grows p f m k old t′ (trailOf r on′)
   grows-on {on} {c = c} {t′ = t′} {r = r} z s h e did own hi o {on′} n =
       let long = depth-le p f k in
@@ -139,7 +139,7 @@ module _ {p : Plan} {f : List ℕ} {m k : ℕ} {old : Trail} {t : ℕ} {cur : Tr
       }
 
   -- a context may not come before the list
-  pub grows-stop : {seen place : List ℕ} {c j : ℕ} → t < depth p f k → c ≡ getD (under p f k) t 0 → same (cur .some) (cur .first) c ≡ false → Reason p f (cur .on) seen place (cur .some) (cur .first) c (getD f j 0) j k → {r : Trail} → r .ok ≡ false → Extends p f m seen place j k old r
+  pub grows-stop : {seen place : List ℕ} {c j : ℕ} → t < depth p f k → c ≡ getD (under p f k) t 0 → same (cur .some) (cur .first) c ≡ false → Reason p f (cur .on) seen place (cur .some) (cur .first) c j k → {r : Trail} → r .ok ≡ false → Extends p f m seen place j k old r
   grows-stop {c = c} h e other why o =
       let long = depth-le p f k in
       let d = depth p f k - suc t in
@@ -158,24 +158,21 @@ pub extends-bare : {p : Plan} {f : List ℕ} {m k : ℕ} {seen place : List ℕ}
 extends-bare {p} {f} {k = k} e o = record { on = λ l a n. absurd (false≢true (sym o ∙ n)); off = λ l a _. bare (below-is p f k ∙ ap (λ (i : ℕ). reverse (take i (under p f k))) e) }
 
 -- a reason that c may not come before nothing
-alone : {p : Plan} {f seen place : List ℕ} {c fj j k : ℕ} → Reason p f seen seen place false 0 c fj j k → Reason p f (zeros 256) seen place false 0 c fj j k
+alone : {p : Plan} {f seen place : List ℕ} {c j k : ℕ} → Reason p f seen seen place false 0 c j k → Reason p f (zeros 256) seen place false 0 c j k
 alone (edge h) = edge h
 alone (old h) = old h
 alone (twice h) = old h
 alone (right x a h) = right x a h
-alone (beside h a) = absurd (false≢true h)
+alone (beside h x a b) = absurd (false≢true h)
 alone (later h x a y b) = absurd (false≢true h)
 alone (split h) = split h
 
 module _ {p : Plan} {f : List ℕ} {m j k : ℕ} {seen place : List ℕ} {c : ℕ} where
   -- the context below the frontier edge left of j may not be on a list: the search stops
-  pub shut-stops : {tab : List ℕ} {fj : ℕ} {before r : Lead} → c ≡ getD (under p f k) 0 0 → fj ≡ getD f j 0 → before ≡ lead true false 0 m → Takes tab p f seen seen place m c fj j k before r → r .ok ≡ false → Stops p f m seen place j k []
+  pub shut-stops : {tab : List ℕ} {r : Lead} → c ≡ getD (under p f k) 0 0 → Takes tab p f seen seen place m c j k (lead true false 0 m) r → r .ok ≡ false → Stops p f m seen place j k []
   unfolding startTrail same
-  shut-stops {tab} {fj} {before} e q z did o = go (depth p f k) refl
+  shut-stops e did o = go (depth p f k) refl
     where
-      why : Reason p f seen seen place false 0 c (getD f j 0) j k
-      why = subst (λ (w : ℕ). Reason p f seen seen place false 0 c w j k) q (subst (λ (l : Lead). Reason p f seen seen place (l .some) (l .first) c fj j k) z (did .no o .1))
-
       go : (d : ℕ) → depth p f k ≡ d → Stops p f m seen place j k []
       go zero d = bare (below-is p f k ∙ ap (λ (i : ℕ). reverse (take i (under p f k))) d)
-      go (suc d) i = (grows-stop {old = startTrail m} {cur = startTrail m} grows-start {seen = seen} {place = place} {c = c} {j = j} (omega arith) e refl (alone why) {r = trail false false 0 0 []} refl) .off [] (trails-start m) refl
+      go (suc d) i = (grows-stop {old = startTrail m} {cur = startTrail m} grows-start {seen = seen} {place = place} {c = c} {j = j} (omega arith) e refl (alone (did .no o .1)) {r = trail false false 0 0 []} refl) .off [] (trails-start m) refl

@@ -44,6 +44,6 @@ same any first c = cond any (eqb c first) false
 unfoldable pub barred : List ℕ → List ℕ → ℕ → Bool
 barred on seen c = cond (ltb c 4) true (cond (not (eqb (getD seen c 0) 0)) true (not (eqb (getD on c 0) 0)))
 
--- there is a list, and w is fj or one of the list but its first
-unfoldable pub knot : List ℕ → Bool → ℕ → ℕ → ℕ → Bool
-knot on any first fj w = cond any (cond (eqb w fj) true (cond (eqb w first) false (not (eqb (getD on w 0) 0)))) false
+-- w, whose position in the table is x, stands beyond j, or, where there is a list, at j, or is one of the list but its first
+unfoldable pub knot : List ℕ → Bool → ℕ → ℕ → ℕ → ℕ → Bool
+knot on any first j x w = cond any (cond (ltb j x) true (cond (eqb w first) false (not (eqb (getD on w 0) 0)))) (ltb 1 (x - j))

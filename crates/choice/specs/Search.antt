@@ -42,29 +42,29 @@ pub record Pocket (p : Plan) (f : List ℕ) (c k : ℕ) : Type 0 where
   pub under : List·Memᴰ c (below p f at)
   pub apart : adjacent p (getD f (suc at) 0) c ≡ false
 
--- why c, which is below position k, may not come before the list: a border context, one that is or was on the frontier, one that is on the list, one that lists a context on the frontier beyond j, that at j, or one of the list but its first, one in a pocket
-pub data Reason (p : Plan) (f on seen place : List ℕ) (any : Bool) (first c fj j k : ℕ) : Type 0 where
-  edge : c < 4 → Reason p f on seen place any first c fj j k
-  old : (getD seen c 0 ≡ 0 → ⊥) → Reason p f on seen place any first c fj j k
-  twice : (getD on c 0 ≡ 0 → ⊥) → Reason p f on seen place any first c fj j k
-  right : (w : ℕ) → adjacent p c w ≡ true → suc j < getD place w 0 → Reason p f on seen place any first c fj j k
-  beside : any ≡ true → adjacent p c fj ≡ true → Reason p f on seen place any first c fj j k
-  later : any ≡ true → (w : ℕ) → adjacent p c w ≡ true → (w ≡ first → ⊥) → (getD on w 0 ≡ 0 → ⊥) → Reason p f on seen place any first c fj j k
-  split : Pocket p f c k → Reason p f on seen place any first c fj j k
+-- why c, which is below position k, may not come before the list: a border context, one that is or was on the frontier, one that is on the list, one that lists a context on the frontier beyond j or, before a list, at j, or one of the list but its first, one in a pocket
+pub data Reason (p : Plan) (f on seen place : List ℕ) (any : Bool) (first c j k : ℕ) : Type 0 where
+  edge : c < 4 → Reason p f on seen place any first c j k
+  old : (getD seen c 0 ≡ 0 → ⊥) → Reason p f on seen place any first c j k
+  twice : (getD on c 0 ≡ 0 → ⊥) → Reason p f on seen place any first c j k
+  right : (w : ℕ) → adjacent p c w ≡ true → suc j < getD place w 0 → Reason p f on seen place any first c j k
+  beside : any ≡ true → (w : ℕ) → adjacent p c w ≡ true → j < getD place w 0 → Reason p f on seen place any first c j k
+  later : any ≡ true → (w : ℕ) → adjacent p c w ≡ true → (w ≡ first → ⊥) → (getD on w 0 ≡ 0 → ⊥) → Reason p f on seen place any first c j k
+  split : Pocket p f c k → Reason p f on seen place any first c j k
 
 -- where r is below m, it is lo, or the position, by the table, of a context that lists c
 pub record Lowest (t : List ℕ) (p : Plan) (place : List ℕ) (m c lo r : ℕ) : Type 0 where
   pub is : r < m → (r ≡ lo) ⊎ ((w : ℕ) × (getD place w 0 ≡ suc r) × (adjacentBy t p w c ≡ true))
 
 -- what a lead comes to when c, which is below position k, is put before the list
-pub record Takes (t : List ℕ) (p : Plan) (f on seen place : List ℕ) (m c fj j k : ℕ) (l r : Lead) : Type 0 where
+pub record Takes (t : List ℕ) (p : Plan) (f on seen place : List ℕ) (m c j k : ℕ) (l r : Lead) : Type 0 where
   pub yes : r .ok ≡ true → (r .some ≡ true) × (r .first ≡ c) × Lowest t p place m c (l .lo) (r .lo)
-  pub no : r .ok ≡ false → (same (l .some) (l .first) c ≡ false) × Reason p f on seen place (l .some) (l .first) c fj j k
+  pub no : r .ok ≡ false → (same (l .some) (l .first) c ≡ false) × Reason p f on seen place (l .some) (l .first) c j k
 
 -- nothing is below position k, or a context below it may not come before the list
 pub data Stops (p : Plan) (f : List ℕ) (m : ℕ) (seen place : List ℕ) (j k : ℕ) (l : List ℕ) : Type 0 where
   bare : below p f k ≡ [] → Stops p f m seen place j k l
-  barred : (pre post : List ℕ) (c : ℕ) (t : Trail) → below p f k ≡ pre ++ (c ∷ post) → Trails p f m (post ++ l) t → same (t .some) (t .first) c ≡ false → Reason p f (t .on) seen place (t .some) (t .first) c (getD f j 0) j k → Stops p f m seen place j k l
+  barred : (pre post : List ℕ) (c : ℕ) (t : Trail) → below p f k ≡ pre ++ (c ∷ post) → Trails p f m (post ++ l) t → same (t .some) (t .first) c ≡ false → Reason p f (t .on) seen place (t .some) (t .first) c j k → Stops p f m seen place j k l
 
 -- what a trail comes to when what is below position k is put before the list
 pub record Extends (p : Plan) (f : List ℕ) (m : ℕ) (seen place : List ℕ) (j k : ℕ) (t r : Trail) : Type 0 where

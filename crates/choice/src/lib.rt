@@ -4,6 +4,7 @@ ghost use mathlib.Core.Bool.{true, false};
 ghost use mathlib.Core.List.{List, [], List·Memᴰ};
 ghost use Prim.Native.Nat.{ℕ, suc, _+_, _-_, _<_, _≤_};
 ghost use lib.ListN.{getD, length};
+ghost use Rattle.model.specs.Plan.{Plan};
 ghost use Rattle.model.specs.Sweep.{State, below, choose, choices};
 ghost use Rattle.rings.specs.Tables.{rows};
 ghost use Rattle.places.specs.Places.{placesOf};
@@ -43,18 +44,6 @@ fn placed(f: &[u16], m: usize) -> [u16; 256]
     place
 }
 
-// A lead of these parts.
-fn made(ok: bool, some: bool, first: usize, lo: usize) -> Lead
-    ensures { λ r. ⌜ r ≡ run.lead ok some first lo ⌝ }
-{
-    Lead {
-        ok,
-        some,
-        first,
-        lo,
-    }
-}
-
 // Is there a list, and c its first?
 fn same(some: bool, first: usize, c: usize) -> bool
     ensures { λ r. ⌜ r ≡ run.same some first c ⌝ }
@@ -75,12 +64,12 @@ fn barred(on: &[u8], seen: &[u8], c: usize) -> bool
     arrays::byte(on, c) != 0
 }
 
-// Is there a list, and w the context at j or one of the list but its first?
-fn knot(on: &[u8], some: bool, first: usize, fj: usize, w: usize) -> bool
-    ensures { λ r. ⌜ r ≡ run.knot (now (on .entry)) some first fj w ⌝ }
+// May a context not list w, whose position in the table is x: does w stand beyond j, or, where there is a list, at j, or on the list but not first?
+fn knot(on: &[u8], some: bool, first: usize, j: usize, x: usize, w: usize) -> bool
+    ensures { λ r. ⌜ r ≡ run.knot (now (on .entry)) some first j x w ⌝ }
 {
     if some {
-        if w == fj {
+        if x > j {
             return true;
         }
         if w == first {
@@ -88,22 +77,12 @@ fn knot(on: &[u8], some: bool, first: usize, fj: usize, w: usize) -> bool
         }
         return arrays::byte(on, w) != 0;
     }
-    false
+    numbers::minus(x, j) > 1
 }
 
 // The lower of a position and that of w, one less than x, where w lists c; x is 0 where w has none.
-fn lower<'a>(
-    places: &'a [u8],
-    starts: &'a [u16],
-    sizes: &'a [u8],
-    entries: &'a [u16],
-    n: usize,
-    lo: usize,
-    x: usize,
-    w: usize,
-    c: usize,
-) -> usize
-    ensures { λ r. ⌜ ((place : List ℕ) → (m : ℕ) → x ≡ getD place w 0 → Lowest (now (places .entry)) (rows (now (starts .entry)) (now (sizes .entry)) (now (entries .entry)) n) place m c lo r) ⌝ }
+fn lower(places: &[u8], lo: usize, x: usize, w: usize, c: usize) -> usize
+    ensures { λ r. ⌜ ((p : Plan) → (place : List ℕ) → (m : ℕ) → x ≡ getD place w 0 → Lowest (now (places .entry)) p place m c lo r) ⌝ }
 {
     if x == 0 {
         return lo;
@@ -111,46 +90,16 @@ fn lower<'a>(
     if x > lo {
         return lo;
     }
-    if places::is_adjacent_by(places, starts, sizes, entries, n, w, c) {
-        return x - 1;
+    if w >= 200 {
+        return lo;
     }
-    lo
-}
-
-// The lead of the list with c put before it, by a look at each neighbour of c. It is not ok where one stands on the frontier beyond j, or would not be adjacent to c.
-fn look<'a>(
-    places: &'a [u8],
-    starts: &'a [u16],
-    sizes: &'a [u8],
-    entries: &'a [u16],
-    n: usize,
-    on: &'a [u8],
-    place: &'a [u16],
-    lead: Lead,
-    c: usize,
-    fj: usize,
-    j: usize,
-) -> Lead
-    ensures { λ r. ⌜ ((f seen : List ℕ) → (m k : ℕ) → run.same (lead .some) (lead .first) c ≡ false → Takes (now (places .entry)) (rows (now (starts .entry)) (now (sizes .entry)) (now (entries .entry)) n) f (now (on .entry)) seen (now (place .entry)) m c fj j k lead r) ⌝ }
-{
-    let some = lead.some;
-    let first = lead.first;
-    let q = rings::size_of(sizes, n, c);
-    let mut lo = lead.lo;
-    let mut t = 0;
-    while t < q {
-        let w = rings::neighbour_at(starts, sizes, entries, n, c, t);
-        if knot(on, some, first, fj, w) {
-            return made(false, some, first, lo);
-        }
-        let x = arrays::num(place, w);
-        if numbers::minus(x, j) > 1 {
-            return made(false, some, first, lo);
-        }
-        lo = lower(places, starts, sizes, entries, n, lo, x, w, c);
-        t += 1;
+    if c >= 200 {
+        return lo;
     }
-    made(true, true, c, lo)
+    if arrays::byte(places, 200 * w + c) == 0 {
+        return lo;
+    }
+    x - 1
 }
 
 // Is c below position a?
@@ -205,6 +154,49 @@ fn pocket<'a>(
     false
 }
 
+// The lead of the list with c put before it, by a look at each neighbour of c. It is not ok where one stands on the frontier beyond j, or would not be adjacent to c, or where c is in a pocket before k.
+fn look<'a>(
+    places: &'a [u8],
+    starts: &'a [u16],
+    sizes: &'a [u8],
+    entries: &'a [u16],
+    n: usize,
+    f: &'a [u16],
+    m: usize,
+    on: &'a [u8],
+    place: &'a [u16],
+    lead: Lead,
+    c: usize,
+    j: usize,
+    k: usize,
+) -> Lead
+    ensures { λ r. ⌜ ((seen : List ℕ) → run.same (lead .some) (lead .first) c ≡ false → now (places .entry) ≡ placesOf (rows (now (starts .entry)) (now (sizes .entry)) (now (entries .entry)) n) → Takes (now (places .entry)) (rows (now (starts .entry)) (now (sizes .entry)) (now (entries .entry)) n) (now (f .entry)) (now (on .entry)) seen (now (place .entry)) m c j k lead r) ⌝ }
+{
+    let q = rings::size_of(sizes, n, c);
+    let mut lo = m;
+    let mut t = 0;
+    while t < q {
+        let w = rings::neighbour_at(starts, sizes, entries, n, c, t);
+        let x = arrays::num(place, w);
+        if knot(on, lead.some, lead.first, j, x, w) {
+            return Lead {
+                ok: false,
+                some: false,
+                first: 0,
+                lo: 0,
+            };
+        }
+        lo = lower(places, lo, x, w, c);
+        t += 1;
+    }
+    Lead {
+        ok: !pocket(places, starts, sizes, entries, n, f, lo, k, c),
+        some: true,
+        first: c,
+        lo: numbers::lesser(lead.lo, lo),
+    }
+}
+
 // The lead of the list with c put before it. It is not ok where c may not come before the list.
 fn take<'a>(
     places: &'a [u8],
@@ -219,27 +211,38 @@ fn take<'a>(
     place: &'a [u16],
     lead: Lead,
     c: usize,
-    fj: usize,
     j: usize,
     k: usize,
 ) -> Lead
-    ensures { λ r. ⌜ (now (places .entry) ≡ placesOf (rows (now (starts .entry)) (now (sizes .entry)) (now (entries .entry)) n) → Takes (now (places .entry)) (rows (now (starts .entry)) (now (sizes .entry)) (now (entries .entry)) n) (now (f .entry)) (now (on .entry)) (now (seen .entry)) (now (place .entry)) m c fj j k lead r) ⌝ }
+    requires { ⌜ lead .ok ≡ true ⌝ }
+    ensures { λ r. ⌜ (now (places .entry) ≡ placesOf (rows (now (starts .entry)) (now (sizes .entry)) (now (entries .entry)) n) → Takes (now (places .entry)) (rows (now (starts .entry)) (now (sizes .entry)) (now (entries .entry)) n) (now (f .entry)) (now (on .entry)) (now (seen .entry)) (now (place .entry)) m c j k lead r) ⌝ }
 {
     if same(lead.some, lead.first, c) {
-        return made(true, lead.some, lead.first, lead.lo);
+        return lead;
     }
     if barred(on, seen, c) {
-        return made(false, lead.some, lead.first, lead.lo);
+        return Lead {
+            ok: false,
+            some: false,
+            first: 0,
+            lo: 0,
+        };
     }
-    let own = made(true, lead.some, lead.first, m);
-    let r = look(places, starts, sizes, entries, n, on, place, own, c, fj, j);
-    if !r.ok {
-        return r;
-    }
-    if pocket(places, starts, sizes, entries, n, f, r.lo, k, c) {
-        return made(false, lead.some, lead.first, lead.lo);
-    }
-    made(true, true, c, numbers::lesser(lead.lo, r.lo))
+    look(
+        places,
+        starts,
+        sizes,
+        entries,
+        n,
+        f,
+        m,
+        on,
+        place,
+        lead,
+        c,
+        j,
+        k,
+    )
 }
 
 // The lead of the list with what is below position k put before it; each context that is put is marked.
@@ -264,10 +267,14 @@ fn extend<'a>(
     let x = frontier::below::turn_by(places, starts, sizes, entries, n, f, k);
     let q = frontier::below::depth(starts, sizes, entries, n, f, k, x);
     if q == 0 {
-        return made(false, old.some, old.first, old.lo);
+        return Lead {
+            ok: false,
+            some: false,
+            first: 0,
+            lo: 0,
+        };
     }
     let u = arrays::num(f, k);
-    let fj = arrays::num(f, j);
     let mut lead = old;
     let mut t = 0;
     while t < q {
@@ -285,7 +292,6 @@ fn extend<'a>(
             place,
             lead,
             c,
-            fj,
             j,
             k,
         );
@@ -296,13 +302,6 @@ fn extend<'a>(
         t += 1;
     }
     lead
-}
-
-// The lead of no list, in a frontier of m contexts.
-fn start(m: usize) -> Lead
-    ensures { λ r. ⌜ r ≡ run.lead true false 0 m ⌝ }
-{
-    made(true, false, 0, m)
 }
 
 // May the context below the frontier edge left of position j not be on a list?
@@ -324,6 +323,12 @@ fn shut<'a>(
     let x = frontier::below::turn_by(places, starts, sizes, entries, n, f, k);
     let u = arrays::num(f, k);
     let c = numbers::wide_word(frontier::onward_at(starts, sizes, entries, n, u, x, 0));
+    let start = Lead {
+        ok: true,
+        some: false,
+        first: 0,
+        lo: m,
+    };
     let lead = take(
         places,
         starts,
@@ -335,9 +340,8 @@ fn shut<'a>(
         seen,
         seen,
         place,
-        start(m),
+        start,
         c,
-        arrays::num(f, j),
         j,
         k,
     );
@@ -363,9 +367,15 @@ fn search<'a>(
     ensures { λ r. ⌜ ((s : State) → Ready (now (places .entry)) (rows (now (starts .entry)) (now (sizes .entry)) (now (entries .entry)) n) clean s (line true m (now (f .entry)) marks) → Best (rows (now (starts .entry)) (now (sizes .entry)) (now (entries .entry)) n) s j r) ⌝ }
 {
     let mut on = [0u8; 256];
-    let mut lead = start(m);
+    let mut lead = Lead {
+        ok: true,
+        some: false,
+        first: 0,
+        lo: m,
+    };
     let mut k = j;
     while k > 1 {
+        k -= 1;
         let t = extend(
             &mut on,
             places,
@@ -378,14 +388,13 @@ fn search<'a>(
             &marks,
             place,
             lead,
-            k - 1,
+            k,
             j,
         );
         if !t.ok {
             return 0;
         }
         lead = t;
-        k -= 1;
         let i = k - 1;
         if i <= t.lo {
             if chords::fits(places, starts, sizes, entries, n, f, m, marks, clean, i, j) {
@@ -394,42 +403,6 @@ fn search<'a>(
         }
     }
     0
-}
-
-// The same, where the search need not begin if the context below the frontier edge left of j may not be on a list.
-fn seek<'a>(
-    places: &'a [u8],
-    starts: &'a [u16],
-    sizes: &'a [u8],
-    entries: &'a [u16],
-    n: usize,
-    f: &'a [u16],
-    m: usize,
-    marks: [u8; 256],
-    clean: bool,
-    place: &'a [u16],
-    j: usize,
-) -> usize
-    requires { ⌜ now place ≡ run.placed (now f) m ⌝ }
-    requires { ⌜ j < m ⌝ }
-    ensures { λ r. ⌜ ((s : State) → Ready (now (places .entry)) (rows (now (starts .entry)) (now (sizes .entry)) (now (entries .entry)) n) clean s (line true m (now (f .entry)) marks) → Best (rows (now (starts .entry)) (now (sizes .entry)) (now (entries .entry)) n) s j r) ⌝ }
-{
-    if shut(places, starts, sizes, entries, n, f, m, &marks, place, j) {
-        return 0;
-    }
-    search(
-        places,
-        starts,
-        sizes,
-        entries,
-        n,
-        f,
-        m,
-        marks,
-        clean,
-        place,
-        j,
-    )
 }
 
 // The pair of positions that a step takes: of the eligible pairs of a frontier of m contexts that with the largest j, then with the largest i.
@@ -449,23 +422,25 @@ pub fn choose<'a>(
     let place = placed(f, m);
     let mut j = m;
     while j > 0 {
-        let i = seek(
-            places,
-            starts,
-            sizes,
-            entries,
-            n,
-            f,
-            m,
-            marks,
-            clean,
-            &place,
-            j - 1,
-        );
-        if i > 0 {
-            return Found::At(i - 1, j - 1);
-        }
         j -= 1;
+        if !shut(places, starts, sizes, entries, n, f, m, &marks, &place, j) {
+            let i = search(
+                places,
+                starts,
+                sizes,
+                entries,
+                n,
+                f,
+                m,
+                marks,
+                clean,
+                &place,
+                j,
+            );
+            if i > 0 {
+                return Found::At(i - 1, j);
+            }
+        }
     }
     Found::Nothing
 }

@@ -52,7 +52,7 @@ module _ (p : Plan) where
       omega arith
 
   -- a ring has as many neighbours as entries
-  ring-length : (u : ℕ) → length (ring p u) ≡ length (entries p u)
+  pub ring-length : (u : ℕ) → length (ring p u) ≡ length (entries p u)
   unfolding ring
   ring-length u = length-map (entries p u) neighbour
 

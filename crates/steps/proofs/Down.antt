@@ -9,7 +9,7 @@ use Rattle.rings.specs.Tables.{startsOf, rows, table}
 use Rattle.fit.specs.Fits.{fit}
 use Rattle.steps.specs.declared.Ended.{Ended}
 use Rattle.steps.specs.Run.{stuck, swept, stepsOf, endedAs}
-use Rattle.steps.proofs.Draws.{as-table}
+use Rattle.steps.proofs.Arrays.{as-table}
 
 module _ (sizes es : List ℕ) (n : ℕ) where
   -- how the steps of the plan end, by whether it fits

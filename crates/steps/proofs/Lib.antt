@@ -1,5 +1,4 @@
-pub mod Draws
+pub mod Arrays
 pub mod Unlabelled
-pub mod Fits
 pub mod Steps
 pub mod Down

@@ -22,17 +22,17 @@ use Rattle.choice.specs.declared.Found.the-variants.{At, Nothing}
 use Rattle.lists.specs.Tests.{member}
 use Rattle.frontier.specs.Front.{Sane, Marks, Front}
 use Rattle.choice.specs.Search.{foundAs, Ready}
-use Rattle.places.specs.Places.{placesOf}
 use Rattle.frontier.proofs.Lines.{stretch-part, stretch-all}
 use Rattle.pairs.proofs.Pairs.{gathered, unchorded, replaced-marks, next-front}
-use Rattle.ends.proofs.Finishing.{open-is}
+use Rattle.ends.proofs.Finishing.{open-is, unfinished-told}
 use Rattle.steps.specs.declared.Ended.{Ended}
-use Rattle.steps.specs.Run.{fan, stepLabels, Stepped, finishLabels, firstLabels, stuck, swept, endedAs}
+use Rattle.steps.specs.Run.{stepLabels, Stepped, finishLabels, firstLabels, stuck, swept, Running, endedAs, ended}
 use Rattle.frontier.specs.Run.{line}
-use Rattle.ends.specs.Ends.{firstLine, unfinished}
+use Rattle.edges.specs.Edges.{Guide}
+use Rattle.ends.specs.Ends.{firstLine, unfinishedBy}
 use Rattle.pairs.specs.Run.{listing, replaced}
 use Rattle.model.proofs.LabelCounts.{edges-long, bare-long, first-long, from-long}
-use Rattle.steps.proofs.Draws.{edges-padded, product-one}
+use Rattle.steps.proofs.Arrays.{edges-padded}
 use Rattle.ends.proofs.Beginning.{firstFront, first-front, first-at, first-len}
 use Rattle.steps.specs.Run as run
 
@@ -61,15 +61,7 @@ span-inner f = go (length f) refl
     go (suc zero) e = span-short f (1 - 1) (omega arith)
     go (suc (suc m)) e = span-slice f 1 (suc (suc m) - 1) (omega arith) (omega arith)
 
--- ---- what the sweep has come to, with k steps to go
-pub record Running (p : Plan) (k : ℕ) (clean : Bool) (v : Line) (ls : List ℕ) : Type 0 where
-  pub state : State
-  pub front : Front state v
-  pub chords : clean ≡ true → chordless p (state .frontier) ≡ true
-  pub labels : ls ≡ padded 1186 (state .labels)
-  pub size : length (state .labels) ≡ entryCount p
-  pub same : swept p ≡ sweepFrom p k state
-
+-- ---- what the sweep has come to
 -- what is between the ends of a list
 slice-middle : (a b : ℕ) (l : List ℕ) → slice 1 (length (a ∷ l ++ (b ∷ [])) - 1) (a ∷ l ++ (b ∷ [])) ≡ l
 slice-middle a b l =
@@ -120,7 +112,7 @@ running-start {p} {n} {v} {ls} sane long e q w =
       same = ap (λ (k : ℕ). sweepFrom p k (firstState p)) (sym e);
     }
 
-module _ {p : Plan} {k : ℕ} {clean : Bool} {v : Line} {ls : List ℕ} (inv : Running p k clean v ls) (sane : Sane p) where
+module _ {p : Plan} {places starts : List ℕ} (g : Guide p places starts) {k : ℕ} {clean : Bool} {v : Line} {ls : List ℕ} (inv : Running p k clean v ls) where
   -- the state
   abbrev s : State
   s = inv .state
@@ -129,13 +121,21 @@ module _ {p : Plan} {k : ℕ} {clean : Bool} {v : Line} {ls : List ℕ} (inv : R
   abbrev f : List ℕ
   f = s .frontier
 
-  -- what the next step begins with
-  pub running-ready : {t : List ℕ} → t ≡ placesOf p → Ready t p clean s v
-  running-ready own = record { own = own; sane = sane; front = inv .front; chords = inv .chords }
+  -- entries are below 200
+  sane : Sane p
+  sane = record { entry = g .small }
+
+  -- what is found is what the model chooses
+  abbrev Chooses : Found → Type 0
+  Chooses found = (s : State) → Ready places p clean s v → foundAs found ≡ choose p s (choices (s .frontier))
+
+  -- of this state
+  chosen-here : (found : Found) → Chooses found → foundAs found ≡ choose p s (choices f)
+  chosen-here found e = e s (record { own = g .own; sane = sane; front = inv .front; chords = inv .chords })
 
   -- the finishing test
-  is-finished : {t : Bool} → unfinished p (v .at) (v .len) ≡ t → not (finished p f) ≡ t
-  is-finished e = sym (open-is p s v (inv .front)) ∙ e
+  is-finished : {t : Bool} → t ≡ unfinishedBy places p (v .at) (v .len) → not (finished p f) ≡ t
+  is-finished e = sym (open-is p s v (inv .front)) ∙ sym (unfinished-told _ p _ _ (g .own)) ∙ sym e
 
   -- what is left of the sweep, one step taken apart
   step : (k′ : ℕ) → k ≡ suc k′ → swept p ≡ cond (finished p f) (accepted (finish p s)) (choose p s (choices f) >>= (λ (c : ℕ × ℕ). sweepFrom p k′ (advance p s (c .0) (c .1))))
@@ -143,40 +143,41 @@ module _ {p : Plan} {k : ℕ} {clean : Bool} {v : Line} {ls : List ℕ} (inv : R
   step k′ z = inv .same ∙ ap (λ (n : ℕ). sweepFrom p n s) z
 
   -- the sweep is finished
-  pub running-done : {b : List ℕ} → 0 < k → unfinished p (v .at) (v .len) ≡ false → b ≡ finishLabels p (v .at) (v .len) ls → _≡_ {A = Ended} (record { finished = true; labels = b }) (endedAs (swept p))
-  unfolding finishLabels endedAs finish
-  running-done {b} h u e =
+  pub running-done : {t : Bool} {b : List ℕ} → 0 < k → t ≡ unfinishedBy places p (v .at) (v .len) → not t ≡ true → b ≡ finishLabels p (v .at) (v .len) ls → ended true b ≡ endedAs (swept p)
+  unfolding finishLabels endedAs finish ended
+  running-done {t} {b} h q u e =
       let z : k ≡ suc (k - 1) = omega arith in
-      let over = not-false (finished p f) (is-finished u) in
+      let over = not-false (finished p f) (is-finished q ∙ not-true t u) in
       let rest = choose p s (choices f) >>= (λ (c : ℕ × ℕ). sweepFrom p (k - 1) (advance p s (c .0) (c .1))) in
       let rep = inv .front .rep in
       let whole : length f - 0 ≡ length f = omega arith in
       let south-darts = product (south ∷ []) (slice 1 (length f - 1) f) in
       let same-labels : b ≡ padded 1186 (finish p s) =
       e
-      ∙ (λ i. labelEdges p right (steps (span (rep .at i) 0 (rep .len i))) (labelEdges p up (fan 2 (span (rep .at i) 1 (rep .len i - 1))) (inv .labels i)))
-      ∙ (λ i. labelEdges p right (steps ((ap (stretch (padded 512 f) 0) whole ∙ stretch-all f) i)) (labelEdges p up ((ap (fan 2) (span-inner f) ∙ sym (product-one 2 (slice 1 (length f - 1) f))) i) (padded 1186 (s .labels))))
+      ∙ (λ i. labelEdges p right (steps (span (rep .at i) 0 (rep .len i))) (labelEdges p up (product (2 ∷ []) (span (rep .at i) 1 (rep .len i - 1))) (inv .labels i)))
+      ∙ (λ i. labelEdges p right (steps ((ap (stretch (padded 512 f) 0) whole ∙ stretch-all f) i)) (labelEdges p up (product (2 ∷ []) (span-inner f i)) (padded 1186 (s .labels))))
       ∙ ap (labelEdges p right (steps f)) (edges-padded p up south-darts (s .labels) (inv .size))
       ∙ edges-padded p right (steps f) (labelEdges p up south-darts (s .labels)) (edges-long p up south-darts (s .labels) ∙ inv .size) in
-      ap (λ (l : List ℕ). ended l) same-labels ∙ sym (ap endedAs (step (k - 1) z ∙ ap (λ (t : Bool). cond t (accepted (finish p s)) rest) over))
-    where
-      ended : List ℕ → Ended
-      ended l = record { finished = true; labels = l }
+      ap (ended true) same-labels ∙ sym (ap endedAs (step (k - 1) z ∙ ap (λ (t : Bool). cond t (accepted (finish p s)) rest) over))
 
   -- no pair is eligible
-  pub running-stuck : {found : Found} → 0 < k → unfinished p (v .at) (v .len) ≡ true → foundAs found ≡ choose p s (choices f) → found ≡ Nothing → stuck ≡ endedAs (swept p)
-  unfolding endedAs foundAs stuck
-  running-stuck {found} h u e q =
+  pub running-stuck : (found : Found) (b : List ℕ) {t : Bool} → 0 < k → t ≡ unfinishedBy places p (v .at) (v .len) → not t ≡ false → Chooses found → found ≡ Nothing → ended false b ≡ endedAs (swept p)
+  unfolding endedAs foundAs stuck ended
+  running-stuck found b {t} h w u e q =
       let z : k ≡ suc (k - 1) = omega arith in
-      let on = not-true (finished p f) (is-finished u) in
-      let none : choose p s (choices f) ≡ refused 14 0 = sym e ∙ ap foundAs q in
+      let on = not-true (finished p f) (is-finished w ∙ not-false t u) in
+      let none : choose p s (choices f) ≡ refused 14 0 = sym (chosen-here found e) ∙ ap foundAs q in
       sym (ap endedAs
       (step (k - 1) z
       ∙ ap (λ (t : Bool). cond t (accepted (finish p s)) (choose p s (choices f) >>= (λ (c : ℕ × ℕ). sweepFrom p (k - 1) (advance p s (c .0) (c .1))))) on
       ∙ ap (λ (o : Outcome (ℕ × ℕ)). o >>= (λ (c : ℕ × ℕ). sweepFrom p (k - 1) (advance p s (c .0) (c .1)))) none))
 
-  module _ (i j : ℕ) (e : foundAs (At i j) ≡ choose p s (choices f)) where
-    -- the pair that the model takes
+  module _ {i j : ℕ} (found : Found) (chose : Chooses found) (at : found ≡ At i j) where
+    -- the pair
+    e : foundAs (At i j) ≡ choose p s (choices f)
+    e = ap foundAs (sym at) ∙ chosen-here found chose
+
+    -- that the model takes
     taken : Chosen p s i j
     unfolding foundAs
     taken = chosen p s i j (sym e)
@@ -190,14 +191,14 @@ module _ {p : Plan} {k : ℕ} {clean : Bool} {v : Line} {ls : List ℕ} (inv : R
         (omega arith, omega arith)
 
     -- a step
-    pub running-on : {k′ q : ℕ} {marks b next : List ℕ} → k ≡ suc k′ → unfinished p (v .at) (v .len) ≡ true → Stepped p (v .at) (v .len) i j (v .marks) ls marks b next q → Running p k′ true (line true q next marks) b
+    pub running-on : {t : Bool} {k′ q : ℕ} {marks b next : List ℕ} → k ≡ suc k′ → t ≡ unfinishedBy places p (v .at) (v .len) → not t ≡ false → Stepped p (v .at) (v .len) i j (v .marks) ls marks b next q → Running p k′ true (line true q next marks) b
     unfolding stepLabels advance foundAs
-    running-on {k′} {q} {marks} {b} {next} z u did =
+    running-on {t} {k′} {q} {marks} {b} {next} z w u did =
         let two = taken .positions .apart in
         let last = taken .positions .inside in
         let good = gathered p sane s v (inv .front) i j two last (taken .fits) in
         let l = listed p f i j in
-        let on = not-true (finished p f) (is-finished u) in
+        let on = not-true (finished p f) (is-finished w ∙ not-false t u) in
         let rep = inv .front .rep in
         let list = listing p (v .at) (v .marks) (suc i) j in
         let size : length l - 0 ≡ length l = omega arith in
@@ -225,9 +226,9 @@ module _ {p : Plan} {k : ℕ} {clean : Bool} {v : Line} {ls : List ℕ} (inv : R
         }
 
   -- no step is left
-  pub running-out : k ≡ 0 → stuck ≡ endedAs (swept p)
-  unfolding endedAs sweepFrom stuck
-  running-out z = sym (ap endedAs (inv .same ∙ ap (λ (n : ℕ). sweepFrom p n s) z))
+  pub running-out : (b : List ℕ) → k ≡ 0 → ended false b ≡ endedAs (swept p)
+  unfolding endedAs sweepFrom stuck ended
+  running-out b z = sym (ap endedAs (inv .same ∙ ap (λ (n : ℕ). sweepFrom p n s) z))
 
 -- ---- a sweep that does not finish is stuck: 14
 -- a choice is a pair or 14

@@ -6,6 +6,7 @@ use mathlib.Core.Bool.{cond, _&&_}
 use native.Mathlib.Omega.{arith}
 use lib.ListN.{length, getD, set, take, length-append, length-map, List·getD-map}
 use lib.Seq.{take-suc, take-all, length-take-le}
+use Rattle.labels.proofs.Darts.{start-after, start-below, ring-length}
 use Rattle.lists.specs.Ranges.{from}
 use Rattle.lists.specs.Parts.{concat}
 use Rattle.lists.specs.Spans.{zeros, padded}
@@ -15,7 +16,7 @@ use Rattle.model.specs.Plan.{Plan, Dart, count, ring, border, dartsFrom, darts,
 use Rattle.model.specs.Labels.{start, borderLabel, unlabelled}
 use Rattle.model.specs.Sweep.{bareLabels}
 use Rattle.steps.specs.Run.{bareLabel, Adds}
-use Rattle.steps.proofs.Draws.{start-zero, start-next, start-le, start-all, ring-long}
+use Rattle.steps.proofs.Arrays.{start-zero}
 
 -- the labels of u's ring
 abbrev pub ringLabels : Plan → ℕ → List ℕ
@@ -76,8 +77,8 @@ module _ (p : Plan) where
   before-long zero h = sym (start-zero p)
   before-long (suc u) h =
       let a = before-long u (omega arith) in
-      let b = start-next p u (omega arith) in
-      let c = ring-long p u in
+      let b = start-after p u in
+      let c = ring-length p u in
       let d = length-map (ring p u) (bareLabel u) in
       let e = ap length (before-more u) ∙ length-append (before u) (ringLabels p u) in
       omega arith
@@ -116,9 +117,9 @@ module _ {p : Plan} {b : List ℕ} {k u : ℕ} (inv : Filled p b k u) where
       let z : suc u ≡ u′ = omega arith in
       let long = before-long p u (omega arith) in
       let size = inv .size in
-      let next = start-next p u h in
-      let ringed = ring-long p u in
-      let most = start-le p (suc u) in
+      let next = start-after p u in
+      let ringed = ring-length p u in
+      let most = start-below p (suc u) in
       record {
         same = a .same (before p u) (inv .same) (omega arith) (omega arith) ∙ ap (padded 1186) (sym (before-more p u) ∙ ap (before p) z);
         size = (let w : start p (suc u) ≡ start p u′ = ap (start p) z in omega arith);
@@ -130,4 +131,4 @@ module _ {p : Plan} {b : List ℕ} {k u : ℕ} (inv : Filled p b k u) where
 
   -- there is room
   pub filled-room : entryCount p ≤ 1186 → k ≤ 1186
-  filled-room few = let size = inv .size in let most = start-le p u in omega arith
+  filled-room few = let size = inv .size in let most = start-below p u in omega arith

@@ -2,39 +2,28 @@
 use Prim.Native.Nat.{ℕ, _+_, _-_, _≤_}
 use mathlib.Core.Path.{_≡_}
 use mathlib.Core.List.{List, [], _∷_, _++_, map}
-use mathlib.Core.Bool.{true, false, cond, _&&_}
+use mathlib.Core.Bool.{Bool, true, false, cond, _&&_}
 use lib.ListN.{length}
 use Rattle.lists.specs.Parts.{steps}
 use Rattle.lists.specs.Spans.{span, zeros, padded}
 use Rattle.model.specs.Outcome.{Outcome, accepted, refused}
-use Rattle.model.specs.Plan.{Plan, Dart, count, ring, border}
-use Rattle.model.specs.Labels.{up, right, borderLabel, unlabelled, turned, put}
-use Rattle.model.specs.Sweep.{labelEdges, product, bareLabels, firstState, sweepFrom}
+use Rattle.model.specs.Plan.{Plan, count, ring, border, entryCount}
+use Rattle.model.specs.Labels.{up, right, borderLabel, unlabelled}
+use Rattle.model.specs.Sweep.{State, labelEdges, product, bareLabels, chordless, firstState, sweepFrom}
 use Rattle.fit.specs.Fits.{fit}
 use Rattle.frontier.specs.declared.Line.{Line}
+use Rattle.frontier.specs.Front.{Front}
 use Rattle.pairs.specs.Run.{listing, replaced}
 use Rattle.steps.specs.declared.Ended.{Ended}
 
 -- ---- labels
--- l on the dart from u to v, and its opposite on the reverse
-unfoldable pub edge : Plan → ℕ → ℕ → ℕ → List ℕ → List ℕ
-edge p l u v ls = put p u v l (put p v u (turned l 2) ls)
-
--- a dart
-abbrev pub dart : ℕ → ℕ → Dart
-dart u v = (u, v)
-
--- the darts from u
-unfoldable pub fan : ℕ → List ℕ → List Dart
-fan u vs = map (λ (v : ℕ). (u, v)) vs
-
 -- the labels of a step that puts the list l of q in place of positions i + 1 to j − 1
 unfoldable pub stepLabels : Plan → List ℕ → List ℕ → ℕ → ℕ → ℕ → List ℕ → List ℕ
 stepLabels p f l q i j ls = labelEdges p right (steps (span f i (j + 1))) (labelEdges p up (product (span l 0 q) (span f (i + 1) j)) ls)
 
 -- the labels of a finished sweep
 unfoldable pub finishLabels : Plan → List ℕ → ℕ → List ℕ → List ℕ
-finishLabels p f m ls = labelEdges p right (steps (span f 0 m)) (labelEdges p up (fan 2 (span f 1 (m - 1))) ls)
+finishLabels p f m ls = labelEdges p right (steps (span f 0 m)) (labelEdges p up (product (2 ∷ []) (span f 1 (m - 1))) ls)
 
 -- the labels that the sweep begins with
 unfoldable pub firstLabels : Plan → List ℕ → ℕ → List ℕ
@@ -77,3 +66,16 @@ stepsOf p = cond (fit p) (swept p) (refused 13 0)
 unfoldable pub endedAs : Outcome (List ℕ) → Ended
 endedAs (accepted ls) = record { finished = true; labels = padded 1186 ls }
 endedAs (refused k at) = record { finished = false; labels = zeros 1186 }
+
+-- what the sweep has come to, with k steps to go
+pub record Running (p : Plan) (k : ℕ) (clean : Bool) (v : Line) (ls : List ℕ) : Type 0 where
+  pub state : State
+  pub front : Front state v
+  pub chords : clean ≡ true → chordless p (state .frontier) ≡ true
+  pub labels : ls ≡ padded 1186 (state .labels)
+  pub size : length (state .labels) ≡ entryCount p
+  pub same : swept p ≡ sweepFrom p k state
+
+-- how the steps ended, by whether they finished and the labels then
+unfoldable pub ended : Bool → List ℕ → Ended
+ended done ls = cond done (record { finished = true; labels = ls }) stuck

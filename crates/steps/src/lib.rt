@@ -4,7 +4,6 @@ ghost use Rattle.rings.specs.Tables.{table};
 ghost use Rattle.steps.specs.Run as run;
 
 mod first;
-mod mark;
 mod step;
 
 // The steps ended: finished, with labels, or not; the labels are zero where there are none.

@@ -8,7 +8,8 @@ use native.Mathlib.Omega.{arith}
 use lib.ListN.{length, getD, take, drop, length-drop, List·getD-eq-default}
 use lib.Seq.{drop-append-le, take-append-le}
 use lib.Dec.{eqb, ltb}
-use borrow.Author.Tests.{ltb-true, ltb-false, le-leb, lt-leb}
+use borrow.Author.Tests.{ltb-false, le-leb, lt-leb}
+use Rattle.labels.proofs.Darts.{start-after, start-below}
 use Rattle.lists.specs.Ranges.{firstFrom, lowest}
 use Rattle.lists.specs.Parts.{indexOf}
 use Rattle.lists.specs.Spans.{zeros, padded}
@@ -29,7 +30,6 @@ use Rattle.rings.specs.Tables.{startsOf, table}
 use Rattle.rings.proofs.Rows.{count-rows, held-small}
 use Rattle.rings.specs.Tables.{held}
 use Rattle.fit.proofs.Fits.{fit-says}
-use Rattle.steps.proofs.Draws.{start-next, start-le}
 use Rattle.steps.proofs.Steps.{swept-14}
 
 -- ---- the label rules on labels with zeros after them
@@ -51,8 +51,8 @@ module _ (p : Plan) (ls : List ℕ) (size : length ls ≡ entryCount p) where
     where
       go : (t : Bool) → ltb u (count p) ≡ t → take (length (getD (p .rings) u [])) (drop (start p u) (ls ++ zeros (1186 - length ls))) ≡ take (length (getD (p .rings) u [])) (drop (start p u) ls)
       go true q =
-          let a = start-next p u (ltb-true u (count p) q) in
-          let b = start-le p (suc u) in
+          let a = start-after p u in
+          let b = start-below p (suc u) in
           part-padded (start p u) (length (getD (p .rings) u [])) ls (zeros (1186 - length ls)) (omega arith)
       go false q =
           let e : length (getD (p .rings) u []) ≡ 0 = ap length (List·getD-eq-default (p .rings) [] (ltb-false u (count p) q)) in

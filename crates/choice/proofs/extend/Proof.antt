@@ -1,5 +1,5 @@
 -- extend meets its contract.
-use mathlib.Core.Path.{_≡_, refl, sym, ap, _∙_, subst}
+use mathlib.Core.Path.{_≡_, refl, sym, ap, _∙_}
 use mathlib.Core.Bool.{true}
 use mathlib.Core.List.{List}
 use Prim.Native.Nat.{ℕ, _-_, _≤_}
@@ -9,8 +9,6 @@ use Rattle.rings.specs.Tables.{rows}
 use Rattle.places.specs.Places.{placesOf}
 use Rattle.frontier.proofs.Moves.{under-turned, turn-told, depth-told}
 use Rattle.choice.proofs.Trails.{Grows, grows-start, grows-on, grows-end, grows-stop, extends-bare}
-use Rattle.choice.specs.declared.Lead.{Lead}
-use Rattle.choice.specs.Search.{Reason}
 use Rattle.choice.specs.Run as run
 use native.Mathlib.Omega.{arith}
 use borrow.Author.Needs.{needs}
@@ -18,10 +16,10 @@ use Rattle.choice.proofs.extend.Statement.{statement}
 use Rattle.choice.proofs.extend.Tie as tie
 
 abbrev Inv-loop : tie.InvT-loop
-Inv-loop on₀ places starts sizes entries n f m seen place k j x q u fj lead₀ t₀ on lead t = (t ≤ q) × (length on ≡ length on₀) × (lead .ok ≡ true) × (places ≡ placesOf (rows starts sizes entries n) → place ≡ run.placed f m → Grows (rows starts sizes entries n) f m k (run.trailOf lead₀ on₀) t (run.trailOf lead on))
+Inv-loop on₀ places starts sizes entries n f m seen place k j x q u lead₀ t₀ on lead t = (t ≤ q) × (length on ≡ length on₀) × (lead .ok ≡ true) × (places ≡ placesOf (rows starts sizes entries n) → place ≡ run.placed f m → Grows (rows starts sizes entries n) f m k (run.trailOf lead₀ on₀) t (run.trailOf lead on))
 
 abbrev μ-loop : tie.MeasureT-loop
-μ-loop on₀ places starts sizes entries n f m seen place k j x q u fj lead₀ t₀ on lead t = q - t
+μ-loop on₀ places starts sizes entries n f m seen place k j x q u lead₀ t₀ on lead t = q - t
 
 turn-by-requires : tie.Need-turn-by-requires Inv-loop μ-loop
 turn-by-requires c κs = search needs
@@ -29,22 +27,16 @@ turn-by-requires c κs = search needs
 depth-requires : tie.Need-depth-requires Inv-loop μ-loop
 depth-requires c κs = search needs
 
-made-requires : tie.Need-made-requires Inv-loop μ-loop
-made-requires c κs = search needs
-
 returns : tie.Need-returns Inv-loop μ-loop
 returns c =
-    let a = c .before .before .before .before .before .before .before .before .before .before .before .before .args in
-    λ own hi. extends-bare (sym (depth-told (rows (a .starts .now) (a .sizes .now) (a .entries .now) (a .n)) own (a .f .now) (a .k) (c .before .before .before .turn-by .ensures .0) (c .before .before .depth .ensures .0)) ∙ c .before .if1 .taken) (ap (λ (l : Lead). l .ok) (c .made .ensures))
+    let a = c .before .before .before .before .before .before .before .before .before .before .before .args in
+    λ own hi. extends-bare (sym (depth-told (rows (a .starts .now) (a .sizes .now) (a .entries .now) (a .n)) own (a .f .now) (a .k) (c .before .before .turn-by .ensures .0) (c .before .depth .ensures .0)) ∙ c .if1 .taken) refl
 
 num-requires : tie.Need-num-requires Inv-loop μ-loop
 num-requires c κs = search needs
 
-num-requires-2 : tie.Need-num-requires-2 Inv-loop μ-loop
-num-requires-2 c κs = search needs
-
 loop-holds : tie.Need-loop-holds Inv-loop μ-loop
-loop-holds c = (omega arith, refl, c .before .before .before .before .before .before .before .before .before .before .before .before .before .pre, λ own hi. grows-start)
+loop-holds c = (omega arith, refl, c .before .before .before .before .before .before .before .before .before .before .before .before .pre, λ own hi. grows-start)
 
 onward-at-requires : tie.Need-onward-at-requires Inv-loop μ-loop
 onward-at-requires c κs = search needs
@@ -53,24 +45,23 @@ wide-word-requires : tie.Need-wide-word-requires Inv-loop μ-loop
 wide-word-requires c κs = search needs
 
 take-requires : tie.Need-take-requires Inv-loop μ-loop
-take-requires c κs = search needs
+take-requires c κs = c .before .before .before .before .loop .inv .2
 
 same-length : tie.Need-same-length Inv-loop μ-loop
 same-length c = search needs
 
 returns-2 : tie.Need-returns-2 Inv-loop μ-loop
 returns-2 c =
-    let a = c .before .before .before .before .before .before .before .before .before .before .before .before .before .before .before .before .before .before .before .before .before .args in
+    let a = c .before .before .before .before .before .before .before .before .before .before .before .before .before .before .before .before .before .before .before .before .args in
     let p = rows (a .starts .now) (a .sizes .now) (a .entries .now) (a .n) in
     let cur = c .before .before .before .before .before .before .before .loop in
     let ok = not-true (c .before .before .take .result .ok) (c .if2 .taken) in
     λ own hi.
-    let at = turn-told p own (a .f .now) (a .k) (c .before .before .before .before .before .before .before .before .before .before .before .before .turn-by .ensures .0) in
-    let size = depth-told p own (a .f .now) (a .k) (c .before .before .before .before .before .before .before .before .before .before .before .before .turn-by .ensures .0) (c .before .before .before .before .before .before .before .before .before .before .before .depth .ensures .0) in
-    let c-is = c .before .before .before .before .wide-word .ensures .0 ∙ c .before .before .before .before .before .onward-at .ensures ∙ ap (λ (l : List ℕ). getD l (cur .t) 0) (under-turned p (a .f .now) (a .k) (c .before .before .before .before .before .before .before .before .before .num .ensures .0) at) in
+    let at = turn-told p own (a .f .now) (a .k) (c .before .before .before .before .before .before .before .before .before .before .before .turn-by .ensures .0) in
+    let size = depth-told p own (a .f .now) (a .k) (c .before .before .before .before .before .before .before .before .before .before .before .turn-by .ensures .0) (c .before .before .before .before .before .before .before .before .before .before .depth .ensures .0) in
+    let c-is = c .before .before .before .before .wide-word .ensures .0 ∙ c .before .before .before .before .before .onward-at .ensures ∙ ap (λ (l : List ℕ). getD l (cur .t) 0) (under-turned p (a .f .now) (a .k) (c .before .before .before .before .before .before .before .before .num .ensures .0) at) in
     let no = c .before .before .take .ensures own .no ok in
-    let why = subst (λ (w : ℕ). Reason p (a .f .now) (cur .on) (a .seen .now) (a .place .now) (cur .lead .some) (cur .lead .first) (c .before .before .before .before .wide-word .result) w (a .j) (a .k)) (c .before .before .before .before .before .before .before .before .num2 .ensures .0) (no .1) in
-    grows-stop (cur .inv .3 own hi) (omega arith) c-is (no .0) why ok
+    grows-stop (cur .inv .3 own hi) (omega arith) c-is (no .0) (no .1) ok
 
 set-byte-requires : tie.Need-set-byte-requires Inv-loop μ-loop
 set-byte-requires c κs = search needs
@@ -83,7 +74,7 @@ loop-less c = search needs
 
 loop-again : tie.Need-loop-again Inv-loop μ-loop
 loop-again c =
-    let a = c .before .before .before .before .before .before .before .before .before .before .before .before .before .before .before .before .before .before .before .before .before .before .before .before .before .args in
+    let a = c .before .before .before .before .before .before .before .before .before .before .before .before .before .before .before .before .before .before .before .before .before .before .before .before .args in
     let p = rows (a .starts .now) (a .sizes .now) (a .entries .now) (a .n) in
     let cur = c .before .before .before .before .before .before .before .before .before .before .before .loop in
     let ok = not-false (c .before .before .before .before .before .before .take .result .ok) (c .before .before .before .before .if2 .left) in (
@@ -91,9 +82,9 @@ loop-again c =
       search needs,
       ok,
       λ own hi.
-          let at = turn-told p own (a .f .now) (a .k) (c .before .before .before .before .before .before .before .before .before .before .before .before .before .before .before .before .turn-by .ensures .0) in
-          let size = depth-told p own (a .f .now) (a .k) (c .before .before .before .before .before .before .before .before .before .before .before .before .before .before .before .before .turn-by .ensures .0) (c .before .before .before .before .before .before .before .before .before .before .before .before .before .before .before .depth .ensures .0) in
-          let c-is = c .before .before .before .before .before .before .before .before .wide-word .ensures .0 ∙ c .before .before .before .before .before .before .before .before .before .onward-at .ensures ∙ ap (λ (l : List ℕ). getD l (cur .t) 0) (under-turned p (a .f .now) (a .k) (c .before .before .before .before .before .before .before .before .before .before .before .before .before .num .ensures .0) at) in
+          let at = turn-told p own (a .f .now) (a .k) (c .before .before .before .before .before .before .before .before .before .before .before .before .before .before .before .turn-by .ensures .0) in
+          let size = depth-told p own (a .f .now) (a .k) (c .before .before .before .before .before .before .before .before .before .before .before .before .before .before .before .turn-by .ensures .0) (c .before .before .before .before .before .before .before .before .before .before .before .before .before .before .depth .ensures .0) in
+          let c-is = c .before .before .before .before .before .before .before .before .wide-word .ensures .0 ∙ c .before .before .before .before .before .before .before .before .before .onward-at .ensures ∙ ap (λ (l : List ℕ). getD l (cur .t) 0) (under-turned p (a .f .now) (a .k) (c .before .before .before .before .before .before .before .before .before .before .before .before .num .ensures .0) at) in
           grows-on (cur .inv .3 own hi) refl refl (omega arith) c-is (c .before .before .before .before .before .before .take .ensures own) own hi ok (c .before .before .set-byte .ensures),
     )
 
@@ -102,11 +93,11 @@ same-length-2 c = search needs
 
 returns-3 : tie.Need-returns-3 Inv-loop μ-loop
 returns-3 c =
-    let a = c .before .before .before .before .before .before .before .before .before .before .before .before .before .before .before .args in
+    let a = c .before .before .before .before .before .before .before .before .before .before .before .before .before .before .args in
     λ own hi.
-    let size = depth-told (rows (a .starts .now) (a .sizes .now) (a .entries .now) (a .n)) own (a .f .now) (a .k) (c .before .before .before .before .before .before .turn-by .ensures .0) (c .before .before .before .before .before .depth .ensures .0) in
+    let size = depth-told (rows (a .starts .now) (a .sizes .now) (a .entries .now) (a .n)) own (a .f .now) (a .k) (c .before .before .before .before .before .turn-by .ensures .0) (c .before .before .before .before .depth .ensures .0) in
     let reached = c .before .loop .inv .0 in
     grows-end (c .before .loop .inv .3 own hi) (c .before .loop .inv .2) (omega arith) (omega arith)
 
 pub extend-spec : {M : Type 1} → statement M
-extend-spec = tie.close (tie.spec Inv-loop μ-loop turn-by-requires depth-requires made-requires returns num-requires num-requires-2 loop-holds onward-at-requires wide-word-requires take-requires same-length returns-2 set-byte-requires add-t loop-less loop-again same-length-2 returns-3)
+extend-spec = tie.close (tie.spec Inv-loop μ-loop turn-by-requires depth-requires returns num-requires loop-holds onward-at-requires wide-word-requires take-requires same-length returns-2 set-byte-requires add-t loop-less loop-again same-length-2 returns-3)

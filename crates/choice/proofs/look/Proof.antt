@@ -1,5 +1,5 @@
 -- look meets its contract.
-use mathlib.Core.Path.{_≡_, ap, sym, _∙_}
+use mathlib.Core.Path.{_≡_, refl, ap, sym, _∙_}
 use Prim.Native.Nat.{ℕ, _-_}
 use lib.ListN.{getD}
 use Rattle.model.specs.Plan.{ring, adjacent}
@@ -7,61 +7,41 @@ use Rattle.model.proofs.Plans.{mem-adjacent}
 use Rattle.model.proofs.Eligible.{getD-mem}
 use Rattle.rings.specs.Tables.{rows}
 use Rattle.rings.proofs.Rows.{ring-size}
-use Rattle.choice.specs.declared.Lead.{Lead}
-use Rattle.choice.specs.Search.{Lowest, right}
-use Rattle.choice.proofs.Takes.{lowest-start, lowest-on, knot-reason, takes-no, takes-yes}
+use Rattle.choice.specs.Search.{Lowest}
+use Rattle.choice.proofs.Takes.{lowest-start, lowest-on, knot-reason, takes-no, takes-looked}
 use native.Mathlib.Omega.{arith}
 use borrow.Author.Needs.{needs}
 use Rattle.choice.proofs.look.Statement.{statement}
 use Rattle.choice.proofs.look.Tie as tie
 
 abbrev Inv-loop : tie.InvT-loop
-Inv-loop places starts sizes entries n on place c fj j some first q lo₀ t₀ lo t = (m : ℕ) → Lowest places (rows starts sizes entries n) place m c lo₀ lo
+Inv-loop places starts sizes entries n f m on place lead c j k q lo₀ t₀ lo t = Lowest places (rows starts sizes entries n) place m c m lo
 
 abbrev μ-loop : tie.MeasureT-loop
-μ-loop places starts sizes entries n on place c fj j some first q lo₀ t₀ lo t = q - t
+μ-loop places starts sizes entries n f m on place lead c j k q lo₀ t₀ lo t = q - t
 
 size-of-requires : tie.Need-size-of-requires Inv-loop μ-loop
 size-of-requires c κs = search needs
 
 loop-holds : tie.Need-loop-holds Inv-loop μ-loop
-loop-holds c = λ m. lowest-start
+loop-holds c = lowest-start
 
 neighbour-at-requires : tie.Need-neighbour-at-requires Inv-loop μ-loop
 neighbour-at-requires c κs = search needs
 
-knot-requires : tie.Need-knot-requires Inv-loop μ-loop
-knot-requires c κs = search needs
-
-made-requires : tie.Need-made-requires Inv-loop μ-loop
-made-requires c κs = search needs
-
-returns : tie.Need-returns Inv-loop μ-loop
-returns c =
-    let a = c .before .before .before .before .before .before .before .before .before .before .before .before .before .args in
-    let p = rows (a .starts .now) (a .sizes .now) (a .entries .now) (a .n) in
-    let size = c .before .before .before .before .before .before .size-of .ensures .0 ∙ sym (ring-size (a .starts .now) (a .sizes .now) (a .entries .now) (a .n) (a .c)) in
-    let near = ap (adjacent p (a .c)) (c .before .before .before .neighbour-at .ensures) ∙ mem-adjacent p (a .c) (getD (ring p (a .c)) (c .before .before .before .before .before .loop .t) 0) (getD-mem (ring p (a .c)) (c .before .before .before .before .before .loop .t) (omega arith)) in
-    λ f seen m k other. takes-no other (knot-reason (c .before .before .before .neighbour-at .result) near (sym (c .before .before .knot .ensures) ∙ c .before .if1 .taken)) (ap (λ (l : Lead). l .ok) (c .made .ensures))
-
 num-requires : tie.Need-num-requires Inv-loop μ-loop
 num-requires c κs = search needs
 
-minus-requires : tie.Need-minus-requires Inv-loop μ-loop
-minus-requires c κs = search needs
+knot-requires : tie.Need-knot-requires Inv-loop μ-loop
+knot-requires c κs = search needs
 
-made-requires-2 : tie.Need-made-requires-2 Inv-loop μ-loop
-made-requires-2 c κs = search needs
-
-returns-2 : tie.Need-returns-2 Inv-loop μ-loop
-returns-2 c =
-    let a = c .before .before .before .before .before .before .before .before .before .before .before .before .before .before .before .before .args in
+returns : tie.Need-returns Inv-loop μ-loop
+returns c =
+    let a = c .before .before .before .before .before .before .before .before .before .before .before .before .before .before .args in
     let p = rows (a .starts .now) (a .sizes .now) (a .entries .now) (a .n) in
-    let size = c .before .before .before .before .before .before .before .before .before .size-of .ensures .0 ∙ sym (ring-size (a .starts .now) (a .sizes .now) (a .entries .now) (a .n) (a .c)) in
-    let near = ap (adjacent p (a .c)) (c .before .before .before .before .before .before .neighbour-at .ensures) ∙ mem-adjacent p (a .c) (getD (ring p (a .c)) (c .before .before .before .before .before .before .before .before .loop .t) 0) (getD-mem (ring p (a .c)) (c .before .before .before .before .before .before .before .before .loop .t) (omega arith)) in
-    let x = c .before .before .before .num .ensures .0 in
-    let y = c .before .before .minus .ensures in
-    λ f seen m k other. takes-no other (right (c .before .before .before .before .before .before .neighbour-at .result) near (omega arith)) (ap (λ (l : Lead). l .ok) (c .made2 .ensures))
+    let size = c .before .before .before .before .before .before .size-of .ensures .0 ∙ sym (ring-size (a .starts .now) (a .sizes .now) (a .entries .now) (a .n) (a .c)) in
+    let near = ap (adjacent p (a .c)) (c .before .before .before .neighbour-at .ensures) ∙ mem-adjacent p (a .c) (getD (ring p (a .c)) (c .before .before .before .before .before .loop .t) 0) (getD-mem (ring p (a .c)) (c .before .before .before .before .before .loop .t) (omega arith)) in
+    λ seen other own. takes-no other (knot-reason (c .before .before .before .neighbour-at .result) near (c .before .before .num .ensures .0) (sym (c .before .knot .ensures) ∙ c .if1 .taken)) refl
 
 lower-requires : tie.Need-lower-requires Inv-loop μ-loop
 lower-requires c κs = search needs
@@ -73,13 +53,18 @@ loop-less : tie.Need-loop-less Inv-loop μ-loop
 loop-less c = search needs
 
 loop-again : tie.Need-loop-again Inv-loop μ-loop
-loop-again c = λ m. lowest-on (c .before .before .before .before .before .before .before .before .loop .inv m) (c .lower .ensures (c .before .before .before .before .before .before .before .before .before .before .before .before .before .before .before .before .args .place .now) m (c .before .before .before .num .ensures .0))
+loop-again c =
+    let a = c .before .before .before .before .before .before .before .before .before .before .before .before .before .before .before .args in
+    lowest-on (c .before .before .before .before .before .before .loop .inv) (c .lower .ensures (rows (a .starts .now) (a .sizes .now) (a .entries .now) (a .n)) (a .place .now) (a .m) (c .before .before .before .num .ensures .0))
 
-made-requires-3 : tie.Need-made-requires-3 Inv-loop μ-loop
-made-requires-3 c κs = search needs
+pocket-requires : tie.Need-pocket-requires Inv-loop μ-loop
+pocket-requires c κs = search needs
 
-returns-3 : tie.Need-returns-3 Inv-loop μ-loop
-returns-3 c = λ f seen m k other. takes-yes (c .made3 .ensures) (c .before .before .loop .inv m)
+lesser-requires : tie.Need-lesser-requires Inv-loop μ-loop
+lesser-requires c κs = search needs
+
+returns-2 : tie.Need-returns-2 Inv-loop μ-loop
+returns-2 c = λ seen other own. takes-looked (c .before .before .before .before .before .before .before .before .before .before .before .before .args .lead) other (c .before .pocket .ensures own) (c .before .before .before .loop .inv) (c .lesser .ensures)
 
 pub look-spec : {M : Type 1} → statement M
-look-spec = tie.close (tie.spec Inv-loop μ-loop size-of-requires loop-holds neighbour-at-requires knot-requires made-requires returns num-requires minus-requires made-requires-2 returns-2 lower-requires add-t loop-less loop-again made-requires-3 returns-3)
+look-spec = tie.close (tie.spec Inv-loop μ-loop size-of-requires loop-holds neighbour-at-requires num-requires knot-requires returns lower-requires add-t loop-less loop-again pocket-requires lesser-requires returns-2)

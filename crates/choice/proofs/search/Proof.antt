@@ -1,5 +1,5 @@
 -- search meets its contract.
-use mathlib.Core.Path.{_≡_, refl, sym, ap, _∙_, subst}
+use mathlib.Core.Path.{_≡_, refl, sym, _∙_}
 use mathlib.Core.Bool.{true}
 use Prim.Native.Nat.{_<_}
 use lib.ListN.{length}
@@ -8,12 +8,12 @@ use Rattle.model.specs.Sweep.{State}
 use Rattle.rings.specs.Tables.{rows}
 use Rattle.lists.specs.Spans.{zeros}
 use Rattle.frontier.specs.Run as lines
-use Rattle.choice.specs.declared.Lead.{Lead}
 use Rattle.choice.specs.Search.{Ready}
 use Rattle.choice.specs.Run as run
 use Rattle.choice.proofs.Searches.{Seeking, seeking-start, seeking-end, seeking-stop, seeking-on, seeking-over, seeking-hit}
 use native.Mathlib.Omega.{arith}
 use borrow.Author.Needs.{needs}
+use Rattle.chords.proofs.Eligibility.{fits-own}
 use Rattle.choice.proofs.search.Statement.{statement}
 use Rattle.choice.proofs.search.Tie as tie
 
@@ -23,16 +23,16 @@ Inv-loop places starts sizes entries n f m clean place j marks on₀ lead₀ k�
 abbrev μ-loop : tie.MeasureT-loop
 μ-loop places starts sizes entries n f m clean place j marks on₀ lead₀ k₀ on lead k = k
 
-start-requires : tie.Need-start-requires Inv-loop μ-loop
-start-requires c κs = search needs
-
 loop-holds : tie.Need-loop-holds Inv-loop μ-loop
 unfolding run.startTrail zeros
 loop-holds c =
-    let a = c .before .before .before .before .before .before .before .args in
+    let a = c .before .before .before .before .before .before .args in
     let p = rows (a .starts .now) (a .sizes .now) (a .entries .now) (a .n) in
     let line = lines.line true (a .m) (a .f .now) (a .t8) in
-    (refl, ap (λ (l : Lead). l .ok) (c .start .ensures), λ hi inj s rd. subst (λ (l : Lead). Seeking p (rd .sane) s line (rd .front) (a .place .now) hi (a .j) inj (a .j) (run.trailOf l (zeros 256))) (sym (c .start .ensures)) (seeking-start p (rd .sane) s line (rd .front) (a .place .now) hi (a .j) inj))
+    (refl, refl, λ hi inj s rd. seeking-start p (rd .sane) s line (rd .front) (a .place .now) hi (a .j) inj)
+
+sub-k : tie.Need-sub-k Inv-loop μ-loop
+sub-k c = search needs
 
 slice-aggregate-extend : tie.Need-slice-aggregate-extend Inv-loop μ-loop
 slice-aggregate-extend c = search needs
@@ -40,21 +40,15 @@ slice-aggregate-extend c = search needs
 slice-aggregate-extend-2 : tie.Need-slice-aggregate-extend-2 Inv-loop μ-loop
 slice-aggregate-extend-2 c = search needs
 
-sub-extend : tie.Need-sub-extend Inv-loop μ-loop
-sub-extend c = search needs
-
 extend-requires : tie.Need-extend-requires Inv-loop μ-loop
 extend-requires c κs = c .before .before .before .loop .inv .1
 
 returns : tie.Need-returns Inv-loop μ-loop
 returns c =
-    let a = c .before .before .before .before .before .before .before .before .before .before .before .before .before .before .before .args in
-    let hi = c .before .before .before .before .before .before .before .before .before .before .before .before .before .before .before .pre .0 in
-    let inj = c .before .before .before .before .before .before .before .before .before .before .before .before .before .before .before .pre .1 in
+    let a = c .before .before .before .before .before .before .before .before .before .before .before .before .before .before .args in
+    let hi = c .before .before .before .before .before .before .before .before .before .before .before .before .before .before .pre .0 in
+    let inj = c .before .before .before .before .before .before .before .before .before .before .before .before .before .before .pre .1 in
     λ s rd. seeking-stop (rows (a .starts .now) (a .sizes .now) (a .entries .now) (a .n)) (rd .sane) s (lines.line true (a .m) (a .f .now) (a .t8)) (rd .front) (a .place .now) hi (a .j) inj (c .before .before .before .before .before .before .before .loop .inv .2 hi inj s rd) (omega arith) (omega arith) (c .before .before .before .extend .ensures (rd .own) hi) (not-true (c .before .before .before .extend .result .ok) (c .if1 .taken))
-
-sub-k : tie.Need-sub-k Inv-loop μ-loop
-sub-k c = search needs
 
 sub-i : tie.Need-sub-i Inv-loop μ-loop
 sub-i c = search needs
@@ -64,35 +58,35 @@ fits-requires c κs = search needs
 
 returns-2 : tie.Need-returns-2 Inv-loop μ-loop
 returns-2 c =
-    let a = c .before .before .before .before .before .before .before .before .before .before .before .before .before .before .before .before .before .before .before .args in
-    let hi = c .before .before .before .before .before .before .before .before .before .before .before .before .before .before .before .before .before .before .before .pre .0 in
-    let inj = c .before .before .before .before .before .before .before .before .before .before .before .before .before .before .before .before .before .before .before .pre .1 in
-    λ s rd. seeking-hit (rows (a .starts .now) (a .sizes .now) (a .entries .now) (a .n)) (rd .sane) s (lines.line true (a .m) (a .f .now) (a .t8)) (rd .front) (a .place .now) hi (a .j) inj (c .before .before .before .before .before .before .before .before .before .before .before .loop .inv .2 hi inj s rd) (omega arith) (omega arith) (c .before .before .before .before .before .before .before .extend .ensures (rd .own) hi) (not-false (c .before .before .before .before .before .before .before .extend .result .ok) (c .before .before .before .before .if1 .left)) (a .clean) (rd .chords) (sym (c .before .fits2 .ensures (rd .own)) ∙ c .if3 .taken)
+    let a = c .before .before .before .before .before .before .before .before .before .before .before .before .before .before .before .before .before .before .args in
+    let hi = c .before .before .before .before .before .before .before .before .before .before .before .before .before .before .before .before .before .before .pre .0 in
+    let inj = c .before .before .before .before .before .before .before .before .before .before .before .before .before .before .before .before .before .before .pre .1 in
+    λ s rd. seeking-hit (rows (a .starts .now) (a .sizes .now) (a .entries .now) (a .n)) (rd .sane) s (lines.line true (a .m) (a .f .now) (a .t8)) (rd .front) (a .place .now) hi (a .j) inj (c .before .before .before .before .before .before .before .before .before .before .before .loop .inv .2 hi inj s rd) (omega arith) (omega arith) (c .before .before .before .before .before .before .before .extend .ensures (rd .own) hi) (not-false (c .before .before .before .before .before .before .before .extend .result .ok) (c .before .before .before .before .if1 .left)) (a .clean) (rd .chords) (sym (c .before .fits2 .ensures ∙ fits-own (rows (a .starts .now) (a .sizes .now) (a .entries .now) (a .n)) (rd .own) (a .clean) (lines.line true (a .m) (a .f .now) (a .t8)) _ _) ∙ c .if3 .taken)
 
 loop-less : tie.Need-loop-less Inv-loop μ-loop
 loop-less c = search needs
 
 loop-again : tie.Need-loop-again Inv-loop μ-loop
 loop-again c =
-    let a = c .before .before .before .before .before .before .before .before .before .before .before .before .before .before .before .before .before .before .before .args in
+    let a = c .before .before .before .before .before .before .before .before .before .before .before .before .before .before .before .before .before .before .args in
     let ok = not-false (c .before .before .before .before .before .before .before .extend .result .ok) (c .before .before .before .before .if1 .left) in
-    (search needs, ok, λ hi inj s rd. seeking-on (rows (a .starts .now) (a .sizes .now) (a .entries .now) (a .n)) (rd .sane) s (lines.line true (a .m) (a .f .now) (a .t8)) (rd .front) (a .place .now) hi (a .j) inj (c .before .before .before .before .before .before .before .before .before .before .before .loop .inv .2 hi inj s rd) (omega arith) (omega arith) (c .before .before .before .before .before .before .before .extend .ensures (rd .own) hi) ok (a .clean) (rd .chords) (sym (c .before .fits2 .ensures (rd .own)) ∙ c .if3 .left))
+    (search needs, ok, λ hi inj s rd. seeking-on (rows (a .starts .now) (a .sizes .now) (a .entries .now) (a .n)) (rd .sane) s (lines.line true (a .m) (a .f .now) (a .t8)) (rd .front) (a .place .now) hi (a .j) inj (c .before .before .before .before .before .before .before .before .before .before .before .loop .inv .2 hi inj s rd) (omega arith) (omega arith) (c .before .before .before .before .before .before .before .extend .ensures (rd .own) hi) ok (a .clean) (rd .chords) (sym (c .before .fits2 .ensures ∙ fits-own (rows (a .starts .now) (a .sizes .now) (a .entries .now) (a .n)) (rd .own) (a .clean) (lines.line true (a .m) (a .f .now) (a .t8)) _ _) ∙ c .if3 .left))
 
 loop-less-2 : tie.Need-loop-less-2 Inv-loop μ-loop
 loop-less-2 c = search needs
 
 loop-again-2 : tie.Need-loop-again-2 Inv-loop μ-loop
 loop-again-2 c =
-    let a = c .before .before .before .before .before .before .before .before .before .before .before .before .before .before .before .before .before .args in
+    let a = c .before .before .before .before .before .before .before .before .before .before .before .before .before .before .before .before .args in
     let ok = not-false (c .before .before .before .before .before .extend .result .ok) (c .before .before .if1 .left) in
     (search needs, ok, λ hi inj s rd. seeking-over (rows (a .starts .now) (a .sizes .now) (a .entries .now) (a .n)) (rd .sane) s (lines.line true (a .m) (a .f .now) (a .t8)) (rd .front) (a .place .now) hi (a .j) inj (c .before .before .before .before .before .before .before .before .before .loop .inv .2 hi inj s rd) (omega arith) (omega arith) (c .before .before .before .before .before .extend .ensures (rd .own) hi) ok (omega arith))
 
 returns-3 : tie.Need-returns-3 Inv-loop μ-loop
 returns-3 c =
-    let a = c .before .before .before .before .before .before .before .before .before .args in
-    let hi = c .before .before .before .before .before .before .before .before .before .pre .0 in
-    let inj = c .before .before .before .before .before .before .before .before .before .pre .1 in
+    let a = c .before .before .before .before .before .before .before .before .args in
+    let hi = c .before .before .before .before .before .before .before .before .pre .0 in
+    let inj = c .before .before .before .before .before .before .before .before .pre .1 in
     λ s rd. seeking-end (rows (a .starts .now) (a .sizes .now) (a .entries .now) (a .n)) (rd .sane) s (lines.line true (a .m) (a .f .now) (a .t8)) (rd .front) (a .place .now) hi (a .j) inj (c .before .loop .inv .2 hi inj s rd) (omega arith)
 
 pub search-spec : {M : Type 1} → statement M
-search-spec = tie.close (tie.spec Inv-loop μ-loop start-requires loop-holds slice-aggregate-extend slice-aggregate-extend-2 sub-extend extend-requires returns sub-k sub-i fits-requires returns-2 loop-less loop-again loop-less-2 loop-again-2 returns-3)
+search-spec = tie.close (tie.spec Inv-loop μ-loop loop-holds sub-k slice-aggregate-extend slice-aggregate-extend-2 extend-requires returns sub-i fits-requires returns-2 loop-less loop-again loop-less-2 loop-again-2 returns-3)

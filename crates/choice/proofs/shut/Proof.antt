@@ -1,5 +1,5 @@
 -- shut meets its contract.
-use mathlib.Core.Path.{ap, _∙_, subst}
+use mathlib.Core.Path.{refl, ap, _∙_, subst}
 use mathlib.Core.List.{List, []}
 use Prim.Native.Nat.{ℕ}
 use lib.ListN.{getD}
@@ -27,23 +27,17 @@ onward-at-requires c κs = search needs
 wide-word-requires : tie.Need-wide-word-requires
 wide-word-requires c κs = search needs
 
-start-requires : tie.Need-start-requires
-start-requires c κs = search needs
-
-num-requires-2 : tie.Need-num-requires-2
-num-requires-2 c κs = search needs
-
 take-requires : tie.Need-take-requires
-take-requires c κs = search needs
+take-requires c κs = refl
 
 returns : tie.Need-returns
 returns c =
-    let a = c .before .before .before .before .before .before .before .before .before .before .before .before .before .before .before .before .args in
+    let a = c .before .before .before .before .before .before .before .before .before .before .before .before .before .before .args in
     let p = rows (a .starts .now) (a .sizes .now) (a .entries .now) (a .n) in
-    let k = c .before .before .before .before .before .before .before .before .minus .result in
+    let k = c .before .before .before .before .before .before .minus .result in
     λ yes own.
-    let c-is = c .before .before .before .before .wide-word .ensures .0 ∙ c .before .before .before .before .before .onward-at .ensures ∙ ap (λ (l : List ℕ). getD l 0 0) (under-turned p (a .f .now) k (c .before .before .before .before .before .before .num .ensures .0) (turn-told p own (a .f .now) k (c .before .before .before .before .before .before .before .turn-by .ensures .0))) in
-    subst (λ (w : ℕ). Stops p (a .f .now) (a .m) (a .seen .now) (a .place .now) (a .j) w []) (c .before .before .before .before .before .before .before .before .minus .ensures) (shut-stops c-is (c .before .before .num2 .ensures .0) (c .before .before .before .start .ensures) (c .before .take .ensures own) (not-true (c .before .take .result .ok) yes))
+    let c-is = c .before .before .wide-word .ensures .0 ∙ c .before .before .before .onward-at .ensures ∙ ap (λ (l : List ℕ). getD l 0 0) (under-turned p (a .f .now) k (c .before .before .before .before .num .ensures .0) (turn-told p own (a .f .now) k (c .before .before .before .before .before .turn-by .ensures .0))) in
+    subst (λ (w : ℕ). Stops p (a .f .now) (a .m) (a .seen .now) (a .place .now) (a .j) w []) (c .before .before .before .before .before .before .minus .ensures) (shut-stops c-is (c .before .take .ensures own) (not-true (c .before .take .result .ok) yes))
 
 pub shut-spec : {M : Type 1} → statement M
-shut-spec = tie.close (tie.spec minus-requires turn-by-requires num-requires onward-at-requires wide-word-requires start-requires num-requires-2 take-requires returns)
+shut-spec = tie.close (tie.spec minus-requires turn-by-requires num-requires onward-at-requires wide-word-requires take-requires returns)

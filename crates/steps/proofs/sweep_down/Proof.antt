@@ -4,7 +4,7 @@ use borrow.Author.Needs.{needs}
 use borrow.Author.Tests.{not-true, not-false}
 use Rattle.fit.specs.Fits.{fit}
 use Rattle.places.proofs.Notes.{filled-zeros}
-use Rattle.steps.proofs.Draws.{as-table}
+use Rattle.steps.proofs.Arrays.{as-table, guide}
 use Rattle.steps.proofs.Down.{not-down, down}
 use Rattle.steps.proofs.sweep_down.Statement.{statement}
 use Rattle.steps.proofs.sweep_down.Tie as tie
@@ -40,7 +40,8 @@ run-requires : tie.Need-run-requires
 run-requires c κs =
     let a = c .before .before .before .before .before .before .before .before .before .before .before .args in
     let same = c .before .before .before .before .before .before .starts-of .ensures in
-    (same, (ap fit (as-table (c .before .before .before .before .before .before .starts-of .result) (a .sizes .now) (a .entries .now) (a .n) same) ∙ sym (c .before .before .before .before .before .before .before .before .is-fit .ensures) ∙ not-false (c .before .before .before .before .before .before .before .before .is-fit .result) (c .before .before .before .before .before .before .before .if1 .left), c .before .before .before .fill .ensures ∙ filled-zeros _ refl))
+    let fits = ap fit (as-table (c .before .before .before .before .before .before .starts-of .result) (a .sizes .now) (a .entries .now) (a .n) same) ∙ sym (c .before .before .before .before .before .before .before .before .is-fit .ensures) ∙ not-false (c .before .before .before .before .before .before .before .before .is-fit .result) (c .before .before .before .before .before .before .before .if1 .left) in
+    (fits, guide _ _ _ _ same fits (c .before .before .before .fill .ensures ∙ filled-zeros _ refl))
 
 returns-2 : tie.Need-returns-2
 returns-2 c = let a = c .before .before .before .before .before .before .before .before .before .before .before .before .args in down (a .sizes .now) (a .entries .now) (a .n) (sym (c .before .before .before .before .before .before .before .before .before .is-fit .ensures) ∙ not-false (c .before .before .before .before .before .before .before .before .before .is-fit .result) (c .before .before .before .before .before .before .before .before .if1 .left)) (c .before .before .before .before .before .before .before .starts-of .ensures) (c .run .ensures)

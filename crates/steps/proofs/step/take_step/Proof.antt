@@ -1,9 +1,10 @@
 -- step::take_step meets its contract.
-use mathlib.Core.Path.{refl}
+use mathlib.Core.Path.{refl, _∙_}
 use Rattle.lists.specs.Spans.{zeros}
 use Rattle.steps.proofs.Steps.{stepped}
 use native.Mathlib.Omega.{arith}
 use borrow.Author.Needs.{needs}
+use Rattle.pairs.proofs.Moves.{listing-own, replaced-own}
 use Rattle.steps.proofs.step.take_step.Statement.{statement}
 use Rattle.steps.proofs.step.take_step.Tie as tie
 
@@ -20,10 +21,10 @@ slice-aggregate-step-labels : tie.Need-slice-aggregate-step-labels
 slice-aggregate-step-labels c = search needs
 
 step-labels-requires : tie.Need-step-labels-requires
-step-labels-requires c κs = let pre = c .before .before .before .before .before .before .before .before .before .before .before .before .before .before .before .before .pre in (pre .0, (pre .1 .0, (pre .1 .1 .0, (pre .1 .1 .1 .0, pre .1 .1 .1 .1 .0))))
+step-labels-requires c κs = c .before .before .before .before .before .before .before .before .before .before .before .before .before .before .before .before .pre
 
 add-replaced : tie.Need-add-replaced
-add-replaced c = let low = c .before .before .before .before .before .before .before .before .before .before .before .before .before .before .before .before .before .before .before .before .pre .1 .1 .1 .0 in omega arith
+add-replaced c = let low = c .before .before .before .before .before .before .before .before .before .before .before .before .before .before .before .before .before .before .before .before .pre .0 in omega arith
 
 slice-aggregate-replaced : tie.Need-slice-aggregate-replaced
 slice-aggregate-replaced c = search needs
@@ -42,9 +43,10 @@ same-length-3 c = search needs
 
 returns : tie.Need-returns
 unfolding zeros
-returns c =
-    let pre = c .before .before .before .before .before .before .before .before .before .before .before .before .before .before .before .before .before .before .before .before .before .before .before .before .pre in
-    stepped (c .before .before .before .before .before .before .before .before .before .before .before .before .before .listed .ensures (pre .1 .1 .0) refl) (c .before .before .before .before .before .before .before .step-labels .ensures) (c .before .before .replaced .ensures _ (pre .1 .1 .1 .1 .1))
+returns c = λ g z.
+    stepped (c .before .before .before .before .before .before .before .before .before .before .before .before .before .listed .ensures ∙ listing-own _ (g .own) _ _ _ _ refl)
+    (c .before .before .before .before .before .before .before .step-labels .ensures _ g)
+    (c .before .before .replaced .ensures _ ∙ replaced-own _ _ _ _ _ _ _ z)
 
 pub take-step-spec : {M : Type 1} → statement M
 take-step-spec = tie.close (tie.spec slice-aggregate-listed add-listed listed-requires slice-aggregate-step-labels step-labels-requires add-replaced slice-aggregate-replaced replaced-requires same-length same-length-2 same-length-3 returns)
