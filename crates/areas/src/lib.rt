@@ -13,7 +13,7 @@ fn difference(a: u16, b: u16) -> i64
 }
 
 // Doubled area of the triangle a, b, c from its corners' coordinates.
-pub fn corner(ax: u16, ay: u16, bx: u16, by: u16, cx: u16, cy: u16) -> i64
+fn corner(ax: u16, ay: u16, bx: u16, by: u16, cx: u16, cy: u16) -> i64
     ensures { λ r. ⌜ r ≡ cornerAt ax ay bx by cx cy ⌝ }
     ensures { λ r. ⌜ positive r ≡ counterclockwise ax ay bx by cx cy ⌝ }
     ensures { λ r. ⌜ isZero r ≡ flat ax ay bx by cx cy ⌝ }

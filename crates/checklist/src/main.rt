@@ -54,23 +54,19 @@ fn check_written(tally: usize, a: Sheet, b: Sheet) -> usize {
     verdicts::tell_files(tally, &one, first, &other, second)
 }
 
-// The checks of the chart that is drawn after a turn, in place of an old one.
-fn check_afresh(tally: usize, opened: Sheet, old: Sheet, turned: Sheet) -> usize {
-    let charted = calls::chart(turned);
-    let new = charted.sheet;
-    let anew = drawn_anew(opened, turned);
-    let after = verdicts::tell_afresh(tally, old, new, reports::same(new, anew));
-    check_written(after, new, anew)
-}
-
 // The checks of the turn of a chart's first edge that turns alone.
 fn check_turn(tally: usize, opened: Sheet, sheet: Sheet) -> usize {
     let number = first_turn(sheet);
     let outcome = turn_by(sheet, number);
     let turned = outcome.sheet;
-    let after = verdicts::tell_turn(tally, number, turned, reports::same(turned, turned));
+    let charted = calls::chart(turned);
+    let new = charted.sheet;
+    let anew = drawn_anew(opened, turned);
+    let undrawn = reports::same(turned, turned);
+    let same = reports::same(new, anew);
+    let after = verdicts::tell_turn(tally, number, sheet, turned, undrawn, new, same);
     if number < 102400 {
-        return check_afresh(after, opened, sheet, turned);
+        return check_written(after, new, anew);
     }
     after
 }
@@ -80,24 +76,19 @@ fn check_chart(tally: usize, sheet: Sheet) -> usize {
     let swept = calls::sweep(sheet);
     let charted = calls::chart(swept.sheet);
     let after = verdicts::tell_chart(tally, swept, charted);
-    if sheet::rank_of(sheet::stage_of(charted.sheet)) == 3 {
-        return check_turn(after, sheet, charted.sheet);
+    if charted.sheet.w == 0 {
+        return after;
     }
-    after
+    check_turn(after, sheet, charted.sheet)
 }
 
 // The checks of a file, where it is accepted.
 fn check_file(tally: usize, number: usize, file: &[u8]) -> usize {
     let outcome = opening::open_file(sheet::fresh_sheet(), file);
     let sheet = outcome.sheet;
-    let after = verdicts::tell_file(
-        tally,
-        number,
-        outcome,
-        reports::same(sheet, sheet),
-        reports::scan(sheet),
-    );
-    if sheet::rank_of(sheet::stage_of(sheet)) == 0 {
+    let same = reports::same(sheet, sheet);
+    let after = verdicts::tell_file(tally, number, outcome, same, reports::scan(sheet));
+    if sheet.n == 0 {
         return after;
     }
     check_chart(after, sheet)

@@ -30,7 +30,7 @@ pub fn read_item(space: &mut [u8]) -> usize
 }
 
 // Writes a text from an index on, up to its next `#`, and a number in place of that; the index behind it.
-pub fn show_part(text: &[u8], from: usize, x: usize) -> usize
+fn show_part(text: &[u8], from: usize, x: usize) -> usize
     ensures { λ r. ⌜ r ≡ behind (now (text .entry)) from ⌝ }
 {
     let mut i = from;

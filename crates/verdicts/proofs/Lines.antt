@@ -16,7 +16,7 @@ use Rattle.areas.specs.Corners.{points}
 use Rattle.survey.specs.declared.Areas.{Areas}
 use Rattle.survey.specs.Surveys.{surveyed}
 use Rattle.comparison.specs.Bytes.{agreeing}
-use Rattle.verdicts.specs.Verdicts.{tallied, answerNumber, sameNumber, stageNumber, undrawn, openedTally, triple, fileTally, chartDue, drawnTally, filled, areasTally, chartTally, turnTally, lengthOf, written}
+use Rattle.verdicts.specs.Verdicts.{tallied, answerNumber, sameNumber, stageNumber, undrawn, openedTally, triple, fileTally, chartDue, drawnTally, filled, areasTally, chartTally, afresh, turnTally, lengthOf, written}
 
 -- ---- a tally
 pub tallied-yes : (t : ℕ) {b : Bool} → b ≡ true → (t + 1) % 2 ^ 64 ≡ tallied t b
@@ -94,14 +94,14 @@ module _ (t : ℕ) (o : Outcome) {x k : ℕ} (drawn : x ≡ drawnTally t o) (sta
   chart-areas e = ap (λ (y : ℕ). areasTally y (o .sheet)) drawn ∙ sym (rw (eq-eqb (stageNumber (o .sheet)) 3 (sym stage ∙ e)))
 
 -- ---- a turn
-module _ (t k : ℕ) (s : Sheet) (c : Compared) where
-  pub turn-none : 102400 ≤ k → tallied t true ≡ turnTally t k s c
+module _ (t k : ℕ) (s : Sheet) (c d : Compared) where
+  pub turn-none : 102400 ≤ k → tallied t true ≡ turnTally t k s c d
   unfolding turnTally
   turn-none h = sym (rw (le-ltb k 102400 h))
 
-  pub turn-one : k < 102400 → {b : Bool} → b ≡ undrawn s c → tallied t b ≡ turnTally t k s c
+  pub turn-one : k < 102400 → {x : ℕ} → x ≡ tallied t (undrawn s c) → tallied x (afresh d) ≡ turnTally t k s c d
   unfolding turnTally
-  turn-one h e = ap (tallied t) e ∙ sym (rw (lt-ltb k 102400 h))
+  turn-one h e = ap (λ (y : ℕ). tallied y (afresh d)) e ∙ sym (rw (lt-ltb k 102400 h))
 
 -- ---- two files
 module _ (a b : List ℕ) (k l : Written) {m n : ℕ} (first : m ≡ lengthOf k) (second : n ≡ lengthOf l) where

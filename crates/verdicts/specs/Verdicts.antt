@@ -81,13 +81,13 @@ areasTally t s = tallied t (filled (surveyed (heldPlan s) (points (s .xs) (s .ys
 unfoldable pub chartTally : ℕ → Outcome → ℕ
 chartTally t o = cond (eqb (stageNumber (o .sheet)) 3) (areasTally (drawnTally t o) (o .sheet)) (drawnTally t o)
 
--- turned: a turn leaves the sheet undrawn
-unfoldable pub turnTally : ℕ → ℕ → Sheet → compared.Compared → ℕ
-turnTally t k s c = tallied t (cond (ltb k 102400) (undrawn s c) true)
-
 -- afresh: same says yes
 unfoldable pub afresh : compared.Compared → Bool
 afresh c = eqb (sameNumber c) 0
+
+-- turned, and afresh: a turn, if there is one, leaves the sheet undrawn, and the new chart is the one drawn anew
+unfoldable pub turnTally : ℕ → ℕ → Sheet → compared.Compared → compared.Compared → ℕ
+turnTally t k s c d = cond (ltb k 102400) (tallied (tallied t (undrawn s c)) (afresh d)) (tallied t true)
 
 -- the length of a file; 0 where it is refused
 unfoldable pub lengthOf : written-as.Written → ℕ

@@ -205,14 +205,10 @@ pub fn tell_chart(tally: usize, swept: Outcome, charted: Outcome) -> usize
     check_areas(after, charted.sheet)
 }
 
-// The check that the turn with this number, 512u + 2v + direction for the edge from u to v, leaves no chart; from 102400 on there is none that turns alone.
-pub fn tell_turn(tally: usize, number: usize, sheet: Sheet, compared: Compared) -> usize
-    ensures { λ r. ⌜ r ≡ turnTally tally number sheet compared ⌝ }
+// The check that a turn leaves no chart.
+fn check_turned(tally: usize, number: usize, turned: Sheet, compared: Compared) -> usize
+    ensures { λ r. ⌜ r ≡ tallied tally (undrawn turned compared) ⌝ }
 {
-    if number >= 102400 {
-        io::write_all(1, b"  turned: no edge turns alone");
-        return judge(tally, true);
-    }
     console::show(
         b"  turned: edge #,# direction #, ",
         number / 512,
@@ -221,11 +217,11 @@ pub fn tell_turn(tally: usize, number: usize, sheet: Sheet, compared: Compared) 
         0,
         0,
     );
-    judge(tally, is_undrawn(sheet, compared))
+    judge(tally, is_undrawn(turned, compared))
 }
 
 // The check that the chart drawn after a turn, in place of an old one, is the one that is drawn anew.
-pub fn tell_afresh(tally: usize, old: Sheet, new: Sheet, compared: Compared) -> usize
+fn check_afresh(tally: usize, old: Sheet, new: Sheet, compared: Compared) -> usize
     ensures { λ r. ⌜ r ≡ tallied tally (afresh compared) ⌝ }
 {
     console::show(
@@ -237,6 +233,26 @@ pub fn tell_afresh(tally: usize, old: Sheet, new: Sheet, compared: Compared) -> 
         0,
     );
     judge(tally, show_same(compared) == 0)
+}
+
+// The checks of the turn with this number, 512u + 2v + direction for the edge from u to v: what same says of the sheet that it leaves, and of the new chart and the one drawn anew. From 102400 on there is no turn.
+pub fn tell_turn(
+    tally: usize,
+    number: usize,
+    old: Sheet,
+    turned: Sheet,
+    first: Compared,
+    new: Sheet,
+    second: Compared,
+) -> usize
+    ensures { λ r. ⌜ r ≡ turnTally tally number turned first second ⌝ }
+{
+    if number >= 102400 {
+        io::write_all(1, b"  turned: no edge turns alone");
+        return judge(tally, true);
+    }
+    let after = check_turned(tally, number, turned, first);
+    check_afresh(after, old, new, second)
 }
 
 // The length of a file; 0 where it is refused.

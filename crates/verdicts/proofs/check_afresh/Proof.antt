@@ -1,14 +1,14 @@
--- tell_afresh meets its contract.
+-- check_afresh meets its contract.
 use Prim.Native.Nat.{ℕ}
 use mathlib.Core.Path.{ap, _∙_}
 use lib.Dec.{eqb}
 use Rattle.verdicts.specs.Verdicts.{tallied, afresh}
 use native.Mathlib.Omega.{arith}
 use borrow.Author.Needs.{needs}
-use Rattle.verdicts.proofs.tell_afresh.Statement.{statement}
-use Rattle.verdicts.proofs.tell_afresh.Tie as tie
-use Rattle.verdicts.proofs.tell_afresh.Reads as reads
-use Rattle.verdicts.proofs.tell_afresh.Lts as lts
+use Rattle.verdicts.proofs.check_afresh.Statement.{statement}
+use Rattle.verdicts.proofs.check_afresh.Tie as tie
+use Rattle.verdicts.proofs.check_afresh.Reads as reads
+use Rattle.verdicts.proofs.check_afresh.Lts as lts
 use Rattle.console.proofs.show.Reads as show-reads
 use Rattle.numbers.proofs.wide_word.Reads as wide-word-reads
 use Rattle.verdicts.proofs.judge.Reads as judge-reads
@@ -42,8 +42,8 @@ returns : tie.Need-returns
 unfolding afresh
 returns c = c .judge .ensures ∙ ap (λ (k : ℕ). tallied (c .before .before .before .before .before .before .before .before .args .tally) (eqb k 0)) (c .before .show-same .ensures)
 
-pub tell-afresh-spec : {M : Type 1} → statement M
-tell-afresh-spec =
+pub check-afresh-spec : {M : Type 1} → statement M
+check-afresh-spec =
     tie.close
     (tie.spec
     slice-aggregate-show
