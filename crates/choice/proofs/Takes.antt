@@ -10,9 +10,10 @@ use lib.Dec.{eqb, ltb}
 use borrow.Author.Tests.{eqb-true, eqb-false, ltb-true, not-false}
 use Rattle.model.specs.Plan.{Plan, adjacent}
 use Rattle.places.specs.Places.{adjacentBy}
+use Rattle.pockets.specs.Pockets.{Pocket}
 use Rattle.choice.specs.declared.Lead.{Lead}
 use Rattle.choice.specs.Run.{lead, same, barred, knot}
-use Rattle.choice.specs.Search.{Reason, edge, old, twice, right, beside, later, split, Pocket, Lowest, Takes}
+use Rattle.choice.specs.Search.{Reason, edge, old, twice, right, beside, later, split, Lowest, Takes}
 
 -- ---- the lowest position
 module _ {t : List ℕ} {p : Plan} {place : List ℕ} {m c : ℕ} where

@@ -21,6 +21,7 @@ use Rattle.choice.specs.declared.Lead.{Lead}
 use Rattle.choice.specs.Run.{Trail, lead, trail, trailOf, startTrail, placed, same}
 use Rattle.choice.specs.Search.{Trails, Reason, edge, old, twice, right, beside, later, split, Takes, Stops, bare, barred, Extends}
 use Rattle.frontier.proofs.Under.{below-is, depth-le, back-suc}
+use Rattle.pockets.proofs.Pocketed.{back-split}
 
 -- what stands in a list after a store: what was stored, or what stood there
 pub set-cases : (l : List ℕ) (c x d t : ℕ) → getD (set l c x) d 0 ≡ suc t → ((d ≡ c) × (x ≡ suc t)) ⊎ (getD l d 0 ≡ suc t)
@@ -90,23 +91,6 @@ module _ {p : Plan} where
           (c, List·Memᴰ·head refl, ap (λ (u : ℕ). adjacent p u c) at ∙ sym (adjacent-told p own w c refl) ∙ a)
 
 -- ---- what is below a position, put before the list from right to left
--- what is taken of a ring, reversed, in two parts around an entry
-back-split : (l : List ℕ) (t k : ℕ) → t + suc k ≤ length l → (pre : List ℕ) × (reverse (take (t + suc k) l) ≡ pre ++ (getD l t 0 ∷ reverse (take t l)))
-back-split l t zero h = let z : t + 1 ≡ suc t = omega arith in ([], ap (λ (n : ℕ). reverse (take n l)) z ∙ back-suc l t (omega arith))
-back-split l t (suc k) h =
-    let (pre, e) = back-split l t k (omega arith) in
-    let z : t + suc (suc k) ≡ suc (t + suc k) = omega arith in
-    (getD l (t + suc k) 0 ∷ pre, ap (λ (n : ℕ). reverse (take n l)) z ∙ back-suc l (t + suc k) (omega arith) ∙ ap {B = List ℕ} (λ m. getD l (t + suc k) 0 ∷ m) e)
-
--- an entry that is read before the left frontier neighbour is below
-pub under-below : (p : Plan) (f : List ℕ) (k t : ℕ) → t < depth p f k → List·Memᴰ (getD (under p f k) t 0) (below p f k)
-under-below p f k t h =
-    let long = depth-le p f k in
-    let d = depth p f k - suc t in
-    let (pre, q) = back-split (under p f k) t d (omega arith) in
-    let z : depth p f k ≡ t + suc d = omega arith in
-    subst (List·Memᴰ (getD (under p f k) t 0)) (sym (below-is p f k ∙ ap (λ (i : ℕ). reverse (take i (under p f k))) z ∙ q)) (Memᴰ·append-right pre (List·Memᴰ·head refl))
-
 -- the loop: t contexts below position k are put before the list
 pub record Grows (p : Plan) (f : List ℕ) (m k : ℕ) (old : Trail) (t : ℕ) (now : Trail) : Type 0 where
   pub holds : (l : List ℕ) → Trails p f m l old → Trails p f m (reverse (take t (under p f k)) ++ l) now

@@ -11,6 +11,7 @@ use Rattle.model.specs.Sweep.{State, below, chordless, eligible}
 use Rattle.places.specs.Places.{placesOf, adjacentBy}
 use Rattle.frontier.specs.declared.Line.{Line}
 use Rattle.frontier.specs.Front.{Sane, Front}
+use Rattle.pockets.specs.Pockets.{Pocket}
 use Rattle.choice.specs.declared.Lead.{Lead}
 use Rattle.choice.specs.declared.Found.{Found}
 use Rattle.choice.specs.declared.Found.the-variants.{At, Nothing}
@@ -34,13 +35,6 @@ pub record Trails (p : Plan) (f : List ℕ) (m : ℕ) (l : List ℕ) (t : Trail)
   pub first : t .some ≡ true → (rest : List ℕ) × (l ≡ t .first ∷ rest)
   pub marks : (c : ℕ) → (getD (t .on) c 0 ≡ 0 → ⊥) → List·Memᴰ c l
   pub lo : t .lo < m → (c : ℕ) × List·Memᴰ c l × (adjacent p (getD f (t .lo) 0) c ≡ true)
-
--- c is below a position, and not listed by the next, which is before k
-pub record Pocket (p : Plan) (f : List ℕ) (c k : ℕ) : Type 0 where
-  pub at : ℕ
-  pub before : suc at < k
-  pub under : List·Memᴰ c (below p f at)
-  pub apart : adjacent p (getD f (suc at) 0) c ≡ false
 
 -- why c, which is below position k, may not come before the list: a border context, one that is or was on the frontier, one that is on the list, one that lists a context on the frontier beyond j or, before a list, at j, or one of the list but its first, one in a pocket
 pub data Reason (p : Plan) (f on seen place : List ℕ) (any : Bool) (first c j k : ℕ) : Type 0 where

@@ -1,16 +1,16 @@
 // The pair of positions that a step of the sweep takes: the largest j, then the largest i, that are eligible.
 ghost use mathlib.Core.Path.{_≡_};
 ghost use mathlib.Core.Bool.{true, false};
-ghost use mathlib.Core.List.{List, [], List·Memᴰ};
+ghost use mathlib.Core.List.{List, []};
 ghost use Prim.Native.Nat.{ℕ, suc, _+_, _-_, _<_, _≤_};
 ghost use lib.ListN.{getD, length};
 ghost use Rattle.model.specs.Plan.{Plan};
-ghost use Rattle.model.specs.Sweep.{State, below, choose, choices};
+ghost use Rattle.model.specs.Sweep.{State, choose, choices};
 ghost use Rattle.rings.specs.Tables.{rows};
 ghost use Rattle.places.specs.Places.{placesOf};
 ghost use Rattle.frontier.specs.Run.{line};
 ghost use Rattle.choice.specs.Run as run;
-ghost use Rattle.choice.specs.Search.{foundAs, Ready, Lowest, Pocket, Takes, Extends, Stops, Best};
+ghost use Rattle.choice.specs.Search.{foundAs, Ready, Lowest, Takes, Extends, Stops, Best};
 ghost use Rattle.choice.specs.Run.{trailOf};
 
 // What a search knows of the list so far, beside a mark for each context of it: whether there is one, its first context, the lowest frontier position that lists some context of it. It is not ok where the list is good for no pair.
@@ -102,58 +102,6 @@ fn lower(places: &[u8], lo: usize, x: usize, w: usize, c: usize) -> usize
     x - 1
 }
 
-// Is c below position a?
-fn is_below<'a>(
-    places: &'a [u8],
-    starts: &'a [u16],
-    sizes: &'a [u8],
-    entries: &'a [u16],
-    n: usize,
-    f: &'a [u16],
-    a: usize,
-    c: usize,
-) -> bool
-    ensures { λ r. ⌜ (now (places .entry) ≡ placesOf (rows (now (starts .entry)) (now (sizes .entry)) (now (entries .entry)) n) → r ≡ true → List·Memᴰ c (below (rows (now (starts .entry)) (now (sizes .entry)) (now (entries .entry)) n) (now (f .entry)) a)) ⌝ }
-{
-    let x = frontier::below::turn_by(places, starts, sizes, entries, n, f, a);
-    let q = frontier::below::depth(starts, sizes, entries, n, f, a, x);
-    let u = arrays::num(f, a);
-    let mut t = 0;
-    while t < q {
-        if c == numbers::wide_word(frontier::onward_at(starts, sizes, entries, n, u, x, t)) {
-            return true;
-        }
-        t += 1;
-    }
-    false
-}
-
-// Is c below a position from lo on, and not listed by the next, which is before k?
-fn pocket<'a>(
-    places: &'a [u8],
-    starts: &'a [u16],
-    sizes: &'a [u8],
-    entries: &'a [u16],
-    n: usize,
-    f: &'a [u16],
-    lo: usize,
-    k: usize,
-    c: usize,
-) -> bool
-    ensures { λ r. ⌜ (now (places .entry) ≡ placesOf (rows (now (starts .entry)) (now (sizes .entry)) (now (entries .entry)) n) → r ≡ true → Pocket (rows (now (starts .entry)) (now (sizes .entry)) (now (entries .entry)) n) (now (f .entry)) c k) ⌝ }
-{
-    let e = numbers::minus(k, 1);
-    let mut a = lo;
-    while a < e {
-        let w = arrays::num(f, a + 1);
-        if !places::is_adjacent_by(places, starts, sizes, entries, n, w, c) {
-            return is_below(places, starts, sizes, entries, n, f, a, c);
-        }
-        a += 1;
-    }
-    false
-}
-
 // The lead of the list with c put before it, by a look at each neighbour of c. It is not ok where one stands on the frontier beyond j, or would not be adjacent to c, or where c is in a pocket before k.
 fn look<'a>(
     places: &'a [u8],
@@ -190,7 +138,7 @@ fn look<'a>(
         t += 1;
     }
     Lead {
-        ok: !pocket(places, starts, sizes, entries, n, f, lo, k, c),
+        ok: !pockets::is_pocketed(places, starts, sizes, entries, n, f, lo, k, c),
         some: true,
         first: c,
         lo: numbers::lesser(lead.lo, lo),

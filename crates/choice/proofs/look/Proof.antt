@@ -7,6 +7,7 @@ use Rattle.model.proofs.Plans.{mem-adjacent}
 use Rattle.model.proofs.Eligible.{getD-mem}
 use Rattle.rings.specs.Tables.{rows}
 use Rattle.rings.proofs.Rows.{ring-size}
+use Rattle.pockets.proofs.Pocketed.{pocket-told}
 use Rattle.choice.specs.Search.{Lowest}
 use Rattle.choice.proofs.Takes.{lowest-start, lowest-on, knot-reason, takes-no, takes-looked}
 use native.Mathlib.Omega.{arith}
@@ -57,14 +58,16 @@ loop-again c =
     let a = c .before .before .before .before .before .before .before .before .before .before .before .before .before .before .before .args in
     lowest-on (c .before .before .before .before .before .before .loop .inv) (c .lower .ensures (rows (a .starts .now) (a .sizes .now) (a .entries .now) (a .n)) (a .place .now) (a .m) (c .before .before .before .num .ensures .0))
 
-pocket-requires : tie.Need-pocket-requires Inv-loop μ-loop
-pocket-requires c κs = search needs
+is-pocketed-requires : tie.Need-is-pocketed-requires Inv-loop μ-loop
+is-pocketed-requires c κs = search needs
 
 lesser-requires : tie.Need-lesser-requires Inv-loop μ-loop
 lesser-requires c κs = search needs
 
 returns-2 : tie.Need-returns-2 Inv-loop μ-loop
-returns-2 c = λ seen other own. takes-looked (c .before .before .before .before .before .before .before .before .before .before .before .before .args .lead) other (c .before .pocket .ensures own) (c .before .before .before .loop .inv) (c .lesser .ensures)
+returns-2 c =
+    let a = c .before .before .before .before .before .before .before .before .before .before .before .before .args in
+    λ seen other own. takes-looked (a .lead) other (pocket-told (rows (a .starts .now) (a .sizes .now) (a .entries .now) (a .n)) own (a .f .now) (a .c) _ (a .k) (c .before .is-pocketed .ensures)) (c .before .before .before .loop .inv) (c .lesser .ensures)
 
 pub look-spec : {M : Type 1} → statement M
-look-spec = tie.close (tie.spec Inv-loop μ-loop size-of-requires loop-holds neighbour-at-requires num-requires knot-requires returns lower-requires add-t loop-less loop-again pocket-requires lesser-requires returns-2)
+look-spec = tie.close (tie.spec Inv-loop μ-loop size-of-requires loop-holds neighbour-at-requires num-requires knot-requires returns lower-requires add-t loop-less loop-again is-pocketed-requires lesser-requires returns-2)
