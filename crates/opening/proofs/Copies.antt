@@ -15,7 +15,7 @@ use Rattle.lists.proofs.Stretches.{stretch-joined, length-joined-more}
 use Rattle.model.specs.Plan.{entryCount}
 use Rattle.rings.specs.Tables.{startOf, startsOf}
 use Rattle.rings.specs.Lent.{wordsAt, bodyAt, lent}
-use Rattle.rings.proofs.Rows.{start-first, start-more}
+use Rattle.rings.proofs.Rows.{start-first, start-more, ring-ends}
 use Rattle.lent.proofs.Rings.{wordOf, length-words-at, getD-words-at}
 use Rattle.lent.proofs.Copied.{entry-count-lent}
 use Rattle.framing.specs.Layouts.{planIn}
@@ -43,22 +43,6 @@ list-map l k e =
     getD-map-from f 0 k i 0 b ∙ ap f z)
 
 -- ---- the entries of all rings
--- the rings before one have at most as many entries as all
-pub start-within : (sizes : List ℕ) (u k : ℕ) → startOf sizes u ≤ startOf sizes (u + k)
-start-within sizes u zero = let z : startOf sizes (u + 0) ≡ startOf sizes u = ap (startOf sizes) (omega arith) in omega arith
-start-within sizes u (suc k) =
-    let z : startOf sizes (u + suc k) ≡ startOf sizes (suc (u + k)) = ap (startOf sizes) (omega arith) in
-    let m = start-more sizes (u + k) in
-    let r = start-within sizes u k in
-    omega arith
-
-pub start-below : (sizes : List ℕ) (u n : ℕ) → u < n → startOf sizes u + getD sizes u 0 ≤ startOf sizes n
-start-below sizes u n h =
-    let z : startOf sizes (suc u + (n - suc u)) ≡ startOf sizes n = ap (startOf sizes) (omega arith) in
-    let m = start-more sizes u in
-    let r = start-within sizes (suc u) (n - suc u) in
-    omega arith
-
 module _ (file sizes : List ℕ) (n : ℕ) where
   abbrev rings : List (List ℕ)
   rings = planIn file sizes n .rings
@@ -117,7 +101,7 @@ copies-start {sizes = sizes} e = let z = start-first sizes in record { reached =
 module _ {file sizes : List ℕ} {n u i at : ℕ} {es : List ℕ} (inv : Copies file sizes n u i at es) where
   -- there is room for one more entry of u's ring
   pub copies-room : {k : ℕ} → startOf sizes n ≤ 1186 → u < n → k ≡ getD sizes u 0 → i < k → at < 1186
-  copies-room b h q l = let m = start-below sizes u n h in let s = inv .stands in omega arith
+  copies-room b h q l = let m = ring-ends sizes u n h in let s = inv .stands in omega arith
 
   pub copies-entry : {k x i′ at′ : ℕ} {es′ : List ℕ} → startOf sizes n ≤ 1186 → n ≤ 200 → u < n → k ≡ getD sizes u 0 → i < k → x ≡ wordOf file (10 + 4 * u + 2 * at) → es′ ≡ set es at x → at′ ≡ suc at → i′ ≡ suc i → Copies file sizes n u i′ at′ es′
   copies-entry {k} {x} {i′} {at′} b few h q l w e f g =

@@ -16,34 +16,16 @@ use Rattle.lists.specs.Parts.{concat}
 use Rattle.lists.specs.Spans.{zeros}
 use Rattle.lists.proofs.Spans.{length-zeros}
 use Rattle.model.specs.Plan.{Plan, Dart, count, neighbour, ring, dartsFrom, darts}
-use Rattle.model.specs.Labels.{start, labelOf}
+use Rattle.model.specs.Labels.{labelOf}
 use Rattle.model.specs.Chart.{Constraint, constraint, xConstraint, yConstraint, xConstraints, yConstraints, tie, slope}
-use Rattle.rings.specs.Tables.{startOf, startsOf, sizeOf, rows, table}
-use Rattle.rings.proofs.Rows.{start-more, size-inside, size-outside, count-rows, ring-size, ring-at}
+use Rattle.rings.specs.Tables.{startOf, startsOf, sizeOf, table}
+use Rattle.rings.proofs.Rows.{start-more, size-inside, size-outside, count-rows, ring-size, ring-at, ring-ends}
 
 -- ---- lists joined
 module _ {A B : Type 0} where
   join-append : (f : A → List B) (l m : List A) → concat (map f (l ++ m)) ≡ concat (map f l) ++ concat (map f m)
   join-append f [] m = refl
   join-append f (a ∷ l) m = ap (λ (r : List B). f a ++ r) (join-append f l m) ∙ sym (append-assoc (f a) (concat (map f l)) (concat (map f m)))
-
--- ---- where each ring's labels begin
-module _ (sizes : List ℕ) where
-  pub start-mono : (u k : ℕ) → startOf sizes u ≤ startOf sizes (u + k)
-  start-mono u zero = let q : startOf sizes (u + 0) ≡ startOf sizes u = ap (startOf sizes) (omega arith) in omega arith
-  start-mono u (suc k) =
-      let q : startOf sizes (u + suc k) ≡ startOf sizes (suc (u + k)) = ap (startOf sizes) (omega arith) in
-      let r = start-mono u k in
-      let m = start-more sizes (u + k) in
-      omega arith
-
-  -- a ring ends where the last ring ends, or before
-  pub ring-ends : (u n : ℕ) → u < n → startOf sizes u + getD sizes u 0 ≤ startOf sizes n
-  ring-ends u n h =
-      let m = start-more sizes u in
-      let r = start-mono (suc u) (n - suc u) in
-      let q : startOf sizes (suc u + (n - suc u)) ≡ startOf sizes n = ap (startOf sizes) (omega arith) in
-      omega arith
 
 -- the neighbour at i of u's ring, from its entry
 pub dart-at : (starts sizes es : List ℕ) (n u i s e v : ℕ) → starts ≡ startsOf sizes → i < sizeOf sizes n u → s ≡ getD starts u 0 → e ≡ getD es (s + i) 0 → v ≡ neighbour e → v ≡ getD (ring (table sizes es n) u) i 0

@@ -1,10 +1,10 @@
 -- What the walk over the darts keeps: the constraints of both coordinates so far, and the marks of the ring that it is in.
-use Prim.Native.Nat.{ℕ, zero, suc, _+_, _-_, _≤_, _<_}
+use Prim.Native.Nat.{ℕ, suc, _+_, _-_, _≤_, _<_}
 use mathlib.Core.Path.{_≡_, refl, sym, ap, _∙_}
 use mathlib.Core.List.{List}
-use mathlib.Core.Bool.{Bool, true, false}
+use mathlib.Core.Bool.{true, false}
 use native.Mathlib.Omega.{arith}
-use lib.ListN.{length, getD, set, replicate}
+use lib.ListN.{getD, set, replicate}
 use Rattle.constraints.specs.Constraints.{listed}
 use Rattle.lists.specs.Parts.{indexOf}
 use Rattle.lists.specs.Spans.{zeros}
@@ -12,12 +12,12 @@ use Rattle.lists.proofs.Ranges.{getD-map-from}
 use Rattle.model.specs.Plan.{neighbour, ring}
 use Rattle.model.specs.Labels.{unlabelled, labelOf}
 use Rattle.rings.specs.Tables.{startOf, startsOf, sizeOf, rows, table}
-use Rattle.rings.proofs.Rows.{start-first, start-more, size-inside, ring-size, ring-at}
+use Rattle.rings.proofs.Rows.{start-first, start-more, size-inside, ring-size, ring-at, ring-ends}
 use Rattle.labels.proofs.Places.{label-there}
 use Rattle.placement.specs.Marking.{Marked, DartAt}
 use Rattle.placement.specs.Asking.{asked, tiedTo, endOf, gapOf, keptOf}
 use Rattle.placement.proofs.Marks.{marked-start, marked-next, dart-most}
-use Rattle.placement.proofs.Asking.{Asking, asking-start, asking-room, asking-dart, asking-next, asking-end, ring-ends, dart-at}
+use Rattle.placement.proofs.Asking.{Asking, asking-start, asking-room, asking-dart, asking-next, asking-end, dart-at}
 
 -- the walk has come to the entry i of u's ring, which begins at a and has k entries
 pub record Walks (starts sizes es : List ℕ) (n : ℕ) (ls xl xh xg yl yh yg marks : List ℕ) (count u i a k : ℕ) : Type 0 where

@@ -31,6 +31,23 @@ start-more (k ∷ ks) (suc u) = let r = start-more ks u in omega arith
 pub start-next : (sizes : List ℕ) (u u′ k s : ℕ) → u′ ≡ suc u → s ≡ startOf sizes u → k ≡ getD sizes u 0 → s + k ≡ startOf sizes u′
 start-next sizes u u′ k s q e f = (λ i. e i + f i) ∙ sym (start-more sizes u) ∙ ap (startOf sizes) (sym q)
 
+-- no ring begins before an earlier one
+pub start-mono : (sizes : List ℕ) (u k : ℕ) → startOf sizes u ≤ startOf sizes (u + k)
+start-mono sizes u zero = let q : startOf sizes (u + 0) ≡ startOf sizes u = ap (startOf sizes) (omega arith) in omega arith
+start-mono sizes u (suc k) =
+    let q : startOf sizes (u + suc k) ≡ startOf sizes (suc (u + k)) = ap (startOf sizes) (omega arith) in
+    let r = start-mono sizes u k in
+    let m = start-more sizes (u + k) in
+    omega arith
+
+-- a ring ends where the last ring ends, or before
+pub ring-ends : (sizes : List ℕ) (u n : ℕ) → u < n → startOf sizes u + getD sizes u 0 ≤ startOf sizes n
+ring-ends sizes u n h =
+    let m = start-more sizes u in
+    let r = start-mono sizes (suc u) (n - suc u) in
+    let q : startOf sizes (suc u + (n - suc u)) ≡ startOf sizes n = ap (startOf sizes) (omega arith) in
+    omega arith
+
 -- the size of a ring, of a context and past the last
 pub size-inside : (sizes : List ℕ) (n u : ℕ) → u < n → sizeOf sizes n u ≡ getD sizes u 0
 unfolding sizeOf

@@ -1,20 +1,20 @@
 -- Faces counted one after another: over the entries of a ring, and over all contexts.
-use Prim.Native.Nat.{ℕ, zero, suc, _+_, _-_, _≤_, _<_}
+use Prim.Native.Nat.{ℕ, suc, _+_, _-_, _≤_, _<_}
 use mathlib.Core.Path.{_≡_, refl, sym, ap, _∙_}
 use mathlib.Core.List.{List, [], _∷_, _++_, map, map-map}
 use mathlib.Core.Bool.{Bool, true, false, cond, _&&_, false≢true}
 use native.Mathlib.Omega.{arith}
 use native.Mathlib.Numerals.{add-one}
 use lib.ListN.{length, getD}
-use lib.Seq.{ext-getD}
 use lib.IntN.{ℤ, pos, negsuc, natAbs}
 use lib.Signed.{leZ, nonNeg}
 use lib.Dec.{T, eqb, ltb}
 use borrow.Author.Tests.{lt-ltb, le-ltb, le-leb, eq-eqb}
 use Rattle.lists.specs.Ranges.{from}
 use Rattle.lists.specs.Parts.{concat}
-use Rattle.lists.specs.Spans.{stretch, span}
-use Rattle.lists.proofs.Spans.{span-more, span-end, length-stretch, getD-stretch}
+use Rattle.lists.specs.Spans.{span}
+use Rattle.lists.proofs.Spans.{span-more, span-end}
+use Rattle.lists.proofs.Stretches.{span-whole}
 use Rattle.model.specs.Plan.{Plan, Dart, Face, count, ring, dartsFrom, step, walk, onInnerFace, facesFrom, faces}
 use Rattle.model.specs.Chart.{Chart}
 use Rattle.model.specs.Geometry.{area}
@@ -79,13 +79,6 @@ module _ (p : Plan) (k : Chart) (u v : ℕ) (s : Areas) where
         ap (λ (x : ℕ). withArea x s) (q ∙ ap (λ (x : ℕ). natural (area k (u ∷ v ∷ x ∷ []))) third) ∙ sym (rw (i, lt-ltb u v l, t))
 
 -- ---- the ring of u: while i < e { s = with_dart(s, u, ring[i]); i += 1; }
-span-whole : (l : List ℕ) (e : ℕ) → e ≡ length l → span l 0 e ≡ l
-span-whole l e q =
-    let z : e - 0 ≡ e = omega arith in
-    ap (stretch l 0) z
-    ∙ ext-getD 0 (stretch l 0 e) l (length-stretch l 0 e ∙ q)
-    (λ i h. let s = length-stretch l 0 e in getD-stretch l 0 e i (omega arith) ∙ ap (λ (j : ℕ). getD l j 0) (omega arith))
-
 pub record Around (p : Plan) (k : Chart) (u e : ℕ) (s₀ : Areas) (i : ℕ) (s : Areas) : Type 0 where
   pub same : counted k (facesFrom p u) s₀ ≡ counted k (concat (map (facesOn p u) (span (ring p u) i e))) s
 
