@@ -1,5 +1,5 @@
 -- A plan in flat arrays: what labels are put by, where the labels of a ring begin and end, labels put into an array.
-use Prim.Native.Nat.{ℕ, zero, suc, _+_, _-_, _≤_, _<_}
+use Prim.Native.Nat.{ℕ, suc, _+_, _-_, _≤_, _<_}
 use mathlib.Core.Path.{_≡_, refl, sym, ap, _∙_}
 use mathlib.Core.List.{List, [], _∷_, _++_, append-nil}
 use mathlib.Core.Bool.{Bool, true, false, cond}
@@ -11,7 +11,7 @@ use Rattle.lists.specs.Parts.{concat, indexOf}
 use Rattle.lists.specs.Spans.{zeros, padded}
 use Rattle.lists.proofs.Concats.{concat-append}
 use Rattle.lists.proofs.Places.{index-below}
-use Rattle.model.proofs.LabelCounts.{put-long, edges-long}
+use Rattle.model.proofs.LabelCounts.{put-long}
 use Rattle.model.specs.Plan.{Plan, Dart, count, neighbour, entries, ring, adjacent, entryCount}
 use Rattle.model.specs.Labels.{start, put, turned}
 use Rattle.model.specs.Sweep.{labelEdges}
