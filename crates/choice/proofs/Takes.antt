@@ -1,6 +1,6 @@
 -- What a look at the neighbours of a context says: why it may not come before the list, or what the list comes to with it.
 use Prim.Native.Nat.{ℕ, suc, _-_, _<_, min}
-use mathlib.Core.Path.{_≡_, refl, ap, sym, _∙_, subst}
+use mathlib.Core.Path.{_≡_, refl, sym, _∙_, subst}
 use mathlib.Core.Logic.{_⊎_, inl, inr, _≢_}
 use mathlib.Core.List.{List}
 use mathlib.Core.Bool.{Bool, true, false, cond, not, false≢true, true≢false}

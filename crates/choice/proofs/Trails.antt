@@ -2,7 +2,7 @@
 use Prim.Native.Nat.{ℕ, zero, suc, _+_, _-_, _≤_, _<_, min}
 use mathlib.Core.Path.{_≡_, refl, ap, sym, _∙_, subst}
 use mathlib.Core.Logic.{_⊎_, inl, inr, _≢_}
-use mathlib.Core.List.{List, [], _∷_, _++_, reverse, List·Memᴰ, List·Memᴰ·head, List·Memᴰ·tail, Memᴰ·append-right}
+use mathlib.Core.List.{List, [], _∷_, _++_, reverse, List·Memᴰ, List·Memᴰ·head, List·Memᴰ·tail}
 use mathlib.Core.Bool.{Bool, true, false, false≢true, true≢false}
 use native.Mathlib.Omega.{arith}
 use lib.ListN.{length, getD, set, take}
@@ -15,7 +15,6 @@ use Rattle.lists.specs.Spans.{zeros}
 use Rattle.places.specs.Places.{placesOf, adjacentBy}
 use Rattle.places.proofs.Look.{adjacent-told}
 use Rattle.model.specs.Plan.{Plan, adjacent}
-use Rattle.model.specs.Sweep.{below}
 use Rattle.frontier.specs.Run.{depth, under}
 use Rattle.choice.specs.declared.Lead.{Lead}
 use Rattle.choice.specs.Run.{Trail, lead, trail, trailOf, startTrail, placed, same}

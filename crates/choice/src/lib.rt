@@ -2,8 +2,8 @@
 ghost use mathlib.Core.Path.{_≡_};
 ghost use mathlib.Core.Bool.{true, false};
 ghost use mathlib.Core.List.{List, []};
-ghost use Prim.Native.Nat.{ℕ, suc, _+_, _-_, _<_, _≤_};
-ghost use lib.ListN.{getD, length};
+ghost use Prim.Native.Nat.{ℕ, _+_, _-_, _<_};
+ghost use lib.ListN.{getD};
 ghost use Rattle.model.specs.Plan.{Plan};
 ghost use Rattle.model.specs.Sweep.{State, choose, choices};
 ghost use Rattle.rings.specs.Tables.{rows};

@@ -1,6 +1,6 @@
 // Labels put on edges, by a table of positions and the starts of the rings.
 ghost use mathlib.Core.Path.{_≡_};
-ghost use Prim.Native.Nat.{ℕ, _<_};
+ghost use Prim.Native.Nat.{_<_};
 ghost use Rattle.lists.specs.Parts.{steps};
 ghost use Rattle.lists.specs.Spans.{span};
 ghost use Rattle.model.specs.Labels.{up, right};

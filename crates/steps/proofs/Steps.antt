@@ -13,8 +13,7 @@ use Rattle.lists.specs.Spans.{stretch, span, padded}
 use Rattle.model.specs.Outcome.{Outcome, accepted, refused, _>>=_}
 use Rattle.model.specs.Plan.{Plan, count, ring, north, east, south, west, entryCount}
 use Rattle.model.specs.Labels.{up, right}
-use Rattle.model.specs.Sweep.{State, labelEdges, product, top, bareLabels, firstState, listed, chordless, finished, finish, eligible, choose, choices, advance, sweepFrom}
-use Rattle.model.proofs.Outcomes.{not-both, same-value}
+use Rattle.model.specs.Sweep.{State, labelEdges, product, top, bareLabels, firstState, listed, finished, finish, eligible, choose, choices, advance, sweepFrom}
 use Rattle.model.proofs.Choices.{chosen, Chosen}
 use Rattle.frontier.specs.declared.Line.{Line}
 use Rattle.choice.specs.declared.Found.{Found}
@@ -25,7 +24,6 @@ use Rattle.choice.specs.Search.{foundAs, Ready}
 use Rattle.frontier.proofs.Lines.{stretch-part, stretch-all}
 use Rattle.pairs.proofs.Pairs.{gathered, unchorded, replaced-marks, next-front}
 use Rattle.ends.proofs.Finishing.{open-is, unfinished-told}
-use Rattle.steps.specs.declared.Ended.{Ended}
 use Rattle.steps.specs.Run.{stepLabels, Stepped, finishLabels, firstLabels, stuck, swept, Running, endedAs, ended}
 use Rattle.frontier.specs.Run.{line}
 use Rattle.edges.specs.Edges.{Guide}
@@ -34,7 +32,6 @@ use Rattle.pairs.specs.Run.{listing, replaced}
 use Rattle.model.proofs.LabelCounts.{edges-long, bare-long, first-long, from-long}
 use Rattle.steps.proofs.Arrays.{edges-padded}
 use Rattle.ends.proofs.Beginning.{firstFront, first-front, first-at, first-len}
-use Rattle.steps.specs.Run as run
 
 -- ---- a part of the frontier, in the array that holds it
 -- a part of a list, by what is taken first or dropped first

@@ -1,9 +1,8 @@
 // The steps of the sweep, from the first frontier until it is finished or stuck.
 ghost use mathlib.Core.Path.{_≡_};
 ghost use mathlib.Core.Bool.{true, false};
-ghost use Prim.Native.Nat.{ℕ, _+_, _<_};
-ghost use Rattle.lists.specs.Parts.{steps};
-ghost use Rattle.lists.specs.Spans.{span, zeros};
+ghost use Prim.Native.Nat.{_+_, _<_};
+ghost use Rattle.lists.specs.Spans.{zeros};
 ghost use Rattle.model.specs.Plan.{Plan};
 ghost use Rattle.rings.specs.Tables.{rows};
 ghost use Rattle.fit.specs.Fits.{fit};

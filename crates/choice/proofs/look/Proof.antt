@@ -1,6 +1,6 @@
 -- look meets its contract.
-use mathlib.Core.Path.{_≡_, refl, ap, sym, _∙_}
-use Prim.Native.Nat.{ℕ, _-_}
+use mathlib.Core.Path.{refl, ap, sym, _∙_}
+use Prim.Native.Nat.{_-_}
 use lib.ListN.{getD}
 use Rattle.model.specs.Plan.{ring, adjacent}
 use Rattle.model.proofs.Plans.{mem-adjacent}

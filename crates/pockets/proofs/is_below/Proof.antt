@@ -1,5 +1,5 @@
 -- is_below meets its contract.
-use mathlib.Core.Path.{_≡_, sym, ap, _∙_}
+use mathlib.Core.Path.{sym, _∙_}
 use Prim.Native.Nat.{ℕ, _-_}
 use lib.ListN.{getD}
 use lib.Dec.{eqb}

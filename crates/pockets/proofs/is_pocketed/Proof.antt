@@ -4,7 +4,7 @@ use Prim.Native.Nat.{ℕ, _-_}
 use borrow.Author.Tests.{not-true, not-false}
 use Rattle.rings.specs.Tables.{rows}
 use Rattle.places.specs.Places.{adjacentBy}
-use Rattle.pockets.specs.Pockets.{pocketFrom, pocketBy}
+use Rattle.pockets.specs.Pockets.{pocketBy}
 use Rattle.pockets.proofs.Pocketed.{Passes, passes-start, passes-hit, passes-on, passes-end}
 use native.Mathlib.Omega.{arith}
 use borrow.Author.Needs.{needs}
