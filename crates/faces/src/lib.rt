@@ -27,7 +27,7 @@ fn third_of<'a>(
 ) -> usize
     ensures { λ r. ⌜ r ≡ step (rows (now (starts .entry)) (now (sizes .entry)) (now (entries .entry)) n) (u, v) .1 ⌝ }
 {
-    rings::next_of(starts, sizes, entries, n, v, u)
+    search::next_of(starts, sizes, entries, n, v, u)
 }
 
 // Does the dart from u to v come back to itself after three face steps?
@@ -70,7 +70,7 @@ fn bad_border<'a>(
     if rings::neighbour_at(starts, sizes, entries, n, u, k - 1) != (u + 3) % 4 {
         return true;
     }
-    rings::is_adjacent(starts, sizes, entries, n, u, (u + 2) % 4)
+    search::is_adjacent(starts, sizes, entries, n, u, (u + 2) % 4)
 }
 
 // The lowest border context that breaks rule 8; 4 if none does.

@@ -104,7 +104,7 @@ fn label_place<'a>(
     ensures { λ r. ⌜ Marked (now (marks .exit)) (ring (rows (now (starts .entry)) (now (sizes .entry)) (now (entries .entry)) n) u) a (i + 1) ⌝ }
 {
     if v >= 200 {
-        return a + rings::index_of(starts, sizes, entries, n, u, v);
+        return a + search::index_of(starts, sizes, entries, n, u, v);
     }
     let mark = numbers::wide_word(marks[v]);
     if mark > a {

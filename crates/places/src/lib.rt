@@ -56,10 +56,10 @@ pub fn index_by<'a>(
     ensures { λ r. ⌜ r < 2 ^ 8 ⌝ }
 {
     if u >= 200 {
-        return rings::index_of(starts, sizes, entries, n, u, v);
+        return search::index_of(starts, sizes, entries, n, u, v);
     }
     if v >= 200 {
-        return rings::index_of(starts, sizes, entries, n, u, v);
+        return search::index_of(starts, sizes, entries, n, u, v);
     }
     let place = arrays::byte(places, 200 * u + v);
     if place == 0 {
@@ -81,10 +81,10 @@ pub fn is_adjacent_by<'a>(
     ensures { λ r. ⌜ r ≡ adjacentBy (now (places .entry)) (rows (now (starts .entry)) (now (sizes .entry)) (now (entries .entry)) n) u v ⌝ }
 {
     if u >= 200 {
-        return rings::is_adjacent(starts, sizes, entries, n, u, v);
+        return search::is_adjacent(starts, sizes, entries, n, u, v);
     }
     if v >= 200 {
-        return rings::is_adjacent(starts, sizes, entries, n, u, v);
+        return search::is_adjacent(starts, sizes, entries, n, u, v);
     }
     arrays::byte(places, 200 * u + v) != 0
 }

@@ -45,7 +45,7 @@ fn is_neighbour(sheet: Sheet, u: usize, v: usize) -> bool
     let sizes = sheet.sizes;
     let entries = sheet.entries;
     let starts = rings::starts_of(&sizes);
-    rings::is_adjacent(&starts, &sizes, &entries, numbers::wide_word(sheet.n), u, v)
+    search::is_adjacent(&starts, &sizes, &entries, numbers::wide_word(sheet.n), u, v)
 }
 
 // The context after v on the face of the dart from u to v.
@@ -55,7 +55,7 @@ fn third_of(sheet: Sheet, u: usize, v: usize) -> usize
     let sizes = sheet.sizes;
     let entries = sheet.entries;
     let starts = rings::starts_of(&sizes);
-    rings::next_of(&starts, &sizes, &entries, numbers::wide_word(sheet.n), v, u)
+    search::next_of(&starts, &sizes, &entries, numbers::wide_word(sheet.n), v, u)
 }
 
 // Is the walk that begins with the dart from u to v an inner face, and w its third context?

@@ -25,19 +25,19 @@ fn is_inner_face<'a>(
 ) -> bool
     ensures { λ r. ⌜ r ≡ innerFace (rows (now (starts .entry)) (now (sizes .entry)) (now (entries .entry)) n) a b c ⌝ }
 {
-    if rings::next_of(starts, sizes, entries, n, b, a) != c {
+    if search::next_of(starts, sizes, entries, n, b, a) != c {
         return false;
     }
     if faces::is_outer(a, b) {
         return false;
     }
-    if !rings::is_adjacent(starts, sizes, entries, n, a, b) {
+    if !search::is_adjacent(starts, sizes, entries, n, a, b) {
         return false;
     }
-    if rings::next_of(starts, sizes, entries, n, c, b) != a {
+    if search::next_of(starts, sizes, entries, n, c, b) != a {
         return false;
     }
-    rings::next_of(starts, sizes, entries, n, a, c) == b
+    search::next_of(starts, sizes, entries, n, a, c) == b
 }
 
 // Are a, b, c mutual neighbours that are no inner face, walked either way?
@@ -52,13 +52,13 @@ fn encloses<'a>(
 ) -> bool
     ensures { λ r. ⌜ r ≡ enclosing (rows (now (starts .entry)) (now (sizes .entry)) (now (entries .entry)) n) (a, b, c) ⌝ }
 {
-    if !rings::is_adjacent(starts, sizes, entries, n, a, c) {
+    if !search::is_adjacent(starts, sizes, entries, n, a, c) {
         return false;
     }
-    if !rings::is_adjacent(starts, sizes, entries, n, b, c) {
+    if !search::is_adjacent(starts, sizes, entries, n, b, c) {
         return false;
     }
-    if !rings::is_adjacent(starts, sizes, entries, n, a, b) {
+    if !search::is_adjacent(starts, sizes, entries, n, a, b) {
         return false;
     }
     if is_inner_face(starts, sizes, entries, n, a, b, c) {

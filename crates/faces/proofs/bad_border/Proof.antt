@@ -7,7 +7,7 @@ use Rattle.faces.proofs.bad_border.Statement.{statement}
 use Rattle.faces.proofs.bad_border.Tie as tie
 use Rattle.faces.proofs.bad_border.Reads as reads
 use Rattle.faces.proofs.bad_border.Lts as lts
-use Rattle.rings.proofs.is_adjacent.Reads as is-adjacent-reads
+use Rattle.search.proofs.is_adjacent.Reads as is-adjacent-reads
 use Rattle.rings.proofs.neighbour_at.Reads as neighbour-at-reads
 use Rattle.rings.proofs.size_of.Reads as size-of-reads
 

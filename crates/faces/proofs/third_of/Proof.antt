@@ -5,7 +5,7 @@ use Rattle.faces.proofs.third_of.Statement.{statement}
 use Rattle.faces.proofs.third_of.Tie as tie
 use Rattle.faces.proofs.third_of.Reads as reads
 use Rattle.faces.proofs.third_of.Lts as lts
-use Rattle.rings.proofs.next_of.Reads as next-of-reads
+use Rattle.search.proofs.next_of.Reads as next-of-reads
 
 next-of-requires : tie.Need-next-of-requires
 next-of-requires c κs = search needs

@@ -10,7 +10,7 @@ use Rattle.places.proofs.index_by.Tie as tie
 use Rattle.places.proofs.index_by.Reads as reads
 use Rattle.places.proofs.index_by.Lts as lts
 use Rattle.arrays.proofs.byte.Reads as byte-reads
-use Rattle.rings.proofs.index_of.Reads as index-of-reads
+use Rattle.search.proofs.index_of.Reads as index-of-reads
 use Rattle.rings.proofs.size_of.Reads as size-of-reads
 
 index-of-requires : tie.Need-index-of-requires

@@ -9,7 +9,7 @@ use Rattle.places.proofs.is_adjacent_by.Tie as tie
 use Rattle.places.proofs.is_adjacent_by.Reads as reads
 use Rattle.places.proofs.is_adjacent_by.Lts as lts
 use Rattle.arrays.proofs.byte.Reads as byte-reads
-use Rattle.rings.proofs.is_adjacent.Reads as is-adjacent-reads
+use Rattle.search.proofs.is_adjacent.Reads as is-adjacent-reads
 
 is-adjacent-requires : tie.Need-is-adjacent-requires
 is-adjacent-requires c κs = search needs

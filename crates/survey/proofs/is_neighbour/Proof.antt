@@ -10,7 +10,7 @@ use Rattle.survey.proofs.is_neighbour.Tie as tie
 use Rattle.survey.proofs.is_neighbour.Reads as reads
 use Rattle.survey.proofs.is_neighbour.Lts as lts
 use Rattle.numbers.proofs.wide_word.Reads as wide-word-reads
-use Rattle.rings.proofs.is_adjacent.Reads as is-adjacent-reads
+use Rattle.search.proofs.is_adjacent.Reads as is-adjacent-reads
 use Rattle.rings.proofs.starts_of.Reads as starts-of-reads
 
 slice-aggregate-starts-of : tie.Need-slice-aggregate-starts-of

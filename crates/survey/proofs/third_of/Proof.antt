@@ -10,7 +10,7 @@ use Rattle.survey.proofs.third_of.Tie as tie
 use Rattle.survey.proofs.third_of.Reads as reads
 use Rattle.survey.proofs.third_of.Lts as lts
 use Rattle.numbers.proofs.wide_word.Reads as wide-word-reads
-use Rattle.rings.proofs.next_of.Reads as next-of-reads
+use Rattle.search.proofs.next_of.Reads as next-of-reads
 use Rattle.rings.proofs.starts_of.Reads as starts-of-reads
 
 slice-aggregate-starts-of : tie.Need-slice-aggregate-starts-of

@@ -7,7 +7,7 @@ use Rattle.triples.proofs.encloses.Statement.{statement}
 use Rattle.triples.proofs.encloses.Tie as tie
 use Rattle.triples.proofs.encloses.Reads as reads
 use Rattle.triples.proofs.encloses.Lts as lts
-use Rattle.rings.proofs.is_adjacent.Reads as is-adjacent-reads
+use Rattle.search.proofs.is_adjacent.Reads as is-adjacent-reads
 use Rattle.triples.proofs.is_inner_face.Reads as is-inner-face-reads
 
 is-adjacent-requires : tie.Need-is-adjacent-requires

@@ -8,8 +8,8 @@ use Rattle.triples.proofs.is_inner_face.Tie as tie
 use Rattle.triples.proofs.is_inner_face.Reads as reads
 use Rattle.triples.proofs.is_inner_face.Lts as lts
 use Rattle.faces.proofs.is_outer.Reads as is-outer-reads
-use Rattle.rings.proofs.is_adjacent.Reads as is-adjacent-reads
-use Rattle.rings.proofs.next_of.Reads as next-of-reads
+use Rattle.search.proofs.is_adjacent.Reads as is-adjacent-reads
+use Rattle.search.proofs.next_of.Reads as next-of-reads
 
 next-of-requires : tie.Need-next-of-requires
 next-of-requires c κs = search needs

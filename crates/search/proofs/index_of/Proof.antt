@@ -5,17 +5,17 @@ use Prim.Native.Nat.{ℕ, _+_}
 use Rattle.lists.specs.Parts.{indexOf}
 use Rattle.lists.specs.Spans.{span}
 use Rattle.model.specs.Plan.{neighbour, ring}
 use Rattle.rings.specs.Tables.{rows}
 use Rattle.rings.proofs.Rows.{ring-index, ring-size, index-le}
 use native.Mathlib.Omega.{arith}
 use borrow.Author.Needs.{needs}
-use Rattle.rings.proofs.index_of.Statement.{statement}
-use Rattle.rings.proofs.index_of.Tie as tie
-use Rattle.rings.proofs.index_of.Reads as reads
-use Rattle.rings.proofs.index_of.Lts as lts
+use Rattle.search.proofs.index_of.Statement.{statement}
+use Rattle.search.proofs.index_of.Tie as tie
+use Rattle.search.proofs.index_of.Reads as reads
+use Rattle.search.proofs.index_of.Lts as lts
 use Rattle.arrays.proofs.num.Reads as num-reads
-use Rattle.rings.proofs.find.Reads as find-reads
+use Rattle.search.proofs.find.Reads as find-reads
 use Rattle.rings.proofs.size_of.Reads as size-of-reads
 
 -- src/lib.rt:62:9
 num-requires : tie.Need-num-requires

@@ -1,17 +1,17 @@
 -- next_of meets its contract.
 use mathlib.Core.Path.{sym, _∙_}
 use Rattle.model.specs.Plan.{ring}
 use Rattle.rings.specs.Tables.{rows}
 use Rattle.rings.proofs.Rows.{ring-size, next-after, next-round, next-alone}
 use native.Mathlib.Omega.{arith}
 use borrow.Author.Needs.{needs}
-use Rattle.rings.proofs.next_of.Statement.{statement}
-use Rattle.rings.proofs.next_of.Tie as tie
-use Rattle.rings.proofs.next_of.Reads as reads
-use Rattle.rings.proofs.next_of.Lts as lts
-use Rattle.rings.proofs.index_of.Reads as index-of-reads
+use Rattle.search.proofs.next_of.Statement.{statement}
+use Rattle.search.proofs.next_of.Tie as tie
+use Rattle.search.proofs.next_of.Reads as reads
+use Rattle.search.proofs.next_of.Lts as lts
+use Rattle.search.proofs.index_of.Reads as index-of-reads
 use Rattle.rings.proofs.neighbour_at.Reads as neighbour-at-reads
 use Rattle.rings.proofs.size_of.Reads as size-of-reads
 
 -- src/lib.rt:85:9
 index-of-requires : tie.Need-index-of-requires

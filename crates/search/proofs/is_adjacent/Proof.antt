@@ -2,16 +2,16 @@
 use mathlib.Core.Path.{sym, _∙_}
 use lib.Dec.{ltb}
 use Rattle.model.specs.Plan.{ring, adjacent}
 use Rattle.rings.specs.Tables.{rows}
 use Rattle.rings.proofs.Rows.{ring-size, member-index}
 use native.Mathlib.Omega.{arith}
 use borrow.Author.Needs.{needs}
-use Rattle.rings.proofs.is_adjacent.Statement.{statement}
-use Rattle.rings.proofs.is_adjacent.Tie as tie
-use Rattle.rings.proofs.is_adjacent.Reads as reads
-use Rattle.rings.proofs.is_adjacent.Lts as lts
-use Rattle.rings.proofs.index_of.Reads as index-of-reads
+use Rattle.search.proofs.is_adjacent.Statement.{statement}
+use Rattle.search.proofs.is_adjacent.Tie as tie
+use Rattle.search.proofs.is_adjacent.Reads as reads
+use Rattle.search.proofs.is_adjacent.Lts as lts
+use Rattle.search.proofs.index_of.Reads as index-of-reads
 use Rattle.rings.proofs.size_of.Reads as size-of-reads
 
 -- src/lib.rt:71:5
 index-of-requires : tie.Need-index-of-requires

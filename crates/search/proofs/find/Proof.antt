@@ -5,12 +5,12 @@ use Rattle.lists.proofs.Loops.{Finds, finds-start, finds-hit, finds-on, finds-e
 use Rattle.model.specs.Plan.{neighbour}
 use native.Mathlib.Omega.{arith}
 use borrow.Author.Needs.{needs}
-use Rattle.rings.proofs.find.Statement.{statement}
-use Rattle.rings.proofs.find.Tie as tie
-use Rattle.rings.proofs.find.Reads as reads
-use Rattle.rings.proofs.find.Lts as lts
+use Rattle.search.proofs.find.Statement.{statement}
+use Rattle.search.proofs.find.Tie as tie
+use Rattle.search.proofs.find.Reads as reads
+use Rattle.search.proofs.find.Lts as lts
 use Rattle.arrays.proofs.num.Reads as num-reads
 use Rattle.rings.proofs.neighbour_of.Reads as neighbour-of-reads
 
 abbrev Inv-loop : tie.InvT-loop
 Inv-loop entries a e v i₀ i = Finds neighbour v entries a e i
