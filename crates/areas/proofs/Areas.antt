@@ -73,28 +73,23 @@ sub-minus p q r s = go (view p q) (view r s)
     go (inr (d, e)) (inr (k, f)) = (λ i. sub-neg p q d e i -ℤ sub-neg r s k f i) ∙ same-sub (suc k) (suc d) (p + s) (q + r) (omega arith)
 
 -- ---- the sign of a difference
-positive-sub : (p q : ℕ) → positive (subℕ p q) ≡ ltb q p
-positive-sub p q = go (view p q)
+-- what a test says of a difference, by what it says of none, of one above 0 and of one below 0
+sub-sign : (test : ℤ → Bool) (p q : ℕ) (b : Bool) → (p ≡ q → test (pos 0) ≡ b) → ((d : ℕ) → q < p → test (pos (suc d)) ≡ b) → ((d : ℕ) → p < q → test (negsuc d) ≡ b) → test (subℕ p q) ≡ b
+sub-sign test p q b level above below = go (view p q)
   where
-    go : ((d : ℕ) × (p ≡ q + d)) ⊎ ((d : ℕ) × (q ≡ p + suc d)) → positive (subℕ p q) ≡ ltb q p
-    go (inl (zero, e)) = ap positive (sub-pos p q 0 e) ∙ sym (le-ltb q p (omega arith))
-    go (inl (suc d, e)) = ap positive (sub-pos p q (suc d) e) ∙ sym (lt-ltb q p (omega arith))
-    go (inr (d, e)) = ap positive (sub-neg p q d e) ∙ sym (le-ltb q p (omega arith))
+    go : ((d : ℕ) × (p ≡ q + d)) ⊎ ((d : ℕ) × (q ≡ p + suc d)) → test (subℕ p q) ≡ b
+    go (inl (zero, e)) = ap test (sub-pos p q 0 e) ∙ level (omega arith)
+    go (inl (suc d, e)) = ap test (sub-pos p q (suc d) e) ∙ above d (omega arith)
+    go (inr (d, e)) = ap test (sub-neg p q d e) ∙ below d (omega arith)
+
+positive-sub : (p q : ℕ) → positive (subℕ p q) ≡ ltb q p
+positive-sub p q = sub-sign positive p q (ltb q p) (λ e. sym (le-ltb q p (omega arith))) (λ d h. sym (lt-ltb q p h)) (λ d h. sym (le-ltb q p (omega arith)))
 
 zero-sub : (p q : ℕ) → isZero (subℕ p q) ≡ eqb q p
-zero-sub p q = go (view p q)
-  where
-    go : ((d : ℕ) × (p ≡ q + d)) ⊎ ((d : ℕ) × (q ≡ p + suc d)) → isZero (subℕ p q) ≡ eqb q p
-    go (inl (zero, e)) = ap isZero (sub-pos p q 0 e) ∙ sym (eq-eqb q p (omega arith))
-    go (inl (suc d, e)) = ap isZero (sub-pos p q (suc d) e) ∙ sym (ne-eqb q p (λ z. absurd (omega arith)))
-    go (inr (d, e)) = ap isZero (sub-neg p q d e) ∙ sym (ne-eqb q p (λ z. absurd (omega arith)))
+zero-sub p q = sub-sign isZero p q (eqb q p) (λ e. sym (eq-eqb q p (omega arith))) (λ d h. sym (ne-eqb q p (λ z. absurd (omega arith)))) (λ d h. sym (ne-eqb q p (λ z. absurd (omega arith))))
 
 negative-sub : (p q : ℕ) → negative (subℕ p q) ≡ ltb p q
-negative-sub p q = go (view p q)
-  where
-    go : ((d : ℕ) × (p ≡ q + d)) ⊎ ((d : ℕ) × (q ≡ p + suc d)) → negative (subℕ p q) ≡ ltb p q
-    go (inl (d, e)) = ap negative (sub-pos p q d e) ∙ sym (le-ltb p q (omega arith))
-    go (inr (d, e)) = ap negative (sub-neg p q d e) ∙ sym (lt-ltb p q (omega arith))
+negative-sub p q = sub-sign negative p q (ltb p q) (λ e. sym (le-ltb p q (omega arith))) (λ d h. sym (le-ltb p q (omega arith))) (λ d h. sym (lt-ltb p q h))
 
 module _ (ax ay bx by cx cy : ℕ) where
   shoelace : cornerAt ax ay bx by cx cy ≡ subℕ (ahead ax ay bx by cx cy) (behind ax ay bx by cx cy)

@@ -16,16 +16,13 @@ use Rattle.lists.proofs.Ranges.{from-mem, mem-from}
 use Rattle.lists.proofs.Spans.{length-zeros}
 use Rattle.lists.proofs.Padded.{getD-zeros}
 use Rattle.lists.proofs.Stretches.{map-from-same, map-from-more}
+use Rattle.lists.proofs.Counts.{cond-le}
 use Rattle.model.specs.Chart.{Constraint, constraint, meets}
 use Rattle.constraints.specs.Constraints.{rise, constraintAt, listedFrom, listed}
 
 pub rise-le : (g : ℕ) → rise g ≤ 1
 unfolding rise
-rise-le g = go (eqb g 0)
-  where
-    go : (t : Bool) → cond t 0 1 ≤ 1
-    go true = omega arith
-    go false = omega arith
+rise-le g = cond-le (eqb g 0) 0 1 1 (omega arith) (omega arith)
 
 pub due-level : (low g : ℕ) → g ≡ 0 → low ≡ low + rise g
 unfolding rise

@@ -48,14 +48,15 @@ one-mono true false h = absurd (false≢true (h refl))
 one-mono false true h = omega arith
 one-mono false false h = omega arith
 
-one-le : (t : Bool) → cond t 1 0 ≤ 1
-one-le true = omega arith
-one-le false = omega arith
+-- one of two numbers, neither of them above a third
+pub cond-le : (t : Bool) (a b k : ℕ) → a ≤ k → b ≤ k → cond t a b ≤ k
+cond-le true a b k h l = h
+cond-le false a b k h l = l
 
 pub counted-le : (f : ℕ → Bool) (k : ℕ) → counted f k ≤ k
 unfolding counted
 counted-le f zero = omega arith
-counted-le f (suc k) = let x = counted-le f k in let y = one-le (f k) in omega arith
+counted-le f (suc k) = let x = counted-le f k in let y = cond-le (f k) 1 0 1 (omega arith) (omega arith) in omega arith
 
 pub counted-mono : (f g : ℕ → Bool) (k : ℕ) → ((u : ℕ) → f u ≡ true → g u ≡ true) → counted f k ≤ counted g k
 unfolding counted

@@ -15,6 +15,7 @@ use Rattle.lists.specs.Ranges.{from}
 use Rattle.lists.specs.Parts.{concat}
 use Rattle.lists.specs.Spans.{zeros}
 use Rattle.lists.proofs.Spans.{length-zeros}
+use Rattle.lists.proofs.Counts.{cond-le}
 use Rattle.model.specs.Plan.{Plan, Dart, count, neighbour, ring, dartsFrom, darts}
 use Rattle.model.specs.Labels.{labelOf}
 use Rattle.model.specs.Chart.{Constraint, constraint, xConstraint, yConstraint, xConstraints, yConstraints, tie, slope}
@@ -40,11 +41,7 @@ neighbour-le e = omega arith
 -- ---- the constraint that a dart asks for
 pub kept-le : (l : ℕ) → keptOf l ≤ 1
 unfolding keptOf
-kept-le l = go (ltb l 2)
-  where
-    go : (t : Bool) → cond t 1 0 ≤ 1
-    go true = omega arith
-    go false = omega arith
+kept-le l = cond-le (ltb l 2) 1 0 1 (omega arith) (omega arith)
 
 kept-yes : (l : ℕ) → l < 2 → keptOf l ≡ 1
 unfolding keptOf

@@ -186,22 +186,14 @@ module _ (p : Plan) {t : List ℕ} (own : t ≡ followersOf p) where
       go false true true true ex ey ej ek e = no-face (adjacent p a b) (adjacent p a c) (adjacent p b c) f g (rw (face-so a b c ey ej))
       go false false true true ex ey ej ek e = no-face (adjacent p a b) (adjacent p a c) (adjacent p b c) f g (rw (face-so a c b e ek) (or-true f))
 
--- what encloses with a and b is a neighbour of b
-pub enclosing-near : (p : Plan) (a b c : ℕ) → enclosing p (a, b, c) ≡ true → adjacent p b c ≡ true
+-- what encloses with a and b is a neighbour of b, and b of a
+pub enclosing-says : (p : Plan) (a b c : ℕ) → enclosing p (a, b, c) ≡ true → (adjacent p a b ≡ true) × (adjacent p b c ≡ true)
 unfolding enclosing
-enclosing-near p a b c e =
+enclosing-says p a b c e =
     let rest = not (innerFace p a b c || innerFace p a c b) in
     let (x, _) = and-yes (adjacent p a b && adjacent p a c && adjacent p b c) rest e in
-    and-yes (adjacent p a b && adjacent p a c) (adjacent p b c) x .1
-
--- and b is a neighbour of a
-enclosing-first : (p : Plan) (a b c : ℕ) → enclosing p (a, b, c) ≡ true → adjacent p a b ≡ true
-unfolding enclosing
-enclosing-first p a b c e =
-    let rest = not (innerFace p a b c || innerFace p a c b) in
-    let (x, _) = and-yes (adjacent p a b && adjacent p a c && adjacent p b c) rest e in
-    let (y, _) = and-yes (adjacent p a b && adjacent p a c) (adjacent p b c) x in
-    and-yes (adjacent p a b) (adjacent p a c) y .0
+    let (y, near) = and-yes (adjacent p a b && adjacent p a c) (adjacent p b c) x in
+    (and-yes (adjacent p a b) (adjacent p a c) y .0, near)
 
 first-empty : (f : ℕ → Bool) (a : ℕ) → firstFrom f a 0 ≡ a
 unfolding firstFrom
@@ -219,7 +211,7 @@ third-near p n a b e = go (ltb (suc b) n) refl
     go true q =
         let h = ltb-true (suc b) n q in
         let low = ltb-true (firstFrom f (suc b) (n - suc b)) n e in
-        adjacent-mem p a b (enclosing-first p a b (firstFrom f (suc b) (n - suc b)) (first-found f (suc b) (n - suc b) (omega arith) .passes))
+        adjacent-mem p a b (enclosing-says p a b (firstFrom f (suc b) (n - suc b)) (first-found f (suc b) (n - suc b) (omega arith) .passes) .0)
     go false q =
         let h = ltb-false (suc b) n q in
         let low = ltb-true (firstFrom f (suc b) (n - suc b)) n e in

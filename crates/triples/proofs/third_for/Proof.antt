@@ -7,7 +7,7 @@ use Rattle.model.proofs.Plans.{adjacent-mem}
 use Rattle.rings.specs.Tables.{rows}
 use Rattle.rings.proofs.Rows.{ring-size}
 use Rattle.triples.specs.Scanned.{thirdFor}
-use Rattle.triples.proofs.Scans.{enclosing-near}
+use Rattle.triples.proofs.Scans.{enclosing-says}
 use Rattle.triples.proofs.Nearest.{ring-entry, Nearest, nearest-start, nearest-on, nearest-end}
 use native.Mathlib.Omega.{arith}
 use borrow.Author.Needs.{needs}
@@ -68,7 +68,7 @@ returns c =
     let p = rows (a .starts .now) (a .sizes .now) (a .entries .now) (a .n) in
     let h = c .before .before .before .before .before .before .before .before .pre .1 in
     let size = c .before .before .size-of .ensures .0 ∙ sym (ring-size (a .starts .now) (a .sizes .now) (a .entries .now) (a .n) (a .b)) in
-    nearest-end (c .before .loop .inv) (omega arith) (omega arith) (λ x e. adjacent-mem p (a .b) x (enclosing-near p (a .a) (a .b) x e))
+    nearest-end (c .before .loop .inv) (omega arith) (omega arith) (λ x e. adjacent-mem p (a .b) x (enclosing-says p (a .a) (a .b) x e .1))
 
 pub third-for-spec : {M : Type 1} → statement M
 third-for-spec =
