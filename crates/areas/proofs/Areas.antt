@@ -19,7 +19,7 @@ use Rattle.lists.proofs.Spans.{getD-stretch}
 use Rattle.model.specs.Chart.{Chart, x, y}
 use Rattle.model.specs.Geometry.{positive, isZero, corner, fan, area}
 use Rattle.charts.specs.Charts.{chartOn}
-use Rattle.areas.specs.Corners.{points, negative, cornerAt, ahead, behind, counterclockwise, flat, clockwise}
+use Rattle.areas.specs.Corners.{points, negative, cornerAt, ahead, behind, counterclockwise, flat, clockwise, atPoints}
 
 -- ---- a difference is a number or the negative of one
 sub-pos : (p q d : ℕ) → p ≡ q + d → subℕ p q ≡ pos d
@@ -100,15 +100,15 @@ module _ (ax ay bx by cx cy : ℕ) where
       ∙ same-sub (bx * cy + ax * ay + (cx * ay + ax * by)) (bx * ay + ax * cy + (cx * by + ax * ay)) (ax * by + bx * cy + cx * ay) (bx * ay + cx * by + ax * cy) (omega arith)
 
   -- doubled area is positive, zero or negative as the walk is counterclockwise, flat or clockwise
-  pub sign-positive : positive (cornerAt ax ay bx by cx cy) ≡ counterclockwise ax ay bx by cx cy
+  sign-positive : positive (cornerAt ax ay bx by cx cy) ≡ counterclockwise ax ay bx by cx cy
   unfolding counterclockwise
   sign-positive = ap positive shoelace ∙ positive-sub (ahead ax ay bx by cx cy) (behind ax ay bx by cx cy)
 
-  pub sign-zero : isZero (cornerAt ax ay bx by cx cy) ≡ flat ax ay bx by cx cy
+  sign-zero : isZero (cornerAt ax ay bx by cx cy) ≡ flat ax ay bx by cx cy
   unfolding flat
   sign-zero = ap isZero shoelace ∙ zero-sub (ahead ax ay bx by cx cy) (behind ax ay bx by cx cy)
 
-  pub sign-negative : negative (cornerAt ax ay bx by cx cy) ≡ clockwise ax ay bx by cx cy
+  sign-negative : negative (cornerAt ax ay bx by cx cy) ≡ clockwise ax ay bx by cx cy
   unfolding clockwise
   sign-negative = ap negative shoelace ∙ negative-sub (ahead ax ay bx by cx cy) (behind ax ay bx by cx cy)
 
@@ -209,7 +209,7 @@ module _ (p q r s : ℤ) (ax ay bx by cx cy : ℕ) (ep : p ≡ subℕ bx ax) (eq
   corner-read = ap read corner-is ∙ within-read (corner-within ax ay bx by cx cy i j k l m n) (omega arith)
 
 -- ---- the area of a face of three
-pub area-three : (xs ys : List ℕ) (a b c : ℕ) → area (points xs ys) (a ∷ b ∷ c ∷ []) ≡ cornerAt (getD xs a 0) (getD ys a 0) (getD xs b 0) (getD ys b 0) (getD xs c 0) (getD ys c 0)
+area-three : (xs ys : List ℕ) (a b c : ℕ) → area (points xs ys) (a ∷ b ∷ c ∷ []) ≡ cornerAt (getD xs a 0) (getD ys a 0) (getD xs b 0) (getD ys b 0) (getD xs c 0) (getD ys c 0)
 unfolding area fan corner points cornerAt
 area-three xs ys a b c = +ℤ-idr (cornerAt (getD xs a 0) (getD ys a 0) (getD xs b 0) (getD ys b 0) (getD xs c 0) (getD ys c 0))
 
@@ -220,3 +220,8 @@ area-on n w h xs ys a b c i j k = λ t. (subℕ (at xs b j t) (at xs a i t) *ℤ
   where
     at : (l : List ℕ) (u : ℕ) → u < n → getD l u 0 ≡ getD (stretch l 0 n) u 0
     at l u h = sym (getD-stretch l 0 n u h ∙ ap (λ (m : ℕ). getD l m 0) (omega arith))
+
+-- a number that is the difference of the products is the area, and has the sign of the walk
+pub area-signed : (xs ys : List ℕ) (a b c : ℕ) {z : ℤ} → z ≡ cornerAt (getD xs a 0) (getD ys a 0) (getD xs b 0) (getD ys b 0) (getD xs c 0) (getD ys c 0)
+    → (z ≡ area (points xs ys) (a ∷ b ∷ c ∷ [])) × ((positive z ≡ atPoints counterclockwise xs ys a b c) × ((isZero z ≡ atPoints flat xs ys a b c) × (negative z ≡ atPoints clockwise xs ys a b c)))
+area-signed xs ys a b c e = (e ∙ sym (area-three xs ys a b c), (ap positive e ∙ sign-positive _ _ _ _ _ _, (ap isZero e ∙ sign-zero _ _ _ _ _ _, ap negative e ∙ sign-negative _ _ _ _ _ _)))

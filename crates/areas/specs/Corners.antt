@@ -4,6 +4,7 @@ use mathlib.Core.List.{List, [], _∷_}
 use mathlib.Core.Bool.{Bool, true, false}
 use lib.IntN.{ℤ, pos, negsuc, subℕ, _-ℤ_, _*ℤ_}
 use lib.Dec.{eqb, ltb}
+use lib.ListN.{getD}
 use Rattle.model.specs.Chart.{Chart}
 
 -- the points alone of a chart
@@ -35,3 +36,7 @@ flat ax ay bx by cx cy = eqb (behind ax ay bx by cx cy) (ahead ax ay bx by cx cy
 
 unfoldable pub clockwise : ℕ → ℕ → ℕ → ℕ → ℕ → ℕ → Bool
 clockwise ax ay bx by cx cy = ltb (ahead ax ay bx by cx cy) (behind ax ay bx by cx cy)
+
+-- the same of the walk over the points of contexts a, b, c
+abbrev pub atPoints : (ℕ → ℕ → ℕ → ℕ → ℕ → ℕ → Bool) → List ℕ → List ℕ → ℕ → ℕ → ℕ → Bool
+atPoints walked xs ys a b c = walked (getD xs a 0) (getD ys a 0) (getD xs b 0) (getD ys b 0) (getD xs c 0) (getD ys c 0)

@@ -76,10 +76,11 @@ fn check_chart(tally: usize, sheet: Sheet) -> usize {
     let swept = calls::sweep(sheet);
     let charted = calls::chart(swept.sheet);
     let after = verdicts::tell_chart(tally, swept, charted);
-    if charted.sheet.w == 0 {
-        return after;
+    let answer = charted.answer;
+    match answer {
+        Answer::Accepted => check_turn(after, sheet, charted.sheet),
+        Answer::Refused(_, _) => after,
     }
-    check_turn(after, sheet, charted.sheet)
 }
 
 // The checks of a file, where it is accepted.
@@ -88,10 +89,11 @@ fn check_file(tally: usize, number: usize, file: &[u8]) -> usize {
     let sheet = outcome.sheet;
     let same = reports::same(sheet, sheet);
     let after = verdicts::tell_file(tally, number, outcome, same, reports::scan(sheet));
-    if sheet.n == 0 {
-        return after;
+    let answer = outcome.answer;
+    match answer {
+        Answer::Accepted => check_chart(after, sheet),
+        Answer::Refused(_, _) => after,
     }
-    check_chart(after, sheet)
 }
 
 // The files of an input, one after another.

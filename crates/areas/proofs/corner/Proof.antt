@@ -1,8 +1,5 @@
 -- corner meets its contract.
-use Rattle.areas.proofs.Areas.{times-fits, corner-fits, corner-read, sign-positive, sign-zero, sign-negative}
-use Rattle.model.specs.Geometry.{positive, isZero}
-use Rattle.areas.specs.Corners.{negative}
-use mathlib.Core.Path.{ap, _∙_}
+use Rattle.areas.proofs.Areas.{times-fits, corner-fits, corner-read}
 use native.Mathlib.Omega.{arith}
 use borrow.Author.Needs.{needs}
 use Rattle.areas.proofs.corner.Statement.{statement}
@@ -41,8 +38,7 @@ sub-result c = corner-fits _ _ _ _ (c .before .before .before .before .args .ax)
 
 -- src/lib.rt:25:1
 returns : tie.Need-returns
-returns c = let e = corner-read _ _ _ _ (c .before .before .before .before .args .ax) (c .before .before .before .before .args .ay) (c .before .before .before .before .args .bx) (c .before .before .before .before .args .by) (c .before .before .before .before .args .cx) (c .before .before .before .before .args .cy) (c .before .before .before .difference .ensures) (c .before .before .difference2 .ensures) (c .before .difference3 .ensures) (c .difference4 .ensures) (c .before .before .before .before .fits .ax .fits) (c .before .before .before .before .fits .ay .fits) (c .before .before .before .before .fits .bx .fits) (c .before .before .before .before .fits .by .fits) (c .before .before .before .before .fits .cx .fits) (c .before .before .before .before .fits .cy .fits) in
-    (e, (ap positive e ∙ sign-positive (c .before .before .before .before .args .ax) (c .before .before .before .before .args .ay) (c .before .before .before .before .args .bx) (c .before .before .before .before .args .by) (c .before .before .before .before .args .cx) (c .before .before .before .before .args .cy), (ap isZero e ∙ sign-zero (c .before .before .before .before .args .ax) (c .before .before .before .before .args .ay) (c .before .before .before .before .args .bx) (c .before .before .before .before .args .by) (c .before .before .before .before .args .cx) (c .before .before .before .before .args .cy), ap negative e ∙ sign-negative (c .before .before .before .before .args .ax) (c .before .before .before .before .args .ay) (c .before .before .before .before .args .bx) (c .before .before .before .before .args .by) (c .before .before .before .before .args .cx) (c .before .before .before .before .args .cy))))
+returns c = corner-read _ _ _ _ (c .before .before .before .before .args .ax) (c .before .before .before .before .args .ay) (c .before .before .before .before .args .bx) (c .before .before .before .before .args .by) (c .before .before .before .before .args .cx) (c .before .before .before .before .args .cy) (c .before .before .before .difference .ensures) (c .before .before .difference2 .ensures) (c .before .difference3 .ensures) (c .difference4 .ensures) (c .before .before .before .before .fits .ax .fits) (c .before .before .before .before .fits .ay .fits) (c .before .before .before .before .fits .bx .fits) (c .before .before .before .before .fits .by .fits) (c .before .before .before .before .fits .cx .fits) (c .before .before .before .before .fits .cy .fits)
 
 pub corner-spec : {M : Type 1} → statement M
 corner-spec =

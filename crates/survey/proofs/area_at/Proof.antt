@@ -25,7 +25,7 @@ natural-requires : tie.Need-natural-requires
 natural-requires c κs = search needs
 
 returns : tie.Need-returns
-returns c = c .natural .ensures ∙ ap natural (toZ-ofZ w64 (c .before .area-of .result) (record { sfits = c .before .area-of .ok }) ∙ c .before .area-of .ensures)
+returns c = c .natural .ensures ∙ ap natural (toZ-ofZ w64 (c .before .area-of .result) (record { sfits = c .before .area-of .ok }) ∙ c .before .area-of .ensures .0)
 
 pub area-at-spec : {M : Type 1} → statement M
 area-at-spec =
