@@ -34,7 +34,8 @@ unfolding run.backAddedBy run.failed
 returns c =
     let a = c .before .before .before .before .before .before .before .before .before .before .before .args in
     let p = rows (a .starts .now) (a .sizes .now) (a .entries .now) (a .n) in
-    let none = sym (depth-by p (a .f .now) (a .k) (c .before .before .before .turn-by .ensures .0) (c .before .before .depth .ensures .0)) ∙ c .before .if1 .taken in
+    let none : lines.depthFrom p (a .f .now) (a .k) (lines.turnBy (a .places .now) p (a .f .now) (a .k)) ≡ 0 =
+    sym (depth-by p (a .f .now) (a .k) (c .before .before .before .turn-by .ensures .0) (c .before .before .depth .ensures .0)) ∙ c .before .if1 .taken in
     rw (eq-eqb _ _ none) (ap (λ t. lines.lineOf t (a .at .now) (a .marks .now)) (c .failed .ensures))
 
 num-requires : tie.Need-num-requires Inv-loop μ-loop
