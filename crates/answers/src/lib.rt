@@ -1,4 +1,6 @@
 // A call's answer as one number, and two outcomes in a row.
+#![tactic(auto)]
+
 ghost use Rattle.std.specs.Prelude.{◌≡◌, ◌+◌, ◌*◌, ◌%◌, ◌^◌};
 ghost use Rattle.answers.specs.Codes.{given, in_turn};
 

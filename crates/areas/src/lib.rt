@@ -1,4 +1,6 @@
 // Doubled area of a triangle, signed: positive for a counterclockwise walk.
+#![tactic(auto)]
+
 ghost use Rattle.std.specs.Prelude.{◌≡◌, [], ◌∷◌};
 ghost use Rattle.std.proofs.Math.IntN.{sub_ℕ};
 ghost use Rattle.model.specs.Geometry.{positive, is_zero, area};

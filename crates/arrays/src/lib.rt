@@ -1,4 +1,6 @@
 // Total accessors of lent arrays, for the code of every crate above: what lies outside an array reads as 0, and nothing is put there.
+#![tactic(auto)]
+
 ghost use Rattle.std.specs.Prelude.{◌≡◌, ◌+◌, ◌*◌, ◌<◌, ◌^◌, get_or, set};
 ghost use Rattle.arrays.specs.Parts.{part_at};
 

@@ -1,4 +1,6 @@
 // The calls that change a sheet, but for open: offer, sweep, turn and chart. Each takes every value of the struct: one whose plan does not fit counts as a fresh sheet.
+#![tactic(auto)]
+
 ghost use Rattle.std.specs.Prelude.{◌≡◌, true, [], length, take, min, ◌≤◌, ◌<◌, ◌^◌};
 ghost use Rattle.lists.specs.Ranges.{lowest};
 ghost use Rattle.lists.specs.Spans.{stretch, padded};

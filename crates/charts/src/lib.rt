@@ -1,4 +1,6 @@
 // Charts in flat arrays: the comparison of two.
+#![tactic(auto)]
+
 ghost use Rattle.std.specs.Prelude.{◌≡◌};
 ghost use Rattle.lists.specs.Tests.{same_list};
 ghost use Rattle.lists.specs.Spans.{stretch};

@@ -12,6 +12,8 @@
 //
 // An answer is the number of a refusal and its place: 0 at 0 is accepted, or yes, and 1 at 0 is no. stdin beside this crate is
 // made by tools/checklist_plans.py.
+#![tactic(auto)]
+
 use sheet::{Answer, Outcome, Sheet};
 
 // The turn with this number: of the edge from u to v in a direction it is 512u + 2v + direction.

@@ -1,4 +1,6 @@
 // The pair of positions that a step of the sweep takes: the largest j, then the largest i, that are eligible.
+#![tactic(auto)]
+
 ghost use Rattle.std.specs.Prelude.{◌≡◌, true, false, List, [], ℕ, ◌+◌, ◌-◌, ◌<◌, get_or};
 ghost use Rattle.model.specs.Plan.{Plan};
 ghost use Rattle.model.specs.Sweep.{State, choose, choices};

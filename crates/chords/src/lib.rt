@@ -1,4 +1,6 @@
 // The chords of a new frontier, that is neighbours that are not adjacent on it: whether a pair of frontier positions is eligible.
+#![tactic(auto)]
+
 ghost use Rattle.std.specs.Prelude.{◌≡◌, true, ◌<◌};
 ghost use Rattle.rings.specs.Tables.{rows};
 ghost use Rattle.places.specs.Places.{adjacent_by};

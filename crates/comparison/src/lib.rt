@@ -1,4 +1,6 @@
 // How the programs compare bytes: a checksum that stands for them, and how far two arrays of them agree.
+#![tactic(auto)]
+
 ghost use Rattle.std.specs.Prelude.{◌≡◌, ◌<◌, ◌^◌};
 ghost use Rattle.comparison.specs.Bytes.{stir, checksum, agreeing};
 

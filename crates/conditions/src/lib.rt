@@ -1,4 +1,6 @@
 // The label rules: the lowest context that breaks them, with the label of each dart found by a table of positions.
+#![tactic(auto)]
+
 ghost use Rattle.std.specs.Prelude.{◌≡◌, map, min, ◌≤◌, ◌<◌, ◌^◌};
 ghost use Rattle.lists.specs.Tests.{any};
 ghost use Rattle.lists.specs.Ranges.{lowest};

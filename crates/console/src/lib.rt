@@ -1,4 +1,6 @@
 // Standard input and output of the programs: items read, texts with numbers in them. A contract says what a function gives and leaves; what is read and written is outside the logic, as in the kit's io.
+#![tactic(auto)]
+
 ghost use Rattle.std.specs.Prelude.{◌≡◌, ◌/◌, ◌≤◌, length};
 ghost use Rattle.console.specs.Lines.{behind, shown};
 ghost use Rattle.console.specs.Reading.{Read};

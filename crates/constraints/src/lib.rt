@@ -1,4 +1,6 @@
 // Difference constraints in flat arrays: what one asks of its higher number, and whether numbers meet them.
+#![tactic(auto)]
+
 ghost use Rattle.std.specs.Prelude.{◌≡◌, ◌+◌, ◌-◌, ◌<◌, ◌^◌, get_or};
 ghost use Rattle.lists.specs.Tests.{all};
 ghost use Rattle.model.specs.Chart.{meets};

@@ -1,4 +1,6 @@
 // Where the sweep begins and where it ends: the first frontier, and whether a frontier is finished.
+#![tactic(auto)]
+
 ghost use Rattle.std.specs.Prelude.{◌≡◌};
 ghost use Rattle.rings.specs.Tables.{rows};
 ghost use Rattle.ends.specs.Ends.{front, marked, first_line, done_by, unfinished_by};

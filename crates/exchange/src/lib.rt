@@ -1,4 +1,6 @@
 // Sheets handed over as bytes and handed back as bytes.
+#![tactic(auto)]
+
 ghost use Rattle.std.specs.Prelude.{◌≡◌};
 ghost use Rattle.model.specs.Calls.{open_call, write_call};
 ghost use Rattle.writing.specs.Files.{buffer_after};

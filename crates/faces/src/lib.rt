@@ -1,4 +1,6 @@
 // Faces over flat arrays: the face step, the outer darts and the places of plan rules 8 and 9.
+#![tactic(auto)]
+
 ghost use Rattle.std.specs.Prelude.{◌≡◌, not, ◌||◌, ◌<◌};
 ghost use Rattle.lists.specs.Ranges.{lowest};
 ghost use Rattle.model.specs.Plan.{step, outer, closes, bad_border, bad_face};

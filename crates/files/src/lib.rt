@@ -1,4 +1,6 @@
 // What is asked of a file and of no sheet. Ring: the part of the file that is one ring's body. Open and write: the same file again.
+#![tactic(auto)]
+
 ghost use Rattle.std.specs.Prelude.{◌≡◌};
 ghost use Rattle.model.specs.Calls.{ring_call, ring_part};
 ghost use Rattle.writing.specs.Files.{buffer_after};

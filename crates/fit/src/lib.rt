@@ -1,4 +1,6 @@
 // Does a plan in flat arrays fit: at most 200 contexts, at most 1186 entries, and each entry a context?
+#![tactic(auto)]
+
 ghost use Rattle.std.specs.Prelude.{◌≡◌, min, ◌<◌, ◌^◌, leb};
 ghost use Rattle.lists.specs.Tests.{any};
 ghost use Rattle.lists.specs.Spans.{span};

@@ -1,4 +1,6 @@
 // The followers of a plan's ring entries in one table, so that a face step is one look-up: the table, noted ring by ring, and look-ups.
+#![tactic(auto)]
+
 ghost use Rattle.std.specs.Prelude.{◌≡◌, map, true, ◌<◌, ◌≤◌, ◌^◌, get_or};
 ghost use Rattle.lists.specs.Spans.{span};
 ghost use Rattle.model.specs.Plan.{neighbour};

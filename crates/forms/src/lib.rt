@@ -1,4 +1,6 @@
 // Forms: texts in which each `#` stands for a number, written with the numbers in decimal into a lent buffer.
+#![tactic(auto)]
+
 ghost use Rattle.std.specs.Prelude.{◌≡◌, [], ◌∷◌, ◌≤◌, get_or};
 ghost use Rattle.forms.specs.Words.{digits};
 ghost use Rattle.forms.specs.Forms.{mark, stands, filled};

@@ -1,4 +1,6 @@
 // The frontier of the sweep in flat arrays: the line that holds it, and what is below it.
+#![tactic(auto)]
+
 ghost use Rattle.std.specs.Prelude.{◌≡◌, List, ℕ, ◌-◌, ◌<◌, ◌^◌, get_or};
 ghost use Rattle.model.specs.Plan.{ring};
 ghost use Rattle.rings.specs.Tables.{rows};

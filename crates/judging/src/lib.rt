@@ -1,4 +1,6 @@
 // The rules 8 to 12 of a sheet, as far as its stage has come. Each function takes every value of the struct: one whose plan does not fit counts as a fresh sheet.
+#![tactic(auto)]
+
 ghost use Rattle.std.specs.Prelude.{◌≡◌, true, ◌≤◌, length, take};
 ghost use Rattle.model.specs.Labels.{label_rules};
 ghost use Rattle.model.specs.File.{charted};

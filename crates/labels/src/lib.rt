@@ -1,4 +1,6 @@
 // Labels of darts in a flat array: the label at a place, the label due at a context, and four runs, each equal to a definition of the model.
+#![tactic(auto)]
+
 ghost use Rattle.std.specs.Prelude.{◌≡◌, ◌&&◌, ◌<◌, ◌^◌, get_or};
 ghost use Rattle.model.specs.Plan.{border};
 ghost use Rattle.model.specs.Labels.{unlabelled, due};

@@ -1,4 +1,6 @@
 // Rings in a lent file: look-ups where the rings stand, before anything is copied. The file may hold more entries than the flat arrays.
+#![tactic(auto)]
+
 ghost use Rattle.std.specs.Prelude.{◌≡◌, ◌+◌, ◌*◌, ◌<◌, ◌^◌, get_or};
 ghost use Rattle.lists.specs.Tests.{member};
 ghost use Rattle.lists.specs.Spans.{span};

@@ -1,4 +1,6 @@
 // The rings of a lent file against each other: rule 6, judged where the rings stand, by a table of positions.
+#![tactic(auto)]
+
 ghost use Rattle.std.specs.Prelude.{◌≡◌};
 ghost use Rattle.lists.specs.Ranges.{lowest};
 ghost use Rattle.model.specs.Plan.{adjacent, unreturned};

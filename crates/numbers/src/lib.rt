@@ -1,4 +1,6 @@
 // Total functions of numbers, for the code of every crate above.
+#![tactic(auto)]
+
 ghost use Rattle.std.specs.Prelude.{◌≡◌, ◌-◌, ◌<◌, ◌^◌, min};
 
 // A byte as a number.

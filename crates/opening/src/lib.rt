@@ -1,4 +1,6 @@
 // Open: a file whose plan is sound is judged at once, any other part by part; what it holds replaces the sheet.
+#![tactic(auto)]
+
 ghost use Rattle.std.specs.Prelude.{◌≡◌, true, ◌<◌, ◌≤◌, ◌^◌};
 ghost use Rattle.lists.specs.Parts.{concat};
 ghost use Rattle.lists.specs.Spans.{stretch, padded};

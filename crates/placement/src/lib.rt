@@ -1,4 +1,6 @@
 // Placement: the chart of a labelled plan over flat arrays.
+#![tactic(auto)]
+
 ghost use Rattle.std.specs.Prelude.{◌≡◌, true, false, ◌&&◌, ◌+◌, ◌-◌, ◌≤◌, ◌<◌, set};
 ghost use Rattle.lists.specs.Tests.{all};
 ghost use Rattle.lists.specs.Spans.{zeros};

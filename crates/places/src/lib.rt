@@ -1,4 +1,6 @@
 // The positions of a plan's ring entries in one table, so that an entry is found at once: the table, and look-ups by it.
+#![tactic(auto)]
+
 ghost use Rattle.std.specs.Prelude.{◌≡◌, ◌<◌, ◌^◌};
 ghost use Rattle.rings.specs.Tables.{rows};
 ghost use Rattle.places.specs.Places.{noted, places_of, filled, index_by, adjacent_by};

@@ -1,4 +1,6 @@
 // Pockets of the sweep's frontier: a context that is below a position and not listed by the next.
+#![tactic(auto)]
+
 ghost use Rattle.std.specs.Prelude.{◌≡◌};
 ghost use Rattle.rings.specs.Tables.{rows};
 ghost use Rattle.pockets.specs.Pockets.{below_by, pocket_by};

@@ -1,4 +1,6 @@
 // The text of the program sheetprint: what open, scan, sweep and chart give for a plan file, as bytes in a lent buffer.
+#![tactic(auto)]
+
 ghost use Rattle.std.specs.Prelude.{◌≡◌, ◌++◌, ◌+◌, ◌*◌, ◌<◌, ◌≤◌, ◌^◌, length, take};
 ghost use Rattle.model.specs.Outcome.{accepted};
 ghost use Rattle.model.specs.Calls.{plan_of};

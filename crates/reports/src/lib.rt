@@ -1,4 +1,6 @@
 // The calls that tell of a sheet and leave it as it is: write, scan and same. Each takes every value of the struct: one whose plan does not fit counts as a fresh sheet.
+#![tactic(auto)]
+
 ghost use Rattle.std.specs.Prelude.{◌≡◌, ◌&&◌, eqb};
 ghost use Rattle.model.specs.Chart.{same_chart};
 ghost use Rattle.model.specs.Scan.{scan};

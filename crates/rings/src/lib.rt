@@ -1,4 +1,6 @@
 // Rings in flat arrays: where they begin, their sizes and their neighbours by place, each equal to a definition of the model on the plan that the arrays hold.
+#![tactic(auto)]
+
 ghost use Rattle.std.specs.Prelude.{◌≡◌, ◌<◌, ◌^◌, get_or};
 ghost use Rattle.model.specs.Plan.{neighbour, ring};
 ghost use Rattle.rings.specs.Tables.{size_of, starts_of, rows};

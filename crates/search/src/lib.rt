@@ -1,4 +1,6 @@
 // Entries searched in rings: where one stands, whether it does, and the one after it.
+#![tactic(auto)]
+
 ghost use Rattle.std.specs.Prelude.{◌≡◌, map, ◌<◌, ◌≤◌, ◌^◌};
 ghost use Rattle.lists.specs.Parts.{index_of};
 ghost use Rattle.lists.specs.Spans.{span};

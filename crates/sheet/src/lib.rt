@@ -1,4 +1,6 @@
 // The sheet: plan, labels and chart in flat arrays, passed and returned by value.
+#![tactic(auto)]
+
 ghost use Rattle.std.specs.Prelude.{◌≡◌};
 ghost use Rattle.model.specs.Outcome.{refused, passed};
 ghost use Rattle.model.specs.File.{fresh};

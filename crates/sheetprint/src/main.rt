@@ -1,5 +1,7 @@
 // The program sheetprint: takes the first 8,192 bytes of standard input, all if fewer, as a plan file, and prints what open,
 // scan, sweep and chart give for it. The text is made by printing::print_sheet, whose contract says what it is.
+#![tactic(auto)]
+
 ghost use Rattle.std.specs.Prelude.{◌≡◌, length};
 
 // Room for the plan file.

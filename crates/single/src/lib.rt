@@ -1,4 +1,6 @@
 // Each ring of a lent file by itself: rules 4 and 5, judged where the rings stand.
+#![tactic(auto)]
+
 ghost use Rattle.std.specs.Prelude.{◌≡◌};
 ghost use Rattle.lists.specs.Ranges.{lowest};
 ghost use Rattle.model.specs.Plan.{bad_entry, bad_repeat};

@@ -1,4 +1,6 @@
 // The least solution of difference constraints: a first pass in an order that settles most numbers, then passes over all constraints, forward and back in turn, until no number rises or one passes n.
+#![tactic(auto)]
+
 ghost use Rattle.std.specs.Prelude.{◌≡◌, ◌<◌, ◌≤◌};
 ghost use Rattle.model.specs.Outcome.{refused};
 ghost use Rattle.constraints.specs.Constraints.{listed};

@@ -1,4 +1,6 @@
 // Is a plan in flat arrays sound, by its table of followers? A yes says that it keeps the rules 4, 5, 6, 8 and 9; a no says nothing.
+#![tactic(auto)]
+
 ghost use Rattle.std.specs.Prelude.{◌≡◌};
 ghost use Rattle.lists.specs.Folds.{some};
 ghost use Rattle.rings.specs.Tables.{rows, table};

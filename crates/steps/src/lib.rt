@@ -1,4 +1,6 @@
 // The steps of the sweep, from North down to South: labels put on edges as the frontier moves, until it is finished or stuck.
+#![tactic(auto)]
+
 ghost use Rattle.std.specs.Prelude.{◌≡◌};
 ghost use Rattle.rings.specs.Tables.{table};
 ghost use Rattle.steps.specs.Run as run;

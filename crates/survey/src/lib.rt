@@ -1,4 +1,6 @@
 // What a look at a sheet's plan and chart finds without the engine's calls: the areas of the inner faces, and whether three contexts enclose others.
+#![tactic(auto)]
+
 ghost use Rattle.std.specs.Prelude.{◌≡◌, ◌&&◌, [], ◌∷◌, length, ◌==◌, slice_index};
 ghost use Rattle.model.specs.Plan.{ring, adjacent, step, on_inner_face, faces_from};
 ghost use Rattle.model.specs.Scan.{enclosing};

@@ -1,4 +1,6 @@
 // The sweep: labels worked out from North down to South, equal to the model's on every plan that fits the arrays.
+#![tactic(auto)]
+
 ghost use Rattle.std.specs.Prelude.{◌≡◌, []};
 ghost use Rattle.lists.specs.Spans.{padded};
 ghost use Rattle.model.specs.Outcome.{taken};

@@ -1,5 +1,7 @@
 // The C interface. A sheet is handed over as the bytes that write gives for it, none for a fresh sheet, so that a host needs no struct layout.
 // Each function answers number × 2^48 + value: number 0 is acceptance, 1 to 17 a refusal whose value is its place. include/touchchart.h documents it for C.
+#![tactic(auto)]
+
 ghost use Rattle.std.specs.Prelude.{◌≡◌, ◌+◌, ◌*◌, ◌<◌};
 ghost use Rattle.model.specs.Calls.{scan_call, same_call};
 ghost use Rattle.writing.specs.Files.{buffer_after};

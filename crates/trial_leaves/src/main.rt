@@ -3,6 +3,8 @@
 // place that each plan rule gives (n where it is kept), how many entries there are, the scan, how many bytes of the plan that is
 // written are the file's, what a buffer that just fits and one that is a byte short give (16), the place of the label rules, the
 // chart, and for a chart record 0 if it is that chart, else 12. A leaf that the ones before it rule out is not asked.
+#![tactic(auto)]
+
 ghost use Rattle.std.specs.Prelude.{◌≤◌};
 
 // The entries of all rings, copied for each context and each number below 256: behind the end of a ring that is 0, and the next ring is copied over it.

@@ -2,6 +2,8 @@
 // little-endian. Each is printed three times: into a buffer of 4,096 bytes, into one that its text just fits, and into one that
 // is a byte short. Each time come the text, if it fits, and a line with the length that is answered and how many bytes of the
 // buffer, which is filled with 170 before, are still 170.
+#![tactic(auto)]
+
 ghost use Rattle.std.specs.Prelude.{◌≡◌, ◌≤◌, length};
 
 // A word, then a number.

@@ -5,6 +5,7 @@
 // with a script over 65,536 bytes, or after 100,000 items; the last line says how many were run.
 //
 // stdin and stdout beside this crate are made by the reference in rust/, by its examples calls_items and run_calls.
+#![tactic(auto)]
 
 // A script: where it ends, and the sheet that it leaves.
 fn run_script(script: &[u8]) {

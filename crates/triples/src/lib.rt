@@ -1,4 +1,6 @@
 // Scan over flat arrays: the smallest triple of mutual neighbours that are no inner face. A table of followers passes over nearly every triple that is none.
+#![tactic(auto)]
+
 ghost use Rattle.std.specs.Prelude.{◌≡◌, ℕ, ◌≤◌, ◌<◌, ltb};
 ghost use Rattle.model.specs.Scan.{scan, enclosing, inner_face};
 ghost use Rattle.rings.specs.Tables.{rows};

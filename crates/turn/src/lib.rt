@@ -1,5 +1,7 @@
 // The turn: both darts of each named edge by a quarter, equal to the model's on every plan that fits the arrays.
 // One pass tests and turns the named edges. An edge named before is known by its label, which is not the old one any more.
+#![tactic(auto)]
+
 ghost use Rattle.std.specs.Prelude.{◌≡◌, ◌≤◌, ◌<◌, ◌%◌, length, take};
 ghost use Rattle.lists.specs.Ranges.{lowest};
 ghost use Rattle.lists.specs.Parts.{pairs};

@@ -1,6 +1,8 @@
 // The lines of the checklist: what the engine answers is written down, and told right or wrong. A contract says how the checks are counted; what is written is outside the logic, as in `console`.
 //
 // A tally is how many checks there were, and 65536 times how many of them were wrong. An answer is written as the number of a refusal and its place: 0 at 0 is accepted, or yes, and 1 at 0 is no.
+#![tactic(auto)]
+
 ghost use Rattle.std.specs.Prelude.{◌≡◌};
 ghost use Rattle.verdicts.specs.Verdicts.{tallied, answer_number, same_number, stage_number, undrawn, opened_tally, triple, file_tally, chart_due, drawn_tally, areas_tally, chart_tally, turn_tally, afresh, length_of, written};
 

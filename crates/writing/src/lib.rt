@@ -1,4 +1,6 @@
 // Writing: the file of the sheet that flat arrays hold, into a lent buffer. The length is known before the buffer is touched.
+#![tactic(auto)]
+
 ghost use Rattle.std.specs.Prelude.{◌≡◌, List, [], ◌∷◌, ℕ, ◌+◌, ◌*◌, ◌<◌, ◌≤◌, ◌^◌, length, set};
 ghost use Rattle.std.proofs.lemmas.List.Edits.{sets};
 ghost use Rattle.lists.specs.Spans.{stretch};
