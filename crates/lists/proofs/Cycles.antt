@@ -35,6 +35,8 @@ module _ {A : Type 0} where
 
   -- both entries of a step are entries
   mem-steps : (l : List A) (c : A × A) → Memᴰ c (steps l) → Memᴰ c.0 l × Memᴰ c.1 l
+  mem-steps [] c x' = elim x' [ ]
+  mem-steps (a ∷ []) c x4 = elim x4 [ ]
   mem-steps (a ∷ b ∷ l) c (Memᴰ.head e) = (Memᴰ.head (ap (λ (d : A × A). d.0) e), Memᴰ.tail (Memᴰ.head (ap (λ (d : A × A). d.1) e)))
   mem-steps (a ∷ b ∷ l) c (Memᴰ.tail m) = let (i, j) = mem-steps (b ∷ l) c m in (Memᴰ.tail i, Memᴰ.tail j)
 

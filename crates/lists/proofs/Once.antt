@@ -38,6 +38,7 @@ module _ {A : Type 0} where
   once-right (a ∷ l) m o = once-right l m o.1
 
   pub once-apart : (l m : List A) → Once (l ++ m) → (a : A) → Memᴰ a l → Memᴰ a m → ⊥
+  once-apart [] m o a x3 j = elim x3 [ ]
   once-apart (b ∷ l) m o a (Memᴰ.head e) j = o.0 (Memᴰ.append_right l (Memᴰ.cast (sym e) j))
   once-apart (b ∷ l) m o a (Memᴰ.tail i) j = once-apart l m o.1 a i j
 

@@ -24,6 +24,7 @@ module _ {A : Type 0} where
   get_d_any (c ∷ l) (suc i) a b h = get_d_any l i a b (omega arith)
 
 pub index_below : (a : ℕ) (l : List ℕ) → Memᴰ a l → index_of a l < length l
+index_below a [] i = elim i [ ]
 index_below a (b ∷ l) i = go (eqb a b) refl i (index_below a l)
   where
     go : (t : Bool) → eqb a b ≡ t → Memᴰ a (b ∷ l) → (Memᴰ a l → index_of a l < length l) → cond t 0 (suc (index_of a l)) < suc (length l)
@@ -32,6 +33,7 @@ index_below a (b ∷ l) i = go (eqb a b) refl i (index_below a l)
     go false e (Memᴰ.tail j) r = omega (arith, r j)
 
 pub index_is : (a : ℕ) (l : List ℕ) (z : ℕ) → Memᴰ a l → get_or l (index_of a l) z ≡ a
+index_is a [] z i = elim i [ ]
 index_is a (b ∷ l) z i = go (eqb a b) refl i (index_is a l z)
   where
     go : (t : Bool) → eqb a b ≡ t → Memᴰ a (b ∷ l) → (Memᴰ a l → get_or l (index_of a l) z ≡ a) → get_or (b ∷ l) (cond t 0 (suc (index_of a l))) z ≡ a

@@ -28,6 +28,7 @@ from-mem a (suc k) u p q = go (λ h. from-mem (suc a) k u h (omega arith)) (eqb 
     go r false e = Memᴰ.tail (r (let n : a ≢ u = eqb-false a u e in omega arith))
 
 pub mem-from : (a k u : ℕ) → Memᴰ u (from a k) → (a ≤ u) × (u < a + k)
+mem-from a zero u x' = elim x' [ ]
 mem-from a (suc k) u (Memᴰ.head e) = omega arith
 mem-from a (suc k) u (Memᴰ.tail m) = let h : (suc a ≤ u) × (u < suc a + k) = mem-from (suc a) k u m in omega arith
 

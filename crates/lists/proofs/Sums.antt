@@ -64,22 +64,26 @@ total_join f g (a ∷ l) = total-append f (g a) (concat (map g l)) ∙ ap (total
 -- a list less the entry at a place
 module _ {A : Type 0} (a : A) where
   without : (l : List A) → Memᴰ a l → List A
+  without [] x' = elim x' [ ]
   without (b ∷ l) (Memᴰ.head e) = l
   without (b ∷ l) (Memᴰ.tail i) = b ∷ without l i
 
   total_without : (f : A → ℕ) (l : List A) (i : Memᴰ a l) → total f l ≡ f a + total f (without l i)
   unfolding without total
+  total_without f [] i = elim i [ ]
   total_without f (b ∷ l) (Memᴰ.head e) = ap (λ (c : A). f c + total f l) (sym e)
   total_without f (b ∷ l) (Memᴰ.tail i) = omega (arith, total_without f l i)
 
   without_mem : (l : List A) (i : Memᴰ a l) (c : A) → Memᴰ c (without l i) → Memᴰ c l
   unfolding without
+  without_mem [] i c j = elim i [ ]
   without_mem (b ∷ l) (Memᴰ.head e) c j = Memᴰ.tail j
   without_mem (b ∷ l) (Memᴰ.tail i) c (Memᴰ.head q) = Memᴰ.head q
   without_mem (b ∷ l) (Memᴰ.tail i) c (Memᴰ.tail j) = Memᴰ.tail (without_mem l i c j)
 
   mem_without : (l : List A) (i : Memᴰ a l) (c : A) → Memᴰ c l → (c ≡ a) ⊎ Memᴰ c (without l i)
   unfolding without
+  mem_without [] i c _ = elim i [ ]
   mem_without (b ∷ l) (Memᴰ.head e) c (Memᴰ.head q) = inl (q ∙ sym e)
   mem_without (b ∷ l) (Memᴰ.head e) c (Memᴰ.tail j) = inr j
   mem_without (b ∷ l) (Memᴰ.tail i) c (Memᴰ.head q) = inr (Memᴰ.head q)
@@ -91,6 +95,7 @@ module _ {A : Type 0} (a : A) where
 
   once_without : (l : List A) (i : Memᴰ a l) → Once l → Once (without l i) × (Memᴰ a (without l i) → ⊥)
   unfolding without
+  once_without [] i o = elim i [ ]
   once_without (b ∷ l) (Memᴰ.head e) o = (o.1, λ j. o.0 (Memᴰ.cast (sym e) j))
   once_without (b ∷ l) (Memᴰ.tail i) o = let (s, n) = once_without l i o.1 in (((λ j. o.0 (without_mem l i b j)), s), λ j. go n j)
     where

@@ -10,6 +10,7 @@ use Rattle.lists.proofs.Bools.{or_no, no_or, and_yes, yes_and}
 
 module _ {A : Type 0} (f : A → Bool) where
   pub none_of : (l : List A) → any f l ≡ false → (a : A) → Memᴰ a l → f a ≡ false
+  none_of [] e a x'' = elim x'' [ ]
   none_of (b ∷ l) e a (Memᴰ.head q) = ap f q ∙ (or_no (f b) (any f l) e).0
   none_of (b ∷ l) e a (Memᴰ.tail m) = none_of l (or_no (f b) (any f l) e).1 a m
 
@@ -26,10 +27,12 @@ module _ {A : Type 0} (f : A → Bool) where
       go r false q e = let (a, m, h) = r e in (a, Memᴰ.tail m, h)
 
   pub of_some : (l : List A) (a : A) → Memᴰ a l → f a ≡ true → any f l ≡ true
+  of_some [] a x'' h = elim x'' [ ]
   of_some (b ∷ l) a (Memᴰ.head q) h = rw (← q, h)
   of_some (b ∷ l) a (Memᴰ.tail m) h = rw (of_some l a m h) (or-true (f b))
 
   pub all_of : (l : List A) → all f l ≡ true → (a : A) → Memᴰ a l → f a ≡ true
+  all_of [] e a x'' = elim x'' [ ]
   all_of (b ∷ l) e a (Memᴰ.head q) = ap f q ∙ (and_yes (f b) (all f l) e).0
   all_of (b ∷ l) e a (Memᴰ.tail m) = all_of l (and_yes (f b) (all f l) e).1 a m
 

@@ -27,11 +27,13 @@ get_or-mem (a ∷ l) (suc k) h = Memᴰ.tail (get_or-mem l k (omega arith))
 
 -- and a member has an index
 pub mem-get_or : (l : List ℕ) (a : ℕ) → Memᴰ a l → (k : ℕ) × (k < length l) × (get_or l k 0 ≡ a)
+mem-get_or [] a x' = elim x' [ ]
 mem-get_or (b ∷ l) a (Memᴰ.head e) = (0, omega arith, sym e)
 mem-get_or (b ∷ l) a (Memᴰ.tail m) = let (k, h, e) = mem-get_or l a m in (suc k, omega arith, e)
 
 -- squeezing a list drops no member
 squeeze-after-mem : (b : ℕ) (l : List ℕ) (a : ℕ) → Memᴰ a l → Memᴰ a (b ∷ squeeze_after b l)
+squeeze-after-mem b [] a m = elim m [ ]
 squeeze-after-mem b (c ∷ l) a m = go (squeeze-after-mem b l a) (squeeze-after-mem c l a) (eqb b c) refl m
   where
     go : (Memᴰ a l → Memᴰ a (b ∷ squeeze_after b l)) → (Memᴰ a l → Memᴰ a (c ∷ squeeze_after c l))
@@ -42,6 +44,7 @@ squeeze-after-mem b (c ∷ l) a m = go (squeeze-after-mem b l a) (squeeze-after-
     go r s false q (Memᴰ.tail n) = Memᴰ.tail (s n)
 
 pub squeeze-mem : (l : List ℕ) (a : ℕ) → Memᴰ a l → Memᴰ a (squeeze l)
+squeeze-mem [] a x' = elim x' [ ]
 squeeze-mem (b ∷ l) a (Memᴰ.head e) = Memᴰ.head e
 squeeze-mem (b ∷ l) a (Memᴰ.tail m) = squeeze-after-mem b l a m
 

@@ -90,6 +90,7 @@ pass-under n (c ∷ cs) ks d l m b =
 -- where a pass raises nothing, every constraint on a number of the list is met
 pass-still : (cs : List Constraint) (ks : List ℕ) → ((u : ℕ) → at (pass cs ks) u ≤ at ks u) → (c : Constraint) → Memᴰ c cs → c.high < length ks → at ks c.low + c.gap ≤ at ks c.high
 unfolding pass raised
+pass-still [] ks s c x3 h = elim x3 [ ]
 pass-still (e ∷ cs) ks s c (Memᴰ.head q) h = rw q (
     let x = raise-at e ks e.high refl (rw q at h) in
     let y = pass_rises cs (raise e ks) e.high in
