@@ -1,0 +1,23 @@
+-- starts_of meets its contract.
+use mathlib.Core.Path.{◌≡◌, refl, sym, ap, ◌∙◌}
+use Prim.Native.Nat.{ℕ, suc, ◌+◌, ◌-◌, ◌*◌, ◌≤◌}
+use Rattle.lists.proofs.Loops.{Fills, fills_start, fills_on, fills_end, fills_length}
+use Rattle.rings.specs.Tables.{start_of, starts_of}
+use Rattle.rings.proofs.Rows.{start_first, start-next}
+use native.Mathlib.Omega.{arith}
+use borrow.Author.Rules.{rules}
+use Rattle.rings.proofs.starts_of.Goals as goal
+
+pub loop-u-init : goal.loop-u-init
+loop-u-init c = (omega arith, omega arith, start_first c.args.sizes.now, fills_start refl)
+
+pub loop-u-preserved : goal.loop-u-preserved
+loop-u-preserved c =
+    let z = c.args.sizes.now in
+    let l = c.loop-u in
+    let b = c.byte.ensures in
+    (omega arith, omega arith, start-next z l.u (l.u + 1) c.byte.result l.sum (omega arith) l.invariant.2 b.value, fills_on l.invariant.3 (omega arith) (omega arith) l.invariant.2 refl)
+
+pub returns : goal.returns
+unfolding starts_of
+returns c = fills_end c.loop-u.invariant.3 (omega arith)

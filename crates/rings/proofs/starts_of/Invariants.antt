@@ -1,0 +1,15 @@
+-- What the loops of starts_of keep.
+use mathlib.Core.Path.{◌≡◌, refl, sym, ap, ◌∙◌}
+use Prim.Native.Nat.{ℕ, suc, ◌+◌, ◌-◌, ◌*◌, ◌≤◌}
+use Rattle.lists.proofs.Loops.{Fills, fills_start, fills_on, fills_end, fills_length}
+use Rattle.rings.specs.Tables.{start_of, starts_of}
+use Rattle.rings.proofs.Rows.{start_first, start-next}
+use native.Mathlib.Omega.{arith}
+use borrow.Author.Rules.{rules}
+use Rattle.rings.proofs.starts_of.Given as goal
+
+abbrev pub invariant-loop-u : goal.invariant-loop-u
+invariant-loop-u l = (l.u ≤ 200) × (l.sum ≤ 255 * l.u) × (l.sum ≡ start_of l.sizes l.u) × Fills 200 (start_of l.sizes) l.u l.starts
+
+abbrev pub decreases-loop-u : goal.decreases-loop-u
+decreases-loop-u l = 200 - l.u
