@@ -1,0 +1,30 @@
+-- bad_face meets its contract.
+use Rattle.rings.specs.Tables.{rows}
+use Prim.Native.Nat.{◌-◌}
+use mathlib.Core.Path.{refl, ◌∙◌}
+use Rattle.model.specs.Plan.{ring}
+use Rattle.faces.proofs.FaceTests.{ring_long, bad_dart, dart_bad, dart_good, face_darts}
+use Rattle.lists.proofs.Loops.{Sees, sees_start, sees_hit, sees_on, sees_end}
+use native.Mathlib.Omega.{arith}
+use borrow.Author.Rules.{rules}
+use Rattle.faces.proofs.bad_face.Goals as goal
+
+pub returns-then-bad_dart : goal.returns-then-bad_dart
+returns-then-bad_dart c =
+    let a = c.args in
+    let p = rows a.starts.now a.sizes.now a.entries.now a.n in
+    let long = ring_long a.starts.now a.sizes.now a.entries.now a.n a.u c.size_of-k.ensures.value in
+    sees_hit c.loop-i.invariant (omega arith) (dart_bad p a.u c.neighbour_at-v.ensures c.bad_dart.ensures c.if-bad_dart.true) ∙ face_darts p a.u _ long
+
+pub loop-i-preserved : goal.loop-i-preserved
+loop-i-preserved c =
+    let a = c.args in
+    let p = rows a.starts.now a.sizes.now a.entries.now a.n in
+    sees_on c.loop-i.invariant refl (omega arith) (dart_good p a.u c.neighbour_at-v.ensures c.bad_dart.ensures c.if-bad_dart.false)
+
+pub returns : goal.returns
+returns c =
+    let a = c.args in
+    let p = rows a.starts.now a.sizes.now a.entries.now a.n in
+    let long = ring_long a.starts.now a.sizes.now a.entries.now a.n a.u c.size_of-k.ensures.value in
+    sees_end c.loop-i.invariant (omega arith) ∙ face_darts p a.u _ long

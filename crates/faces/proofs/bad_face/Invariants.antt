@@ -1,0 +1,16 @@
+-- What the loops of bad_face keep.
+use Rattle.rings.specs.Tables.{rows}
+use Prim.Native.Nat.{◌-◌}
+use mathlib.Core.Path.{refl, ◌∙◌}
+use Rattle.model.specs.Plan.{ring}
+use Rattle.faces.proofs.FaceTests.{ring_long, bad_dart, dart_bad, dart_good, face_darts}
+use Rattle.lists.proofs.Loops.{Sees, sees_start, sees_hit, sees_on, sees_end}
+use native.Mathlib.Omega.{arith}
+use borrow.Author.Rules.{rules}
+use Rattle.faces.proofs.bad_face.Given as goal
+
+abbrev pub invariant-loop-i : goal.invariant-loop-i
+invariant-loop-i l = Sees (bad_dart (rows l.starts l.sizes l.entries l.n) l.u) (ring (rows l.starts l.sizes l.entries l.n) l.u) 0 l.k l.i
+
+abbrev pub decreases-loop-i : goal.decreases-loop-i
+decreases-loop-i l = l.k - l.i

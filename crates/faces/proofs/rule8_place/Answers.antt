@@ -1,0 +1,18 @@
+-- rule8_place meets its contract.
+use Rattle.faces.proofs.Flags.{flag_yes, flag_no}
+use Rattle.rings.specs.Tables.{rows}
+use Prim.Native.Nat.{◌-◌}
+use Rattle.model.specs.Plan.{bad_border}
+use Rattle.lists.proofs.Loops.{Looks, looks_start, looks_hit, looks_on, looks_end}
+use native.Mathlib.Omega.{arith}
+use borrow.Author.Rules.{rules}
+use Rattle.faces.proofs.rule8_place.Goals as goal
+
+pub returns-then-bad_border : goal.returns-then-bad_border
+returns-then-bad_border c = looks_hit c.loop-side.invariant (omega arith) (flag_yes c.bad_border.ensures c.if-bad_border.true)
+
+pub loop-side-preserved : goal.loop-side-preserved
+loop-side-preserved c = looks_on c.loop-side.invariant (omega arith) (omega arith) (flag_no c.bad_border.ensures c.if-bad_border.false)
+
+pub returns : goal.returns
+returns c = looks_end c.loop-side.invariant (omega arith)

@@ -1,0 +1,18 @@
+-- rule9_place meets its contract.
+use Rattle.faces.proofs.Flags.{flag_yes, flag_no}
+use Rattle.rings.specs.Tables.{rows}
+use Prim.Native.Nat.{◌-◌}
+use Rattle.model.specs.Plan.{bad_face}
+use Rattle.lists.proofs.Loops.{Looks, looks_start, looks_hit, looks_on, looks_end}
+use native.Mathlib.Omega.{arith}
+use borrow.Author.Rules.{rules}
+use Rattle.faces.proofs.rule9_place.Goals as goal
+
+pub returns-then-bad_face : goal.returns-then-bad_face
+returns-then-bad_face c = looks_hit c.loop-u.invariant (omega arith) (flag_yes c.bad_face.ensures c.if-bad_face.true)
+
+pub loop-u-preserved : goal.loop-u-preserved
+loop-u-preserved c = looks_on c.loop-u.invariant (omega arith) (omega arith) (flag_no c.bad_face.ensures c.if-bad_face.false)
+
+pub returns : goal.returns
+returns c = looks_end c.loop-u.invariant (omega arith)

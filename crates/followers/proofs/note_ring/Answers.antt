@@ -1,0 +1,19 @@
+-- note_ring meets its contract.
+use mathlib.Core.Path.{ap, ◌∙◌}
+use Prim.Native.Nat.{◌-◌, ◌≤◌}
+use lib.ListN.{get_or}
+use Rattle.model.specs.Plan.{neighbour}
+use Rattle.followers.proofs.Notes.{paired, Back, back_start, back_on, back_end, back_long}
+use native.Mathlib.Omega.{arith}
+use borrow.Author.Rules.{rules}
+use Rattle.followers.proofs.note_ring.Goals as goal
+
+pub loop-i-init : goal.loop-i-init
+loop-i-init c = (c.requires, omega arith, back_start (c.neighbour_of-after.ensures ∙ ap neighbour c.num.ensures.value))
+
+pub loop-i-preserved : goal.loop-i-preserved
+loop-i-preserved c =
+    let l = c.loop-i in
+    let v = c.neighbour_of-v.ensures ∙ ap neighbour c.num-in-loop-i.ensures.value in
+    let n = c.note-still.ensures in
+    (omega arith, omega arith, back_on l.invariant.2 (omega arith) (omega arith) v c.mark_of.ensures (paired n.table_after n.value))

@@ -1,0 +1,15 @@
+-- told meets its contract.
+use mathlib.Core.Path.{◌∙◌}
+use Rattle.followers.proofs.Notes.{told-high, told_wide, told-cell}
+use native.Mathlib.Omega.{arith}
+use borrow.Author.Rules.{rules}
+use Rattle.followers.proofs.told.Goals as goal
+
+pub returns-then-u-ge200-clause-value : goal.returns-then-u-ge200-clause-value
+returns-then-u-ge200-clause-value c = let a = c.args in told-high a.table.now a.u a.v c.if-u-ge200.true
+
+pub returns-then-v-ge200-clause-value : goal.returns-then-v-ge200-clause-value
+returns-then-v-ge200-clause-value c = let a = c.args in told_wide a.table.now a.u a.v c.if-u-ge200.false c.if-v-ge200.true
+
+pub returns-clause-value : goal.returns-clause-value
+returns-clause-value c = let a = c.args in c.byte.ensures.value ∙ told-cell a.table.now a.u a.v c.if-u-ge200.false c.if-v-ge200.false

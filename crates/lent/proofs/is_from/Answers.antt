@@ -1,0 +1,27 @@
+-- is_from meets its contract.
+use mathlib.Core.Path.{refl, sym, ap, ◌∙◌}
+use Prim.Native.Nat.{ℕ, ◌-◌}
+use lib.Dec.{eqb}
+use borrow.Author.Tests.{eq-eqb, ne_eqb}
+use Rattle.lists.specs.Tests.{member}
+use Rattle.lists.specs.Spans.{span}
+use Rattle.lists.proofs.Loops.{Sees, sees_start, sees_hit, sees_on, sees_end}
+use Rattle.model.specs.Plan.{ring}
+use Rattle.rings.specs.Lent.{lent}
+use native.Mathlib.Omega.{arith}
+use borrow.Author.Rules.{rules}
+use Rattle.lent.proofs.is_from.Goals as goal
+
+pub returns-then-v-neighbour_in : goal.returns-then-v-neighbour_in
+returns-then-v-neighbour_in c =
+    let a = c.args in
+    let q = c.if-v-neighbour_in.true ∙ c.neighbour_in.ensures in
+    sees_hit c.loop-i.invariant (omega arith) (eq-eqb _ _ q) ∙ ap (λ (e : ℕ). member a.v (span (ring (lent a.starts.now a.sizes.now a.file.now a.n) a.u) a.a e)) c.size_of-e.ensures.value
+
+pub loop-i-preserved : goal.loop-i-preserved
+loop-i-preserved c = sees_on c.loop-i.invariant refl (omega arith) (ne_eqb _ _ (λ q. c.if-v-neighbour_in.false (q ∙ sym c.neighbour_in.ensures)))
+
+pub returns : goal.returns
+returns c =
+    let a = c.args in
+    sees_end c.loop-i.invariant (omega arith) ∙ ap (λ (e : ℕ). member a.v (span (ring (lent a.starts.now a.sizes.now a.file.now a.n) a.u) a.a e)) c.size_of-e.ensures.value

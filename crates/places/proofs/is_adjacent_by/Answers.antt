@@ -1,0 +1,25 @@
+-- is_adjacent_by meets its contract.
+use mathlib.Core.Path.{◌∙◌}
+use Rattle.rings.specs.Tables.{rows}
+use Rattle.places.proofs.Look.{adjacent-high, adjacent_wide, adjacent-cell}
+use native.Mathlib.Omega.{arith}
+use borrow.Author.Rules.{rules}
+use Rattle.places.proofs.is_adjacent_by.Goals as goal
+
+pub returns-then-u-ge200 : goal.returns-then-u-ge200
+returns-then-u-ge200 c =
+    let a = c.args in
+    let p = rows a.starts.now a.sizes.now a.entries.now a.n in
+    c.is_adjacent.ensures ∙ adjacent-high a.places.now p a.u a.v c.if-u-ge200.true
+
+pub returns-then-v-ge200 : goal.returns-then-v-ge200
+returns-then-v-ge200 c =
+    let a = c.args in
+    let p = rows a.starts.now a.sizes.now a.entries.now a.n in
+    c.is_adjacent-then-v-ge200.ensures ∙ adjacent_wide a.places.now p a.u a.v (omega arith) c.if-v-ge200.true
+
+pub returns : goal.returns
+returns c =
+    let a = c.args in
+    let p = rows a.starts.now a.sizes.now a.entries.now a.n in
+    adjacent-cell a.places.now p a.u a.v c.byte.ensures.value (omega arith) (omega arith)

@@ -1,0 +1,17 @@
+-- find meets its contract.
+use mathlib.Core.Path.{◌≡◌, refl, sym, ap, ◌∙◌}
+use Prim.Native.Nat.{◌-◌}
+use Rattle.lists.proofs.Loops.{Finds, finds_start, finds_hit, finds_on, finds_end}
+use Rattle.model.specs.Plan.{neighbour}
+use native.Mathlib.Omega.{arith}
+use borrow.Author.Rules.{rules}
+use Rattle.search.proofs.find.Goals as goal
+
+pub returns-then-v-neighbour_of : goal.returns-then-v-neighbour_of
+returns-then-v-neighbour_of c = finds_hit c.loop-i.invariant (omega arith) (c.if-v-neighbour_of.true ∙ c.neighbour_of.ensures ∙ ap neighbour c.num.ensures.value)
+
+pub loop-i-preserved : goal.loop-i-preserved
+loop-i-preserved c = finds_on c.loop-i.invariant refl (omega arith) (λ q. c.if-v-neighbour_of.false (q ∙ sym (c.neighbour_of.ensures ∙ ap neighbour c.num.ensures.value)))
+
+pub returns : goal.returns
+returns c = finds_end c.loop-i.invariant (omega arith)

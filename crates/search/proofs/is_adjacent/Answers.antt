@@ -1,0 +1,18 @@
+-- is_adjacent meets its contract.
+use mathlib.Core.Path.{sym, ◌∙◌}
+use lib.Dec.{ltb}
+use Rattle.model.specs.Plan.{ring, adjacent}
+use Rattle.rings.specs.Tables.{rows}
+use Rattle.rings.proofs.Rows.{ring-size, member_index}
+use native.Mathlib.Omega.{arith}
+use borrow.Author.Rules.{rules}
+use Rattle.search.proofs.is_adjacent.Goals as goal
+
+pub returns : goal.returns
+unfolding adjacent
+returns c =
+    let a = c.args in
+    let p = rows a.starts.now a.sizes.now a.entries.now a.n in
+    let at = c.index_of.ensures.value in
+    let long = c.size_of.ensures.value ∙ sym (ring-size a.starts.now a.sizes.now a.entries.now a.n a.u) in
+    (λ i. ltb (at i) (long i)) ∙ sym (member_index a.v (ring p a.u))

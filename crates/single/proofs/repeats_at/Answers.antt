@@ -1,0 +1,42 @@
+-- repeats_at meets its contract.
+use Prim.Native.Nat.{◌+◌}
+use lib.ListN.{get_or}
+use Rattle.lists.specs.Tests.{member}
+use Rattle.lists.proofs.Spans.{span_more, span_end}
+use mathlib.Core.Path.{◌≡◌, refl, sym, ◌∙◌}
+use Prim.Native.Nat.{◌-◌}
+use Rattle.lists.specs.Tests.{repeats}
+use Rattle.lists.specs.Spans.{span}
+use Rattle.model.specs.Plan.{ring}
+use Rattle.rings.specs.Lent.{lent}
+use Rattle.single.proofs.Entries.{whole_repeat}
+use native.Mathlib.Omega.{arith}
+use borrow.Author.Rules.{rules}
+use Rattle.single.proofs.repeats_at.Goals as goal
+
+pub returns-then-is_from : goal.returns-then-is_from
+returns-then-is_from c =
+    let a = c.args in
+    let e = c.size_of-e.ensures.value in
+    let l = ring (lent a.starts.now a.sizes.now a.file.now a.n) a.u in
+    let i = c.loop-i.i in
+    let v = c.neighbour_in-v.ensures in
+    let here : member (get_or l i 0) (span l (i + 1) c.size_of-e.result) ≡ c.is_from.result = sym (c.is_from.ensures ∙ (λ t. member (v t) (span l (i + 1) (sym e t)))) in
+    sym (c.loop-i.invariant ∙ rw (span_more l i c.size_of-e.result (omega arith), here ∙ c.if-is_from.true)) ∙ whole_repeat a.starts.now a.sizes.now a.file.now a.n a.u _ e
+
+pub loop-i-preserved : goal.loop-i-preserved
+loop-i-preserved c =
+    let a = c.args in
+    let e = c.size_of-e.ensures.value in
+    let l = ring (lent a.starts.now a.sizes.now a.file.now a.n) a.u in
+    let i = c.loop-i.i in
+    let v = c.neighbour_in-v.ensures in
+    let here : member (get_or l i 0) (span l (i + 1) c.size_of-e.result) ≡ c.is_from.result = sym (c.is_from.ensures ∙ (λ t. member (v t) (span l (i + 1) (sym e t)))) in
+    c.loop-i.invariant ∙ rw (span_more l i c.size_of-e.result (omega arith), here ∙ c.if-is_from.false)
+
+pub returns : goal.returns
+returns c =
+    let a = c.args in
+    let e = c.size_of-e.ensures.value in
+    let l = ring (lent a.starts.now a.sizes.now a.file.now a.n) a.u in
+    sym (c.loop-i.invariant ∙ rw (span_end l c.loop-i.i c.size_of-e.result (omega arith))) ∙ whole_repeat a.starts.now a.sizes.now a.file.now a.n a.u _ e
