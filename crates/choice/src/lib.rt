@@ -12,7 +12,7 @@ ghost use Rattle.choice.specs.Search.{found_as, Ready, Lowest, Takes, Extends, S
 ghost use Rattle.choice.specs.Run.{trail_of};
 
 // What a search knows of the list so far, beside a mark for each context of it: whether there is one, its first context, the lowest frontier position that lists some context of it. It is not ok where the list is good for no pair.
-#[derive(Drop)]
+#[derive(Clone, Copy)]
 struct Lead {
     pub ok: bool,
     pub some: bool,
@@ -21,7 +21,7 @@ struct Lead {
 }
 
 // The pair of positions that a step takes.
-#[derive(Drop)]
+#[derive(Clone, Copy)]
 pub enum Found {
     At(usize, usize),
     Nothing,

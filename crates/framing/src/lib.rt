@@ -9,21 +9,21 @@ ghost use Rattle.framing.specs.Offsets.{cursor, word_at, frame_at, framed_of, du
 ghost use Rattle.framing.specs.Layouts.{plan_in, labels_in, sheet_in, tidied, rest_from, plan_from, Enough, Lays, nothing};
 
 // The record at an offset: its kind and the size of its body; broken where its length is missing, under 2 or past the end.
-#[derive(Drop)]
+#[derive(Clone, Copy)]
 pub enum Frame {
     Body(usize, usize),
     Broken,
 }
 
 // What is due at an offset: it is there, or the refusal's number and place.
-#[derive(Drop)]
+#[derive(Clone, Copy)]
 enum Due {
     There,
     Refused(u8, usize),
 }
 
 // The ring record at an offset: the number of its entries, or the refusal's number and place.
-#[derive(Drop)]
+#[derive(Clone, Copy)]
 enum Ring {
     Size(usize),
     Unfit(u8, usize),
@@ -38,7 +38,7 @@ struct Walk {
 }
 
 // What a file holds: a plan, labels too, a chart too; or the refusal's number and place.
-#[derive(Drop)]
+#[derive(Clone, Copy)]
 pub enum Found {
     Opened,
     Labelled,

@@ -26,6 +26,7 @@ small-append (a ∷ l) m h k = (h.0, small-append l m h.1 k)
 
 -- an entry of such a list
 pub small-mem : (l : List ℕ) (a : ℕ) → Small l → Memᴰ a l → a < 200
+small-mem [] a h x'' = elim x'' [ ]
 small-mem (b ∷ l) a h (Memᴰ.head e) = let z = h.0 in omega arith
 small-mem (b ∷ l) a h (Memᴰ.tail m) = small-mem l a h.1 m
 
@@ -83,7 +84,7 @@ pushed-marks v x = go (ltb v.len 512)
 -- ---- an array that holds a list, read back
 -- a stretch of the array is a part of the list
 pub stretch_part : (f : List ℕ) (a k : ℕ) → a + k ≤ length f → stretch (padded 512 f) a k ≡ take k (drop a f)
-stretch_part f a k h = stretch-held 512 f a k ∙ spans.stretch-part f a k h
+stretch_part f a k h = stretch-held 512 f a k ∙ spans.stretch_part f a k h
 
 -- the whole list read back
 pub stretch-all : (f : List ℕ) → stretch (padded 512 f) 0 (length f) ≡ f

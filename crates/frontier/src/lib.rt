@@ -18,7 +18,7 @@ pub struct Line {
 }
 
 // A line whose arrays are lent: whether it is ok, and how many contexts it has.
-#[derive(Drop)]
+#[derive(Clone, Copy)]
 pub struct Tally {
     pub ok: bool,
     pub len: usize,

@@ -8,7 +8,7 @@ ghost use Rattle.sheet.specs.Sheets.{packed, stage_read, rank};
 ghost use Rattle.sheet.specs.Answers.{answer_as};
 
 // How far a sheet has come.
-#[derive(Drop)]
+#[derive(Clone, Copy)]
 pub enum Stage {
     Empty,
     Open,
@@ -31,7 +31,7 @@ pub struct Sheet {
 }
 
 // What open, offer, sweep, turn and chart answer: accepted, or the refusal's number and place.
-#[derive(Drop)]
+#[derive(Clone, Copy)]
 pub enum Answer {
     Accepted,
     Refused(u8, usize),
@@ -45,14 +45,14 @@ pub struct Outcome {
 }
 
 // What write answers: the file's length, or the refusal.
-#[derive(Drop)]
+#[derive(Clone, Copy)]
 pub enum Written {
     Length(usize),
     Refused(u8, usize),
 }
 
 // What scan answers: three contexts that enclose others, none, or the refusal.
-#[derive(Drop)]
+#[derive(Clone, Copy)]
 pub enum Scanned {
     Triple(usize, usize, usize),
     Nothing,
@@ -60,7 +60,7 @@ pub enum Scanned {
 }
 
 // What same answers.
-#[derive(Drop)]
+#[derive(Clone, Copy)]
 pub enum Compared {
     Same,
     Different,
@@ -68,7 +68,7 @@ pub enum Compared {
 }
 
 // What ring answers: offset and length of the ring's body in the file, or the refusal.
-#[derive(Drop)]
+#[derive(Clone, Copy)]
 pub enum RingAnswer {
     Part(usize, usize),
     Refused(u8, usize),

@@ -12,7 +12,7 @@ ghost use Rattle.survey.specs.Surveys.{natural, with_area, counted, faces_on, su
 use sheet::Sheet;
 
 // The inner faces of a chart: how many there are, how many of them are positive, the least and the sum of their doubled areas, where a negative one counts as 0.
-#[derive(Drop)]
+#[derive(Clone, Copy)]
 pub struct Areas {
     pub faces: usize,
     pub positive: usize,

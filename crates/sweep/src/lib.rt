@@ -9,7 +9,7 @@ ghost use Rattle.fit.specs.Fits.{fit};
 ghost use Rattle.sweep.specs.Swept.{outcome_of, sweep_of, bare, unswept};
 
 // What a sweep answers: labels, stuck (14), the lowest context that breaks the label rules (10), or a plan that does not fit the arrays (13).
-#[derive(Drop)]
+#[derive(Clone, Copy)]
 pub enum SweepAnswer {
     Labelled,
     Stuck,

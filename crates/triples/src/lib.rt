@@ -8,7 +8,7 @@ ghost use Rattle.followers.specs.Followers.{followers_of};
 ghost use Rattle.triples.specs.Scanned.{scanned_as, apart_by, face_by, harmless, nearer, first_for, second_for, third_for};
 
 // What a scan says: a triple, or that there is none.
-#[derive(Drop)]
+#[derive(Clone, Copy)]
 pub enum Scanned {
     Triple(usize, usize, usize),
     Nothing,

@@ -13,7 +13,7 @@ ghost use Rattle.turn.specs.Run.{place_of, turn_at, bad_at};
 ghost use Rattle.turn.specs.Run as run;
 
 // What a turn answers: labels, the first bad place of the list (15), the lowest context that breaks the label rules (10), or rings that do not fit the arrays (13).
-#[derive(Drop)]
+#[derive(Clone, Copy)]
 pub enum TurnAnswer {
     Labelled,
     BadList(usize),

@@ -11,7 +11,7 @@ ghost use Rattle.rings.specs.Tables.{table, held};
 ghost use Rattle.writing.specs.Files.{kept, darts_held, labels_held, chart_held, sheet_held, outcome_of, buffer_after};
 
 // The parts that a file has.
-#[derive(Drop)]
+#[derive(Clone, Copy)]
 pub enum Parts {
     PlanOnly,
     WithLabels,
@@ -19,7 +19,7 @@ pub enum Parts {
 }
 
 // The file's length, or the bytes needed where the buffer is short.
-#[derive(Drop)]
+#[derive(Clone, Copy)]
 pub enum Written {
     Length(usize),
     Short(usize),

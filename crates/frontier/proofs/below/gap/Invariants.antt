@@ -1,0 +1,18 @@
+-- What the loops of gap keep.
+use mathlib.Core.Path.{◌≡◌, refl, sym, ap, ◌∙◌}
+use Prim.Native.Nat.{ℕ, ◌-◌, ◌≤◌, ◌<◌}
+use native.Mathlib.Omega.{arith}
+use lib.ListN.{length}
+use borrow.Author.Rules.{rules}
+use Rattle.model.specs.Plan.{ring}
+use Rattle.rings.specs.Tables.{rows}
+use Rattle.rings.proofs.Rows.{ring-size}
+use Rattle.frontier.proofs.Moves.{turned_long, Gaps, gap-start, gap_hit, gap-on, gap_end}
+use Rattle.frontier.specs.Run.{turned_at}
+use Rattle.frontier.proofs.below.gap.Given as goal
+
+abbrev pub invariant-loop-t : goal.invariant-loop-t
+invariant-loop-t l = (l.e ≡ length (turned_at l.x (ring (rows l.starts l.sizes l.entries l.n) l.u))) × (l.t ≤ l.e) × (l.e < 512) × Gaps (turned_at l.x (ring (rows l.starts l.sizes l.entries l.n) l.u)) l.b l.t
+
+abbrev pub decreases-loop-t : goal.decreases-loop-t
+decreases-loop-t l = l.e - l.t

@@ -1,0 +1,37 @@
+-- fill_in meets its contract.
+use mathlib.Core.Path.{◌≡◌, refl, sym, ◌∙◌}
+use Prim.Native.Nat.{ℕ, ◌-◌, ◌*◌, ◌≤◌, min}
+use Rattle.model.specs.Plan.{ring}
+use Rattle.rings.specs.Lent.{lent}
+use Rattle.rings.proofs.Rows.{size_outside}
+use Rattle.lent.proofs.Rings.{lent-size}
+use Rattle.places.proofs.Notes.{Notes, notes_start, notes_on, notes_next, notes_end}
+use native.Mathlib.Omega.{arith}
+use borrow.Author.Rules.{rules}
+use Rattle.mutual.proofs.fill_in.Goals as goal
+
+pub loop-u-init : goal.loop-u-init
+loop-u-init c = (omega arith, omega arith, notes_start)
+
+pub loop-u-preserved-then-i-e : goal.loop-u-preserved-then-i-e
+loop-u-preserved-then-i-e c =
+    let a = c.args in
+    let l = c.loop-u in
+    let fit = c.lesser-m.ensures in
+    let size = c.size_of-e.ensures.value ∙ sym (lent-size a.starts.now a.sizes.now a.file.now a.n l.u) in
+    let most = c.size_of-e.ensures.upper_bound in
+    (l.invariant.0, omega arith, notes_on l.invariant.2 (omega arith) (omega arith) c.neighbour_in-v.ensures (omega arith) refl c.note.ensures)
+
+pub loop-u-preserved : goal.loop-u-preserved
+loop-u-preserved c =
+    let a = c.args in
+    let l = c.loop-u in
+    let size = c.size_of-e.ensures.value ∙ sym (lent-size a.starts.now a.sizes.now a.file.now a.n l.u) in
+    (omega arith, omega arith, notes_next l.invariant.2 (omega arith) (omega arith))
+
+pub returns : goal.returns
+returns c =
+    let a = c.args in
+    let l = c.loop-u in
+    let fit = c.lesser-m.ensures in
+    notes_end l.invariant.2 (λ k h b. lent-size a.starts.now a.sizes.now a.file.now a.n k ∙ size_outside a.sizes.now a.n k (omega arith))

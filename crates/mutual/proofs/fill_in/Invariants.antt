@@ -1,0 +1,17 @@
+-- What the loops of fill_in keep.
+use mathlib.Core.Path.{◌≡◌, refl, sym, ◌∙◌}
+use Prim.Native.Nat.{ℕ, ◌-◌, ◌*◌, ◌≤◌, min}
+use Rattle.model.specs.Plan.{ring}
+use Rattle.rings.specs.Lent.{lent}
+use Rattle.rings.proofs.Rows.{size_outside}
+use Rattle.lent.proofs.Rings.{lent-size}
+use Rattle.places.proofs.Notes.{Notes, notes_start, notes_on, notes_next, notes_end}
+use native.Mathlib.Omega.{arith}
+use borrow.Author.Rules.{rules}
+use Rattle.mutual.proofs.fill_in.Given as goal
+
+abbrev pub invariant-loop-u : goal.invariant-loop-u
+invariant-loop-u l = (l.u ≤ l.m) × (l.i ≤ 255) × Notes (lent l.starts l.sizes l.file l.n) l.initial.table l.u l.i l.table
+
+abbrev pub decreases-loop-u : goal.decreases-loop-u
+decreases-loop-u l = (l.m - l.u) * 256 - l.i

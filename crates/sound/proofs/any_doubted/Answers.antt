@@ -1,0 +1,18 @@
+-- any_doubted meets its contract.
+use mathlib.Core.Path.{sym, ◌∙◌}
+use Prim.Native.Nat.{◌-◌, ◌≤◌}
+use Rattle.lists.proofs.Folds.{Seeks, seeks_start, seeks_hit, seeks_on, seeks_end}
+use Rattle.rings.specs.Tables.{rows}
+use Rattle.sound.specs.Sound.{doubted}
+use native.Mathlib.Omega.{arith}
+use borrow.Author.Rules.{rules}
+use Rattle.sound.proofs.any_doubted.Goals as goal
+
+pub returns-then-is_doubted : goal.returns-then-is_doubted
+returns-then-is_doubted c = seeks_hit c.loop-u.invariant.1 (omega arith) (sym c.is_doubted.ensures ∙ c.if-is_doubted.true)
+
+pub loop-u-preserved : goal.loop-u-preserved
+loop-u-preserved c = (omega arith, seeks_on c.loop-u.invariant.1 (omega arith) (sym c.is_doubted.ensures ∙ c.if-is_doubted.false))
+
+pub returns : goal.returns
+returns c = seeks_end c.loop-u.invariant.1 (omega arith)

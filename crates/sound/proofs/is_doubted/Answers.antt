@@ -1,0 +1,29 @@
+-- is_doubted meets its contract.
+use mathlib.Core.Path.{refl, ap, ◌∙◌}
+use Prim.Native.Nat.{ℕ, ◌-◌, ◌≤◌}
+use Rattle.lists.proofs.Loops.{Sees, sees_start, sees_hit, sees_on, sees_end}
+use Rattle.model.specs.Plan.{neighbour}
+use Rattle.sound.specs.Sound.{doubtful}
+use Rattle.sound.proofs.Doubts.{ring-doubted, entry-doubtful}
+use native.Mathlib.Omega.{arith}
+use borrow.Author.Rules.{rules}
+use Rattle.sound.proofs.is_doubted.Goals as goal
+
+pub returns-then-is_doubtful : goal.returns-then-is_doubtful
+returns-then-is_doubtful c =
+    let a = c.args in
+    let size = c.size_of.ensures.value in
+    let there = c.neighbour_of.ensures ∙ ap neighbour c.num.ensures.value in
+    sees_hit c.loop-i.invariant.1 (omega arith) (entry-doubtful a.table.now a.u there c.is_doubtful.ensures c.if-is_doubtful.true) ∙ ring-doubted a.table.now a.starts.now a.sizes.now a.entries.now a.n a.u c.num-a.ensures.value (omega arith)
+
+pub loop-i-preserved : goal.loop-i-preserved
+loop-i-preserved c =
+    let a = c.args in
+    let there = c.neighbour_of.ensures ∙ ap neighbour c.num.ensures.value in
+    (omega arith, sees_on c.loop-i.invariant.1 refl (omega arith) (entry-doubtful a.table.now a.u there c.is_doubtful.ensures c.if-is_doubtful.false))
+
+pub returns : goal.returns
+returns c =
+    let a = c.args in
+    let size = c.size_of.ensures.value in
+    sees_end c.loop-i.invariant.1 (omega arith) ∙ ring-doubted a.table.now a.starts.now a.sizes.now a.entries.now a.n a.u c.num-a.ensures.value (omega arith)
