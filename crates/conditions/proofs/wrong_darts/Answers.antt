@@ -1,0 +1,24 @@
+-- wrong_darts meets its contract.
+use mathlib.Core.Path.{refl, sym, ap, ◌∙◌}
+use Prim.Native.Nat.{ℕ, ◌-◌}
+use Rattle.lists.proofs.Tests.{any-map}
+use Rattle.lists.proofs.Loops.{Sees, sees_start, sees_hit, sees_on, sees_end}
+use Rattle.lists.specs.Spans.{span}
+use Rattle.model.specs.Plan.{neighbour}
+use Rattle.conditions.specs.LabelBy.{wrong_dart_by}
+use native.Mathlib.Omega.{arith}
+use borrow.Author.Rules.{rules}
+use Rattle.conditions.proofs.wrong_darts.Goals as goal
+
+pub returns-then-wrong_dart : goal.returns-then-wrong_dart
+returns-then-wrong_dart c =
+    sees_hit c.loop-i.invariant (omega arith) (ap (wrong_dart_by c.args.places.now c.args.starts.now c.args.labels.now c.args.u) (sym (c.neighbour_of-v.ensures ∙ ap neighbour c.num.ensures.value)) ∙ sym c.wrong_dart.ensures ∙ c.if-wrong_dart.true)
+    ∙ any-map (wrong_dart_by c.args.places.now c.args.starts.now c.args.labels.now c.args.u) neighbour (span c.args.entries.now c.args.a c.args.e)
+
+pub loop-i-preserved : goal.loop-i-preserved
+loop-i-preserved c = sees_on c.loop-i.invariant refl (omega arith) (ap (wrong_dart_by c.args.places.now c.args.starts.now c.args.labels.now c.args.u) (sym (c.neighbour_of-v.ensures ∙ ap neighbour c.num.ensures.value)) ∙ sym c.wrong_dart.ensures ∙ c.if-wrong_dart.false)
+
+pub returns : goal.returns
+returns c =
+    sees_end c.loop-i.invariant (omega arith)
+    ∙ any-map (wrong_dart_by c.args.places.now c.args.starts.now c.args.labels.now c.args.u) neighbour (span c.args.entries.now c.args.a c.args.e)

@@ -1,0 +1,37 @@
+-- frame_labels meets its contract.
+use Prim.Native.Nat.{◌+◌, ◌*◌}
+use mathlib.Core.Path.{sym, ap, ◌∙◌}
+use mathlib.Core.List.{[], ◌∷◌}
+use Rattle.lists.specs.Spans.{stretch}
+use Rattle.model.specs.Plan.{dart_count}
+use Rattle.model.specs.File.{optional}
+use Rattle.framing.specs.Offsets.{due_of}
+use Rattle.framing.specs.Layouts.{plan_in}
+use Rattle.framing.proofs.Layouts.{due-refused, due_there, lays_refused, lays_as, lays_opened}
+use native.Mathlib.Omega.{arith}
+use borrow.Author.Rules.{rules}
+use Rattle.framing.proofs.frame_labels.Goals as goal
+
+pub returns-then-file-at : goal.returns-then-file-at
+returns-then-file-at c =
+    let a = c.args in
+    let p = c.requires in
+    lays_opened a.file.now a.sizes a.n p.le_n p.n_bound.0 p.n_bound.1.1 a.at c.if-file-at.true
+
+pub returns-in-Refused : goal.returns-in-Refused
+unfolding optional
+returns-in-Refused c =
+    let a = c.args in
+    let f = a.file.now in
+    let e = sym (ap (due_of f a.at (dart_count a.n)) c.in-Refused.is) ∙ c.due_at-due.ensures in
+    lays_refused f _ _ c.refused.ensures (due-refused f (plan_in f a.sizes a.n) [] 3 (dart_count a.n) ((4, 4 + 4 * a.n) ∷ []) a.at c.if-file-at.false _ _ e)
+
+pub returns-in-There : goal.returns-in-There
+unfolding optional
+returns-in-There c =
+    let a = c.args in
+    let f = a.file.now in
+    let e = sym (ap (due_of f a.at (dart_count a.n)) c.in-There.is) ∙ c.due_at-due.ensures in
+    lays_as
+    (due_there f (plan_in f a.sizes a.n) [] 3 (dart_count a.n) ((4, 4 + 4 * a.n) ∷ []) a.at c.if-file-at.false (stretch f (a.at + 4) (dart_count a.n)) (a.at + 4 + dart_count a.n) e)
+    c.frame_chart.ensures

@@ -1,0 +1,8 @@
+-- labels_length meets its contract.
+use Rattle.writing.proofs.Lengths.{length-labels}
+use native.Mathlib.Omega.{arith}
+use borrow.Author.Rules.{rules}
+use Rattle.writing.proofs.labels_length.Goals as goal
+
+pub returns-clause-by_index : goal.returns-clause-by_index
+returns-clause-by_index c = λ ls. length-labels c.args.sizes.now ls _ _ c.darts_of.ensures.value

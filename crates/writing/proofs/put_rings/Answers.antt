@@ -1,0 +1,43 @@
+-- put_rings meets its contract.
+use mathlib.Core.Path.{◌≡◌, refl, ap, ◌∙◌}
+use Prim.Native.Nat.{ℕ, ◌+◌, ◌-◌, ◌*◌, ◌≤◌}
+use lib.Seq.{sets}
+use mathlib.Core.List.{map}
+use Rattle.lists.specs.Ranges.{from}
+use Rattle.lists.proofs.Spans.{length-stretch}
+use Rattle.lists.proofs.Words.{length-bytes}
+use Rattle.lists.specs.Spans.{stretch}
+use Rattle.lists.specs.Words.{bytes}
+use Rattle.model.specs.File.{entry, rings_out}
+use Rattle.rings.specs.Tables.{start_of}
+use Rattle.rings.proofs.Rows.{start_first, start-next}
+use Rattle.writing.proofs.Emits.{Emits, emits_start, emits_on, emits_end, emits_size, rings-more, rings-done}
+use Rattle.writing.proofs.Pieces.{table_row, table-rings, table-row}
+use native.Mathlib.Omega.{arith}
+use borrow.Author.Rules.{rules}
+use Rattle.model.proofs.FileWrite.{length-entry}
+use Rattle.writing.proofs.put_rings.Goals as goal
+
+pub loop-u-init : goal.loop-u-init
+loop-u-init c =
+    let a = c.args in
+    let all : a.n - 0 ≡ a.n = omega arith in
+    (omega arith, omega arith, start_first a.sizes.now, emits_start (omega arith) (ap (λ (k : ℕ). rings_out (map (table_row a.sizes.now a.entries.now) (from 0 k))) all))
+
+pub loop-u-preserved : goal.loop-u-preserved
+loop-u-preserved c =
+    let a = c.args in
+    let l = c.loop-u in
+    let k = c.byte-k.result in
+    let r = stretch a.entries.now l.i k in
+    let head = length-entry 2 (bytes r) in
+    let body = length-bytes r in
+    let size = length-stretch a.entries.now l.i k in
+    let here = table-row a.sizes.now a.entries.now l.u l.i k (omega arith) l.invariant.2 c.byte-k.ensures.value in
+    let more = rings-more (table_row a.sizes.now a.entries.now) a.n l.u (l.u + 1) r (omega arith) refl here in
+    (omega arith, omega arith, start-next a.sizes.now l.u (l.u + 1) k l.i (omega arith) l.invariant.2 c.byte-k.ensures.value, emits_on l.invariant.3 (entry 2 (bytes r)) more c.put_ring.ensures (omega arith))
+
+pub returns : goal.returns
+returns c =
+    let a = c.args in
+    emits_end c.loop-u.invariant.3 (rings-done (table_row a.sizes.now a.entries.now) a.n c.loop-u.u (omega arith)) ∙ ap (sets a.out.now a.at) (table-rings a.sizes.now a.entries.now a.n)

@@ -1,0 +1,25 @@
+-- What the loops of put_rings keep.
+use mathlib.Core.Path.{◌≡◌, refl, ap, ◌∙◌}
+use Prim.Native.Nat.{ℕ, ◌+◌, ◌-◌, ◌*◌, ◌≤◌}
+use lib.Seq.{sets}
+use mathlib.Core.List.{map}
+use Rattle.lists.specs.Ranges.{from}
+use Rattle.lists.proofs.Spans.{length-stretch}
+use Rattle.lists.proofs.Words.{length-bytes}
+use Rattle.lists.specs.Spans.{stretch}
+use Rattle.lists.specs.Words.{bytes}
+use Rattle.model.specs.File.{entry, rings_out}
+use Rattle.rings.specs.Tables.{start_of}
+use Rattle.rings.proofs.Rows.{start_first, start-next}
+use Rattle.writing.proofs.Emits.{Emits, emits_start, emits_on, emits_end, emits_size, rings-more, rings-done}
+use Rattle.writing.proofs.Pieces.{table_row, table-rings, table-row}
+use native.Mathlib.Omega.{arith}
+use borrow.Author.Rules.{rules}
+use Rattle.model.proofs.FileWrite.{length-entry}
+use Rattle.writing.proofs.put_rings.Given as goal
+
+abbrev pub invariant-loop-u : goal.invariant-loop-u
+invariant-loop-u l = (l.u ≤ l.n) × (l.i ≤ 255 * l.u) × (l.i ≡ start_of l.sizes l.u) × Emits l.initial.out l.at (rings_out (map (table_row l.sizes l.entries) (from 0 l.n))) l.out (l.at + 4 * l.u + 2 * l.i) (rings_out (map (table_row l.sizes l.entries) (from l.u (l.n - l.u))))
+
+abbrev pub decreases-loop-u : goal.decreases-loop-u
+decreases-loop-u l = l.n - l.u

@@ -1,0 +1,16 @@
+-- What the loops of put_words keep.
+use mathlib.Core.Path.{refl, ap}
+use Prim.Native.Nat.{◌+◌, ◌-◌, ◌*◌, ◌≤◌}
+use mathlib.Core.List.{[], ◌∷◌}
+use Rattle.lists.specs.Spans.{stretch}
+use Rattle.lists.specs.Words.{bytes}
+use Rattle.writing.proofs.Emits.{Emits, emits_start, emits_on, emits_end, emits_size, bytes_two, stretch-all, words-done, words_more}
+use native.Mathlib.Omega.{arith}
+use borrow.Author.Rules.{rules}
+use Rattle.writing.proofs.put_words.Given as goal
+
+abbrev pub invariant-loop-j : goal.invariant-loop-j
+invariant-loop-j l = (l.j ≤ l.k) × Emits l.initial.out l.at (bytes (stretch l.a l.i l.k)) l.out (l.at + 2 * l.j) (bytes (stretch l.a (l.i + l.j) (l.k - l.j)))
+
+abbrev pub decreases-loop-j : goal.decreases-loop-j
+decreases-loop-j l = l.k - l.j
