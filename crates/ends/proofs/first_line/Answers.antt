@@ -1,0 +1,12 @@
+-- first_line meets its contract.
+use mathlib.Core.Path.{ap, ◌∙◌}
+use borrow.Author.Rules.{rules}
+use Rattle.frontier.specs.Run as run
+use Rattle.ends.specs.Ends.{marked, first_line}
+use Rattle.ends.proofs.first_line.Goals as goal
+
+pub returns : goal.returns
+unfolding first_line
+returns c =
+    let v = c.front-v.result in
+    ap (run.line v.ok v.len v.at) c.marked-marks.ensures ∙ ap (λ w. run.line w.ok w.len w.at (marked w.at w.len)) c.front-v.ensures

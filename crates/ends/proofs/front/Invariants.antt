@@ -1,0 +1,21 @@
+-- What the loops of front keep.
+use mathlib.Core.Path.{◌≡◌, sym, ap, ◌∙◌}
+use Prim.Native.Nat.{ℕ, suc, ◌-◌}
+use native.Mathlib.Omega.{arith}
+use lib.ListN.{length, get_or}
+use borrow.Author.Rules.{rules}
+use Rattle.lists.specs.Spans.{zeros}
+use Rattle.model.specs.Plan.{ring}
+use Rattle.rings.specs.Tables.{rows}
+use Rattle.rings.proofs.Rows.{ring-size}
+use Rattle.lists.proofs.Folds.{Sinks, sinks_from, sinks_on, sinks_end}
+use Rattle.frontier.specs.Run as run
+use Rattle.ends.specs.Ends.{front}
+use Rattle.ends.proofs.Beginning.{onward-first}
+use Rattle.ends.proofs.front.Given as goal
+
+abbrev pub invariant-loop-t : goal.invariant-loop-t
+invariant-loop-t l = (length l.at ≡ 512) × Sinks (λ (i : ℕ) w. run.pushed w (get_or (ring (rows l.starts l.sizes l.entries l.n) 0) (suc i) 0)) (length (ring (rows l.starts l.sizes l.entries l.n) 0) - 2) (run.pushed (run.fresh (zeros 256)) 3) l.t (run.line_of l.v l.at (zeros 256))
+
+abbrev pub decreases-loop-t : goal.decreases-loop-t
+decreases-loop-t l = l.t

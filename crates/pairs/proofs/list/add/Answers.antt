@@ -1,0 +1,21 @@
+-- add meets its contract.
+use mathlib.Core.Path.{sym, ap, ◌∙◌}
+use Prim.Native.Nat.{ℕ}
+use lib.ListN.{set}
+use borrow.Author.Rules.{rules}
+use Rattle.pairs.proofs.Moves.{push_noted}
+use Rattle.frontier.specs.Run as lines
+use Rattle.pairs.specs.Run as run
+use Rattle.pairs.proofs.list.add.Goals as goal
+
+pub returns-then-last_is : goal.returns-then-last_is
+unfolding run.added
+returns-then-last_is c = rw (sym c.last_is.ensures ∙ c.if-last_is.true)
+
+pub returns-then-barred : goal.returns-then-barred
+unfolding run.added run.failed
+returns-then-barred c = rw (sym c.last_is.ensures ∙ c.if-last_is.false, sym c.barred.ensures ∙ c.if-barred.true) (ap (λ t. lines.line_of t c.args.at.now c.args.marks.now) c.failed.ensures)
+
+pub returns : goal.returns
+unfolding run.added
+returns c = rw (sym c.last_is.ensures ∙ c.if-last_is.false, sym c.barred.ensures ∙ c.if-barred.false) (c.push.ensures _ ∙ ap (λ m. lines.pushed (lines.line_of c.args.list c.args.at.now m) c.args.c) (c.set_byte.ensures ∙ ap (λ (i : ℕ). set c.args.marks.now i 1) c.wide_word.ensures.value) ∙ sym (push_noted (lines.line_of c.args.list c.args.at.now c.args.marks.now) c.args.c))

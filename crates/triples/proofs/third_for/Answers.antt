@@ -1,0 +1,31 @@
+-- third_for meets its contract.
+use mathlib.Core.Path.{sym, ◌∙◌}
+use Prim.Native.Nat.{ℕ, ◌-◌}
+use Rattle.model.specs.Plan.{ring}
+use Rattle.model.specs.Scan.{enclosing}
+use Rattle.model.proofs.Plans.{adjacent-mem}
+use Rattle.rings.specs.Tables.{rows}
+use Rattle.rings.proofs.Rows.{ring-size}
+use Rattle.triples.specs.Scanned.{third_for}
+use Rattle.triples.proofs.Scans.{enclosing-says}
+use Rattle.triples.proofs.Nearest.{ring-entry, Nearest, nearest_start, nearest_on, nearest_end}
+use native.Mathlib.Omega.{arith}
+use borrow.Author.Rules.{rules}
+use Rattle.triples.proofs.third_for.Goals as goal
+
+pub loop-i-preserved : goal.loop-i-preserved
+loop-i-preserved c =
+    let a = c.args in
+    let l = c.loop-i in
+    let size = c.size_of-k.ensures.value in
+    let entry = ring-entry a.starts.now a.sizes.now a.entries.now a.n a.b l.i c.num-start.ensures.value (omega arith) c.num.ensures.value c.neighbour_of-c.ensures in
+    nearest_on l.invariant entry c.nearer_third-best.ensures (omega arith)
+
+pub returns : goal.returns
+unfolding third_for
+returns c =
+    let a = c.args in
+    let p = rows a.starts.now a.sizes.now a.entries.now a.n in
+    let h = c.requires.b_lt_n in
+    let size = c.size_of-k.ensures.value ∙ sym (ring-size a.starts.now a.sizes.now a.entries.now a.n a.b) in
+    nearest_end c.loop-i.invariant (omega arith) (omega arith) (λ x e. adjacent-mem p a.b x (enclosing-says p a.a a.b x e).1)
