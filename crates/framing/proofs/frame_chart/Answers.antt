@@ -15,7 +15,7 @@ pub returns-then-file-at : goal.returns-then-file-at
 returns-then-file-at c =
     let a = c.args in
     let p = c.requires in
-    lays_labelled a.file.now a.sizes a.n p.le_n p.n_bound.0 p.n_bound.1.1 a.labels p.n_bound.1.0 c.if-file-at.true
+    lays_labelled a.file.now a.sizes a.n p.le_n p.n_bound p.sizes_value a.labels p.labels_bound c.if-file-at.true
 
 pub returns-in-Refused : goal.returns-in-Refused
 returns-in-Refused c =

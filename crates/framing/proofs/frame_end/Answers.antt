@@ -22,4 +22,4 @@ returns-in-There c =
     let a = c.args in
     let p = c.requires in
     let e = sym (ap end_of c.in-There.is) ∙ c.end_at-end.ensures in
-    lays_charted a.file.now a.sizes a.n p.le_n p.n_bound.0 p.n_bound.1.1.1 a.labels a.chart p.n_bound.1.0 p.n_bound.1.1.0 e
+    lays_charted a.file.now a.sizes a.n p.le_n p.n_bound p.sizes_value a.labels a.chart p.labels_bound p.chart_bound e

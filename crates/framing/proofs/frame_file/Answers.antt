@@ -10,18 +10,18 @@ returns-in-Refused-clause-result_value c =
     let f = c.args.file.now in
     let e = sym (ap (due_of f 0 2) c.in-Refused.is) ∙ c.due_at-head.ensures in
     let l = lays_refused f _ _ c.refused.ensures (file_refused f _ _ e) in
-    ((l.told, (l.tidy, (l.enough, (l.few, (l.labels_near, l.chart_near)))))).0
+    l.told
 
 pub returns-in-Refused-clause-value : goal.returns-in-Refused-clause-value
 returns-in-Refused-clause-value c =
     let f = c.args.file.now in
     let e = sym (ap (due_of f 0 2) c.in-Refused.is) ∙ c.due_at-head.ensures in
     let l = lays_refused f _ _ c.refused.ensures (file_refused f _ _ e) in
-    ((l.told, (l.tidy, (l.enough, (l.few, (l.labels_near, l.chart_near)))))).1
+    l.tidy
 
 pub returns-in-There-clause-result_value : goal.returns-in-There-clause-result_value
 returns-in-There-clause-result_value c =
     let f = c.args.file.now in
     let e = sym (ap (due_of f 0 2) c.in-There.is) ∙ c.due_at-head.ensures in
     let l = lays_as (file_there f e) c.frame_plan.ensures in
-    ((l.told, (l.tidy, (l.enough, (l.few, (l.labels_near, l.chart_near)))))).0
+    l.told

@@ -16,7 +16,7 @@ pub returns-then-file-at : goal.returns-then-file-at
 returns-then-file-at c =
     let a = c.args in
     let p = c.requires in
-    lays_opened a.file.now a.sizes a.n p.le_n p.n_bound.0 p.n_bound.1.1 a.at c.if-file-at.true
+    lays_opened a.file.now a.sizes a.n p.le_n p.n_bound p.sizes_value a.at c.if-file-at.true
 
 pub returns-in-Refused : goal.returns-in-Refused
 unfolding optional

@@ -11,12 +11,12 @@ pub returns-then-i-size_of : goal.returns-then-i-size_of
 returns-then-i-size_of c =
     let a = c.args in
     let k = c.requires in
-    let at = index_told (rows a.starts.now a.sizes.now a.entries.now a.n) k.n_bound.1 a.u a.v c.index_by-i.ensures.value in
-    place_found a.starts.now a.sizes.now a.entries.now a.n k.starts_value k.n_bound.0 a.u a.v c.num.ensures.value at c.size_of.ensures.value (omega arith)
+    let at = index_told (rows a.starts.now a.sizes.now a.entries.now a.n) k.places_value a.u a.v c.index_by-i.ensures.value in
+    place_found a.starts.now a.sizes.now a.entries.now a.n k.starts_value k.n_bound a.u a.v c.num.ensures.value at c.size_of.ensures.value (omega arith)
 
 pub returns : goal.returns
 returns c =
     let a = c.args in
     let k = c.requires in
-    let at = index_told (rows a.starts.now a.sizes.now a.entries.now a.n) k.n_bound.1 a.u a.v c.index_by-i.ensures.value in
-    place_missing a.starts.now a.sizes.now a.entries.now a.n k.starts_value k.n_bound.0 a.u a.v refl at c.size_of.ensures.value (omega arith)
+    let at = index_told (rows a.starts.now a.sizes.now a.entries.now a.n) k.places_value a.u a.v c.index_by-i.ensures.value in
+    place_missing a.starts.now a.sizes.now a.entries.now a.n k.starts_value k.n_bound a.u a.v refl at c.size_of.ensures.value (omega arith)

@@ -22,7 +22,7 @@ returns-then-is_bad-clause-at c =
     let k = c.loop-k.k in
     let m : length a.items.now / 2 ≡ length (pairs a.items.now) = sym (length_pairs a.items.now) in
     let pair = pair_is a.items.now k (omega arith) c.num-u.ensures.value c.num-v.ensures.value in
-    let room : entry_count (table a.sizes.now a.entries.now a.n) ≤ 1186 = let e = count-table a.starts.now a.sizes.now a.entries.now a.n s.starts_value s.n_bound.0 in omega arith in
+    let room : entry_count (table a.sizes.now a.entries.now a.n) ≤ 1186 = let e = count-table a.starts.now a.sizes.now a.entries.now a.n s.starts_value s.n_bound in omega arith in
     turns_hit inv.2 room (omega arith) c.num-u.result c.num-v.result pair c.place_of-i.ensures c.is_bad.ensures m (omega arith) c.if-is_bad.true
 
 pub loop-k-preserved : goal.loop-k-preserved
@@ -33,8 +33,8 @@ loop-k-preserved c =
     let k = c.loop-k.k in
     let m : length a.items.now / 2 ≡ length (pairs a.items.now) = sym (length_pairs a.items.now) in
     let pair = pair_is a.items.now k (omega arith) c.num-u.ensures.value c.num-v.ensures.value in
-    let room : entry_count (table a.sizes.now a.entries.now a.n) ≤ 1186 = let e = count-table a.starts.now a.sizes.now a.entries.now a.n s.starts_value s.n_bound.0 in omega arith in
-    let next = turns-on inv.2 room (omega arith) c.num-u.result c.num-v.result pair c.place_of-i.ensures c.is_bad.ensures m (omega arith) s.n_bound.1.1.1.1 c.if-is_bad.false c.place_of-back.ensures c.turn_at.ensures c.turn_at-in-loop-k.ensures refl in
+    let room : entry_count (table a.sizes.now a.entries.now a.n) ≤ 1186 = let e = count-table a.starts.now a.sizes.now a.entries.now a.n s.starts_value s.n_bound in omega arith in
+    let next = turns-on inv.2 room (omega arith) c.num-u.result c.num-v.result pair c.place_of-i.ensures c.is_bad.ensures m (omega arith) s.q_bound.1 c.if-is_bad.false c.place_of-back.ensures c.turn_at.ensures c.turn_at-in-loop-k.ensures refl in
     (turns_long next ∙ omega arith, omega arith, next)
 
 pub returns-clause-at : goal.returns-clause-at

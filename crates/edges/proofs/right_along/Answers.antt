@@ -1,0 +1,23 @@
+-- right_along meets its contract.
+use mathlib.Core.Path.{◌≡◌, refl, ◌∙◌}
+use Prim.Native.Nat.{◌+◌, ◌-◌}
+use native.Mathlib.Omega.{arith}
+use lib.ListN.{length, get_or}
+use borrow.Author.Rules.{rules}
+use Rattle.lists.specs.Spans.{span}
+use Rattle.lists.specs.Parts.{steps}
+use Rattle.model.specs.Labels.{right}
+use Rattle.edges.specs.Edges.{edge_by}
+use Rattle.edges.proofs.Draws.{Draws, draws-start, draws-on, draws_end, steps-more, steps_end}
+use Rattle.edges.proofs.right_along.Goals as goal
+
+pub loop-k-preserved : goal.loop-k-preserved
+loop-k-preserved c =
+    let a = c.args in
+    let f = a.f.now in
+    let k = c.loop-k.k in
+    let l = c.minus-last.ensures in
+    (search rules, draws-on c.loop-k.invariant.1 (get_or f k 0) (get_or f (k + 1) 0) (steps-more f k a.e (omega arith)) (c.edge.ensures ∙ (λ d. edge_by a.places.now a.starts.now 1 (c.num.ensures.value d) (c.num-in-loop-k.ensures.value d) c.loop-k.labels)))
+
+pub returns : goal.returns
+returns c = let a = c.args in let l = c.minus-last.ensures in draws_end c.loop-k.invariant.1 (steps_end a.f.now c.loop-k.k a.e (omega arith))

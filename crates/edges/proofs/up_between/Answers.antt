@@ -1,0 +1,22 @@
+-- up_between meets its contract.
+use mathlib.Core.Path.{◌≡◌, refl, ap, ◌∙◌}
+use Prim.Native.Nat.{ℕ, ◌-◌}
+use native.Mathlib.Omega.{arith}
+use lib.ListN.{length, get_or}
+use borrow.Author.Rules.{rules}
+use Rattle.lists.specs.Spans.{span}
+use Rattle.model.specs.Labels.{up}
+use Rattle.model.specs.Sweep.{product}
+use Rattle.edges.specs.Edges.{edges_by, fan}
+use Rattle.edges.proofs.Draws.{Draws, draws-start, draws_part, draws_end, product-more, product_end}
+use Rattle.edges.proofs.up_between.Goals as goal
+
+pub loop-k-preserved : goal.loop-k-preserved
+loop-k-preserved c =
+    let a = c.args in
+    let vs = span a.f.now a.a a.e in
+    let k = c.loop-k.k in
+    (search rules, draws_part c.loop-k.invariant.1 (fan (get_or a.g.now k 0) vs) (product-more a.g.now k a.m vs (omega arith)) (c.up_from.ensures ∙ ap (λ (u : ℕ). edges_by a.places.now a.starts.now 0 (fan u vs) c.loop-k.labels) c.num.ensures.value))
+
+pub returns : goal.returns
+returns c = let a = c.args in draws_end c.loop-k.invariant.1 (product_end a.g.now c.loop-k.k a.m (span a.f.now a.a a.e) (omega arith))

@@ -1,0 +1,20 @@
+-- up_from meets its contract.
+use mathlib.Core.Path.{◌≡◌, refl, ap, ◌∙◌}
+use Prim.Native.Nat.{ℕ, ◌-◌}
+use native.Mathlib.Omega.{arith}
+use lib.ListN.{length, get_or}
+use borrow.Author.Rules.{rules}
+use Rattle.lists.specs.Spans.{span}
+use Rattle.model.specs.Labels.{up}
+use Rattle.edges.specs.Edges.{edge_by, fan}
+use Rattle.edges.proofs.Draws.{Draws, draws-start, draws-on, draws_end, fan-more, fan_end}
+use Rattle.edges.proofs.up_from.Goals as goal
+
+pub loop-k-preserved : goal.loop-k-preserved
+loop-k-preserved c =
+    let a = c.args in
+    let i = c.loop-k.k in
+    (search rules, draws-on c.loop-k.invariant.1 a.u (get_or a.f.now i 0) (fan-more a.f.now i a.e a.u (omega arith)) (c.edge.ensures ∙ ap (λ (v : ℕ). edge_by a.places.now a.starts.now 0 a.u v c.loop-k.labels) c.num.ensures.value))
+
+pub returns : goal.returns
+returns c = let a = c.args in draws_end c.loop-k.invariant.1 (fan_end a.f.now c.loop-k.k a.e a.u (omega arith))

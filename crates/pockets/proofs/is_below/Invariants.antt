@@ -1,0 +1,20 @@
+-- What the loops of is_below keep.
+use mathlib.Core.Path.{sym, ◌∙◌}
+use Prim.Native.Nat.{ℕ, ◌-◌}
+use lib.ListN.{get_or}
+use lib.Dec.{eqb}
+use borrow.Author.Tests.{eq-eqb, ne_eqb}
+use Rattle.lists.proofs.Folds.{Seeks, seeks_start, seeks_hit, seeks_on, seeks_end}
+use Rattle.model.specs.Plan.{ring}
+use Rattle.rings.specs.Tables.{rows}
+use Rattle.frontier.specs.Run.{turned_at}
+use Rattle.pockets.proofs.Pocketed.{scanned}
+use native.Mathlib.Omega.{arith}
+use borrow.Author.Rules.{rules}
+use Rattle.pockets.proofs.is_below.Given as goal
+
+abbrev pub invariant-loop-t : goal.invariant-loop-t
+invariant-loop-t l = Seeks (λ (i : ℕ). eqb l.c (get_or (turned_at l.x (ring (rows l.starts l.sizes l.entries l.n) l.u)) i 0)) 0 l.q l.t
+
+abbrev pub decreases-loop-t : goal.decreases-loop-t
+decreases-loop-t l = l.q - l.t
