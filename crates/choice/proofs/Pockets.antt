@@ -32,6 +32,7 @@ apart-after x (y ∷ a) d b e n m = go (apart-after x a d b) (eqb x y) refl e
 
 -- Nothing else stands between two of c
 pub apart : (a : List ℕ) (d : ℕ) (b : List ℕ) (c : ℕ) → repeats (squeeze (a ++ (d ∷ b))) ≡ false → Memᴰ c a → (d ≡ c → ⊥) → Memᴰ c b → ⊥
+apart [] d b c e x4 n m = elim x4 [ ]
 apart (x ∷ a) d b c e (Memᴰ.head q) n m = apart-after x a d b e (λ z. n (z ∙ sym q)) (subst (λ (w : ℕ). Memᴰ w b) q m)
 apart (x ∷ a) d b c e (Memᴰ.tail k) n m = go (apart a d b c) (squeeze-before (x ∷ []) (a ++ (d ∷ b))) (repeats (squeeze (a ++ (d ∷ b)))) refl
   where

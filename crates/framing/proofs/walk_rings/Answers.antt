@@ -7,9 +7,6 @@ use native.Mathlib.Omega.{arith}
 use borrow.Author.Rules.{rules}
 use Rattle.framing.proofs.walk_rings.Goals as goal
 
-low : (c : tie.After-known-told2 invariant-loop decreases-loop) → c.before.ring2.given.0.0 < c.before.before.before.before.before.before.before.args.n
-low c = subst (RingBelow c.before.before.before.before.before.before.before.args.n) c.before.ring2.given.1 c.before.before.before.ring-at.ensures.1
-
 pub loop-i-init : goal.loop-i-init
 loop-i-init c = walks_start refl
 
@@ -22,7 +19,7 @@ pub loop-i-preserved : goal.loop-i-preserved
 loop-i-preserved c =
     let a = c.args in
     let e = sym (ap (ring_of a.file.now _) c.in-Size.is) ∙ c.ring_at-ring.ensures.result_value in
-    walks_on c.loop-i.invariant c.loop-i-test.true c.requires (low c) e refl (omega arith) refl
+    walks_on c.loop-i.invariant c.loop-i-test.true c.requires (subst (RingBelow a.n) c.in-Size.is c.ring_at-ring.ensures.ring_below) e refl (omega arith) refl
 
 pub returns-clause-result_value : goal.returns-clause-result_value
 returns-clause-result_value c =

@@ -1,0 +1,21 @@
+-- What the loops of extend keep.
+use mathlib.Core.Path.{◌≡◌, refl, sym, ap, ◌∙◌}
+use mathlib.Core.Bool.{true}
+use mathlib.Core.List.{List}
+use Prim.Native.Nat.{ℕ, ◌-◌, ◌≤◌}
+use lib.ListN.{length, get_or}
+use borrow.Author.Tests.{not-true, not-false}
+use Rattle.rings.specs.Tables.{rows}
+use Rattle.places.specs.Places.{places_of}
+use Rattle.frontier.proofs.Moves.{under-turned, turn-told, depth-told}
+use Rattle.choice.proofs.Trails.{Grows, grows_start, grows_on, grows_end, grows_stop, extends_bare}
+use Rattle.choice.specs.Run as run
+use native.Mathlib.Omega.{arith}
+use borrow.Author.Rules.{rules}
+use Rattle.choice.proofs.extend.Given as goal
+
+abbrev pub invariant-loop-t : goal.invariant-loop-t
+invariant-loop-t l = (l.t ≤ l.q) × (length l.on ≡ length l.initial.on) × (l.lead.ok ≡ true) × (l.places ≡ places_of (rows l.starts l.sizes l.entries l.n) → l.place ≡ run.placed l.f l.m → Grows (rows l.starts l.sizes l.entries l.n) l.f l.m l.k (run.trail_of l.initial.lead l.initial.on) l.t (run.trail_of l.lead l.on))
+
+abbrev pub decreases-loop-t : goal.decreases-loop-t
+decreases-loop-t l = l.q - l.t

@@ -1,0 +1,17 @@
+-- What the loops of touches keep.
+use mathlib.Core.Path.{sym, ap, ◌∙◌}
+use Prim.Native.Nat.{ℕ, ◌-◌}
+use lib.ListN.{get_or}
+use Rattle.rings.specs.Tables.{rows}
+use Rattle.places.specs.Places.{adjacent_by}
+use Rattle.lists.proofs.Folds.{Seeks, seeks_start, seeks_hit, seeks_on, seeks_end}
+use Rattle.chords.specs.Run as run
+use native.Mathlib.Omega.{arith}
+use borrow.Author.Rules.{rules}
+use Rattle.chords.proofs.touches.Given as goal
+
+abbrev pub invariant-loop-k : goal.invariant-loop-k
+invariant-loop-k l = Seeks (λ (i : ℕ). adjacent_by l.places (rows l.starts l.sizes l.entries l.n) l.u (get_or l.g i 0)) l.a l.e l.k
+
+abbrev pub decreases-loop-k : goal.decreases-loop-k
+decreases-loop-k l = l.e - l.k
