@@ -21,7 +21,7 @@ pub loop-j-preserved : goal.loop-j-preserved
 loop-j-preserved c =
     let a = c.args in
     let h = c.loop-j.invariant.0 in
-    (omega arith, λ s rd. choosing_on (c.loop-j.invariant.1 s rd) (omega arith) (shut_best (rows a.starts.now a.sizes.now a.entries.now a.n) rd.sane s (line true a.m a.f.now a.t8) rd.front c.placed-place.result c.placed-place.ensures (c.loop-j.j - 1) (omega arith) (c.shut.ensures (not-false c.shut.result (ap not c.if-not-shut.false)) rd.own)) refl)
+    (omega arith, λ s rd. choosing_on (c.loop-j.invariant.1 s rd) (omega arith) (shut_best (rows a.starts.now a.sizes.now a.entries.now a.n) rd.sane s (line true a.m a.f.now a.marks) rd.front c.placed-place.result c.placed-place.ensures (c.loop-j.j - 1) (omega arith) (c.shut.ensures c.if-not-shut.false rd.own)) refl)
 
 pub returns : goal.returns
 returns c = λ s rd. choosing_end (c.loop-j.invariant.1 s rd) (omega arith)

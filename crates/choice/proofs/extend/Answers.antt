@@ -25,7 +25,7 @@ returns-then-not-lead c =
     let a = c.args in
     let p = rows a.starts.now a.sizes.now a.entries.now a.n in
     let cur = c.loop-t in
-    let ok = not-true c.take-lead.result.ok (ap not c.if-not-lead.true) in
+    let ok = not-true c.take-lead.result.ok c.if-not-lead.true in
     λ own hi.
     let at = turn-told p own a.f.now a.k c.turn_by-x.ensures.value in
     let size = depth-told p own a.f.now a.k c.turn_by-x.ensures.value c.depth-q.ensures.value in
@@ -38,7 +38,7 @@ loop-t-preserved c =
     let a = c.args in
     let p = rows a.starts.now a.sizes.now a.entries.now a.n in
     let cur = c.loop-t in
-    let ok = not-false c.take-lead.result.ok (ap not c.if-not-lead.false) in (
+    let ok = not-false c.take-lead.result.ok c.if-not-lead.false in (
       omega arith,
       search rules,
       ok,
