@@ -17,7 +17,7 @@ pub enum Stage {
 }
 
 // A sheet. What is not in use is zero.
-#[derive(Drop)]
+#[derive(Clone, Copy)]
 pub struct Sheet {
     pub stage: Stage,
     pub n: u16,
@@ -38,7 +38,7 @@ pub enum Answer {
 }
 
 // The answer, and the sheet afterwards.
-#[derive(Drop)]
+#[derive(Clone, Copy)]
 pub struct Outcome {
     pub answer: Answer,
     pub sheet: Sheet,

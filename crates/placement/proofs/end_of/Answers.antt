@@ -1,0 +1,18 @@
+-- end_of meets its contract.
+use borrow.Author.Tests.{eq-eqb, ne_eqb}
+use native.Mathlib.Omega.{arith}
+use borrow.Author.Rules.{rules}
+use Rattle.placement.specs.Asking.{end_of}
+use Rattle.placement.proofs.end_of.Goals as goal
+
+pub returns-then-label-eq1 : goal.returns-then-label-eq1
+unfolding end_of
+returns-then-label-eq1 c = rw (c.if-upright.true, eq-eqb _ _ c.if-label-eq1.true)
+
+pub returns-else-label-eq1 : goal.returns-else-label-eq1
+unfolding end_of
+returns-else-label-eq1 c = rw (c.if-upright.true, ne_eqb _ _ c.if-label-eq1.false)
+
+pub returns-else-upright : goal.returns-else-upright
+unfolding end_of
+returns-else-upright c = rw c.if-upright.false

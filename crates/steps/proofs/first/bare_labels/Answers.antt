@@ -1,0 +1,35 @@
+-- bare_labels meets its contract.
+use mathlib.Core.Path.{◌≡◌, refl, sym, ◌∙◌}
+use Prim.Native.Nat.{◌-◌, ◌≤◌}
+use native.Mathlib.Omega.{arith}
+use lib.ListN.{length}
+use borrow.Author.Rules.{rules}
+use Rattle.lists.specs.Spans.{zeros}
+use Rattle.rings.specs.Tables.{rows}
+use Rattle.rings.proofs.Rows.{ring-size, count-rows}
+use Rattle.steps.proofs.Unlabelled.{Filled, filled-start, filled_on, filled_end, filled-room}
+use Rattle.steps.proofs.first.bare_labels.Goals as goal
+
+pub loop-u-init : goal.loop-u-init
+unfolding zeros
+loop-u-init c = ((omega arith, search rules), filled-start refl)
+
+pub bare_ring-requires : goal.bare_ring-requires
+bare_ring-requires c = filled-room c.loop-u.invariant.1 c.requires
+
+pub overflow_add-k : goal.overflow_add-k
+overflow_add-k c = let r = filled-room c.loop-u.invariant.1 c.requires in let s = c.size_of-k.ensures.upper_bound in omega arith
+
+pub loop-u-preserved : goal.loop-u-preserved
+loop-u-preserved c =
+    let a = c.args in
+    let n = count-rows a.starts.now a.sizes.now a.entries.now a.n in
+    let size = c.size_of-k.ensures.value ∙ sym (ring-size a.starts.now a.sizes.now a.entries.now a.n c.loop-u.u) in
+    ((omega arith, search rules), filled_on c.loop-u.invariant.1 (omega arith) c.requires refl size refl c.bare_ring.ensures)
+
+pub returns : goal.returns
+returns c =
+    let a = c.args in
+    let n = count-rows a.starts.now a.sizes.now a.entries.now a.n in
+    let h = c.loop-u.invariant.0.0 in
+    filled_end c.loop-u.invariant.1 (omega arith)

@@ -1,0 +1,15 @@
+-- take_step meets its contract.
+use mathlib.Core.Path.{refl, ◌∙◌}
+use Rattle.lists.specs.Spans.{zeros}
+use Rattle.steps.proofs.Steps.{stepped}
+use native.Mathlib.Omega.{arith}
+use borrow.Author.Rules.{rules}
+use Rattle.pairs.proofs.Moves.{listing-own, replaced-own}
+use Rattle.steps.proofs.step.take_step.Goals as goal
+
+pub returns : goal.returns
+unfolding zeros
+returns c = λ g z.
+    stepped (c.listed-g.ensures ∙ listing-own _ g.own _ _ _ _ refl)
+    (c.step_labels.ensures _ g)
+    (c.replaced-v.ensures _ ∙ replaced-own _ _ _ _ _ _ _ z)

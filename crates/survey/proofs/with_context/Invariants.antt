@@ -1,0 +1,12 @@
+-- What the loops of with_context keep.
+use Rattle.std.proofs.Common.{◌-◌, arith, rules}
+use Rattle.areas.specs.Corners.{points}
+use Rattle.sheet.specs.Sheets.{held_plan}
+use Rattle.survey.proofs.Counts.{Around, around_start, around_on, around_end}
+use Rattle.survey.proofs.with_context.Given as goal
+
+abbrev pub invariant-loop-i : goal.invariant-loop-i
+invariant-loop-i l = Around (held_plan l.sheet) (points l.sheet.xs l.sheet.ys) l.u l.k l.initial.all l.i l.all
+
+abbrev pub decreases-loop-i : goal.decreases-loop-i
+decreases-loop-i l = l.k - l.i
