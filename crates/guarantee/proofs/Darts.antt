@@ -61,6 +61,7 @@ pub border-is-outer : (d : Dart) → Memᴰ d (cycle border-walk) → outer d �
 unfolding outer
 border-is-outer d (mathlib.Core.List.Memᴰ.head e) = ap outer e
 border-is-outer d (mathlib.Core.List.Memᴰ.tail (mathlib.Core.List.Memᴰ.head e)) = ap outer e
+border-is-outer d (mathlib.Core.List.Memᴰ.tail (mathlib.Core.List.Memᴰ.tail (mathlib.Core.List.Memᴰ.tail (mathlib.Core.List.Memᴰ.tail x16)))) = elim x16 [ ]
 border-is-outer d (mathlib.Core.List.Memᴰ.tail (mathlib.Core.List.Memᴰ.tail (mathlib.Core.List.Memᴰ.head e))) = ap outer e
 border-is-outer d (mathlib.Core.List.Memᴰ.tail (mathlib.Core.List.Memᴰ.tail (mathlib.Core.List.Memᴰ.tail (mathlib.Core.List.Memᴰ.head e)))) = ap outer e
 

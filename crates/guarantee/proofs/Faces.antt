@@ -116,6 +116,7 @@ module _ (p : Plan) (s : Sound p) where
     where
       go : Memᴰ d (e ∷ S e ∷ S (S e) ∷ []) → Orbit e d
       go (Memᴰ.head q) = inl q
+      go (Memᴰ.tail (Memᴰ.tail (Memᴰ.tail x12))) = elim x12 [ ]
       go (Memᴰ.tail (Memᴰ.head q)) = inr (inl q)
       go (Memᴰ.tail (Memᴰ.tail (Memᴰ.head q))) = inr (inr q)
 
@@ -155,10 +156,12 @@ module _ (p : Plan) (s : Sound p) where
   once-walk e i = let n = differ e i in (first n, (second n, ((λ m. Memᴰ.not-nil m), tt)))
     where
       first : Differ e → Memᴰ (dart e.0 e.1) (dart e.1 (S e).1 ∷ dart (S e).1 e.0 ∷ []) → ⊥
+      first n (Memᴰ.tail (Memᴰ.tail x8)) = elim x8 [ ]
       first n (Memᴰ.head q) = n.first_second (ap (λ (c : Dart). c.0) q)
       first n (Memᴰ.tail (Memᴰ.head q)) = n.third_first (sym (ap (λ (c : Dart). c.0) q))
 
       second : Differ e → Memᴰ (dart e.1 (S e).1) (dart (S e).1 e.0 ∷ []) → ⊥
+      second n (Memᴰ.tail x4) = elim x4 [ ]
       second n (Memᴰ.head q) = n.second_third (ap (λ (c : Dart). c.0) q)
 
   -- ---- two walks
@@ -285,11 +288,13 @@ module _ (p : Plan) (s : Sound p) where
     where
       steps : (c : Dart × Dart) → Memᴰ c (cycle (e ∷ S e ∷ S (S e) ∷ [])) → S c.0 ≡ c.1
       steps c (Memᴰ.head q) = ap (λ (b : Dart × Dart). S b.0) q ∙ sym (ap (λ (b : Dart × Dart). b.1) q)
+      steps c (Memᴰ.tail (Memᴰ.tail (Memᴰ.tail x12))) = elim x12 [ ]
       steps c (Memᴰ.tail (Memᴰ.head q)) = ap (λ (b : Dart × Dart). S b.0) q ∙ sym (ap (λ (b : Dart × Dart). b.1) q)
       steps c (Memᴰ.tail (Memᴰ.tail (Memᴰ.head q))) = ap (λ (b : Dart × Dart). S b.0) q ∙ three-steps p s e h.inner ∙ sym (ap (λ (b : Dart × Dart). b.1) q)
 
       lowest : (u : ℕ) → Memᴰ u (e.0 ∷ e.1 ∷ (S e).1 ∷ []) → e.0 ≤ u
       lowest u (Memᴰ.head q) = omega arith
+      lowest u (Memᴰ.tail (Memᴰ.tail (Memᴰ.tail x12))) = elim x12 [ ]
       lowest u (Memᴰ.tail (Memᴰ.head q)) = let a = h.lower₁ in omega arith
       lowest u (Memᴰ.tail (Memᴰ.tail (Memᴰ.head q))) = let a = h.lower₂ in omega arith
 

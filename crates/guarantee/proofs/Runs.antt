@@ -27,6 +27,8 @@ Rises (l ∷ []) = Unit {0}
 Rises (l ∷ k ∷ ls) = Onward l k × Rises (k ∷ ls)
 
 rises_at : (ls : List ℕ) → Rises ls → (c : ℕ × ℕ) → Memᴰ c (steps ls) → Onward c.0 c.1
+rises_at [] r c x'' = elim x'' [ ]
+rises_at (l ∷ []) r c x6 = elim x6 [ ]
 rises_at (l ∷ k ∷ ls) r c (mathlib.Core.List.Memᴰ.head e) = subst (λ (d : ℕ × ℕ). Onward d.0 d.1) (sym e) r.0
 rises_at (l ∷ k ∷ ls) r c (mathlib.Core.List.Memᴰ.tail m) = rises_at (k ∷ ls) r.1 c m
 

@@ -8,8 +8,8 @@ unfolding with_area
 returns c =
     let s = c.args.areas in
     λ i. record {
-      faces = c.wrapping_add_usize.ensures i;
-      positive = (c.wrapping_add_usize-2.ensures ∙ ap (λ (x : ℕ). (s.positive + x) % 2 ^ 64) c.lesser.ensures) i;
+      faces = c.wrapping_add_usize.ensures.value i;
+      positive = (c.wrapping_add_usize-2.ensures.value ∙ ap (λ (x : ℕ). (s.positive + x) % 2 ^ 64) c.lesser.ensures) i;
       least = c.lesser-2.ensures i;
-      sum = c.wrapping_add_usize-3.ensures i;
+      sum = c.wrapping_add_usize-3.ensures.value i;
     }

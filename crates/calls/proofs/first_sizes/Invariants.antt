@@ -1,0 +1,15 @@
+-- What the loops of first_sizes keep.
+use mathlib.Core.Path.{refl}
+use Prim.Native.Nat.{ℕ, ◌-◌, ◌≤◌}
+use lib.ListN.{get_or}
+use Rattle.lists.proofs.Loops.{Fills, fills_start, fills_on}
+use Rattle.calls.proofs.Cleaned.{filled-front}
+use native.Mathlib.Omega.{arith}
+use borrow.Author.Rules.{rules}
+use Rattle.calls.proofs.first_sizes.Given as goal
+
+abbrev pub invariant-loop-i : goal.invariant-loop-i
+invariant-loop-i l = (l.i ≤ l.k) × Fills 200 (λ (j : ℕ). get_or l.a j 0) l.i l.b
+
+abbrev pub decreases-loop-i : goal.decreases-loop-i
+decreases-loop-i l = l.k - l.i

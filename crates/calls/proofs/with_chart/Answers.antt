@@ -1,0 +1,9 @@
+-- with_chart meets its contract.
+use mathlib.Core.Path.{refl}
+use Rattle.calls.proofs.Charts.{chart-stored}
+use native.Mathlib.Omega.{arith}
+use borrow.Author.Rules.{rules}
+use Rattle.calls.proofs.with_chart.Goals as goal
+
+pub returns : goal.returns
+returns c = let a = c.args in λ ch e. chart-stored a.sheet c.with_labels-kept.result a.drawn ch c.with_labels-kept.ensures e

@@ -1,0 +1,73 @@
+-- write meets its contract.
+use mathlib.Core.Path.{ap, ◌∙◌}
+use Rattle.sheet.specs.Answers.{written_as}
+use Rattle.reports.specs.FileParts.{parts_of}
+use Rattle.sheet.proofs.Reading.{ranked}
+use Rattle.reports.proofs.Writes.{early_length, buffer_kept, length-written, short-written, buffer_written}
+use native.Mathlib.Omega.{arith}
+use borrow.Author.Rules.{rules}
+use Rattle.reports.proofs.write.Goals as goal
+
+pub returns-then-rank_of-lt1-clause-result_value : goal.returns-then-rank_of-lt1-clause-result_value
+unfolding written_as
+returns-then-rank_of-lt1-clause-result_value c =
+    let a = c.args in
+    let s = a.sheet in
+    let k = ranked s c.stage_of-stage.ensures c.rank_of.ensures in
+    early_length s a.out.now (omega arith)
+
+pub returns-then-rank_of-lt1-clause-out_after : goal.returns-then-rank_of-lt1-clause-out_after
+unfolding written_as
+returns-then-rank_of-lt1-clause-out_after c =
+    let a = c.args in
+    let s = a.sheet in
+    let k = ranked s c.stage_of-stage.ensures c.rank_of.ensures in
+    buffer_kept s a.out.now (omega arith)
+
+pub returns-in-Length-clause-result_value : goal.returns-in-Length-clause-result_value
+unfolding written_as
+returns-in-Length-clause-result_value c =
+    let a = c.args in
+    let s = a.sheet in
+    let k = ranked s c.stage_of-stage.ensures c.rank_of.ensures in
+    let call = c.write_parts-answer in
+    (let q = c.parts_of.ensures ∙ ap parts_of c.stage_of-stage.ensures in (
+      length-written s c.parts_of.result q (omega arith) a.out.now call.new.1.1.0 call.result call.ensures.0 c.in-Length.k c.in-Length.is,
+      buffer_written s c.parts_of.result q (omega arith) a.out.now call.new.1.1.0 call.ensures.1,
+    )).0
+
+pub returns-in-Length-clause-out_after : goal.returns-in-Length-clause-out_after
+unfolding written_as
+returns-in-Length-clause-out_after c =
+    let a = c.args in
+    let s = a.sheet in
+    let k = ranked s c.stage_of-stage.ensures c.rank_of.ensures in
+    let call = c.write_parts-answer in
+    (let q = c.parts_of.ensures ∙ ap parts_of c.stage_of-stage.ensures in (
+      length-written s c.parts_of.result q (omega arith) a.out.now call.new.1.1.0 call.result call.ensures.0 c.in-Length.k c.in-Length.is,
+      buffer_written s c.parts_of.result q (omega arith) a.out.now call.new.1.1.0 call.ensures.1,
+    )).1
+
+pub returns-in-Short-clause-result_value : goal.returns-in-Short-clause-result_value
+unfolding written_as
+returns-in-Short-clause-result_value c =
+    let a = c.args in
+    let s = a.sheet in
+    let k = ranked s c.stage_of-stage.ensures c.rank_of.ensures in
+    let call = c.write_parts-answer in
+    (let q = c.parts_of.ensures ∙ ap parts_of c.stage_of-stage.ensures in (
+      short-written s c.parts_of.result q (omega arith) a.out.now call.new.1.1.0 call.result call.ensures.0 c.in-Short.k c.in-Short.is,
+      buffer_written s c.parts_of.result q (omega arith) a.out.now call.new.1.1.0 call.ensures.1,
+    )).0
+
+pub returns-in-Short-clause-out_after : goal.returns-in-Short-clause-out_after
+unfolding written_as
+returns-in-Short-clause-out_after c =
+    let a = c.args in
+    let s = a.sheet in
+    let k = ranked s c.stage_of-stage.ensures c.rank_of.ensures in
+    let call = c.write_parts-answer in
+    (let q = c.parts_of.ensures ∙ ap parts_of c.stage_of-stage.ensures in (
+      short-written s c.parts_of.result q (omega arith) a.out.now call.new.1.1.0 call.result call.ensures.0 c.in-Short.k c.in-Short.is,
+      buffer_written s c.parts_of.result q (omega arith) a.out.now call.new.1.1.0 call.ensures.1,
+    )).1
