@@ -10,17 +10,14 @@ use native.Mathlib.Omega.{arith}
 use borrow.Author.Rules.{rules}
 use Rattle.calls.proofs.chart_held.Goals as goal
 
-reach : (c : tie.After-labels2) → c.before.before.before.total_of.result ≤ length c.before.before.before.before.before.before.before.before.before.args.sheet.labels
-reach c =
-    let s = c.before.before.before.before.before.before.before.before.before.args.sheet in
-    let f = c.before.before.before.before.before.before.before.before.before.requires in
-    let t = total-held s f c.before.before.before.before.before.wide_word.ensures.0 c.before.before.before.total_of.ensures.0 in
-    let h = room s f in
-    let l : 1186 ≡ length s.labels = slice-aggregate-chart-with-3 c in
-    omega arith
-
 pub chart_with-requires : goal.chart_with-requires
-chart_with-requires c = reach c
+chart_with-requires c =
+    let s = c.args.sheet in
+    let f = c.requires in
+    let t = total-held s f c.wide_word-n.ensures.value c.total_of-total.ensures.value in
+    let h = room s f in
+    let l : 1186 ≡ length s.labels = search rules in
+    omega arith
 
 pub returns-clause-n_value : goal.returns-clause-n_value
 returns-clause-n_value c =
@@ -28,7 +25,9 @@ returns-clause-n_value c =
     let w = c.wide_word-n.ensures.value in
     let f = c.requires in
     let t = total-held s f w c.total_of-total.ensures.value in
-    let e = chart_for_lem s c.wide_word-n.result c.total_of-total.result f w t (reach c) in
+    let h = room s f in
+    let l : 1186 ≡ length s.labels = search rules in
+    let e = chart_for_lem s c.wide_word-n.result c.total_of-total.result f w t (omega arith) in
     ap (drawn_as c.chart_with.result) (sym w) ∙ c.chart_with.ensures.n_value ∙ e
 
 pub returns-clause-value : goal.returns-clause-value
@@ -37,5 +36,7 @@ returns-clause-value c =
     let w = c.wide_word-n.ensures.value in
     let f = c.requires in
     let t = total-held s f w c.total_of-total.ensures.value in
-    let e = chart_for_lem s c.wide_word-n.result c.total_of-total.result f w t (reach c) in
+    let h = room s f in
+    let l : 1186 ≡ length s.labels = search rules in
+    let e = chart_for_lem s c.wide_word-n.result c.total_of-total.result f w t (omega arith) in
     c.chart_with.ensures.value ∙ ap drawn_of e

@@ -74,7 +74,7 @@ relabelled-requires-clause-sheet_value c =
     let f = fits_there s (omega arith) in
     let b = few s f in
     let l = c.if-labels-darts_due.false in
-    ((f, omega arith)).0
+    f
 
 pub relabelled-requires-clause-k_bound : goal.relabelled-requires-clause-k_bound
 relabelled-requires-clause-k_bound c =
@@ -86,7 +86,7 @@ relabelled-requires-clause-k_bound c =
     let f = fits_there s (omega arith) in
     let b = few s f in
     let l = c.if-labels-darts_due.false in
-    ((f, omega arith)).1.0
+    omega arith
 
 pub returns-clause-answer_value : goal.returns-clause-answer_value
 returns-clause-answer_value c =

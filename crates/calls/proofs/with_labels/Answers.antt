@@ -16,7 +16,7 @@ relabelled-requires-clause-k_bound c =
     let f = c.requires in
     let t = total-held s f c.wide_word.ensures.value c.total_of-total.ensures.value in
     let h = room s f in
-    ((f, omega arith)).1.0
+    omega arith
 
 pub relabelled-requires-clause-k_in_bounds : goal.relabelled-requires-clause-k_in_bounds
 relabelled-requires-clause-k_in_bounds c =
@@ -24,7 +24,7 @@ relabelled-requires-clause-k_in_bounds c =
     let f = c.requires in
     let t = total-held s f c.wide_word.ensures.value c.total_of-total.ensures.value in
     let h = room s f in
-    ((f, omega arith)).1.1
+    omega arith
 
 pub returns : goal.returns
 unfolding held_count
@@ -32,4 +32,4 @@ returns c =
     let a = c.args in
     let s = a.sheet in
     let t = total-held s c.requires c.wide_word.ensures.value c.total_of-total.ensures.value in
-    c.relabelled.ensures ∙ ap (λ (k : ℕ). packed (labelled (held_plan s) (stretch a.t2 0 k))) t
+    c.relabelled.ensures ∙ ap (λ (k : ℕ). packed (labelled (held_plan s) (stretch a.labels 0 k))) t

@@ -30,11 +30,7 @@ returns-in-Length-clause-result_value c =
     let a = c.args in
     let s = a.sheet in
     let k = ranked s c.stage_of-stage.ensures c.rank_of.ensures in
-    let call = c.write_parts-answer in
-    (let q = c.parts_of.ensures ∙ ap parts_of c.stage_of-stage.ensures in (
-      length-written s c.parts_of.result q (omega arith) a.out.now call.new.1.1.0 call.result call.ensures.0 c.in-Length.k c.in-Length.is,
-      buffer_written s c.parts_of.result q (omega arith) a.out.now call.new.1.1.0 call.ensures.1,
-    )).0
+    let q = c.parts_of.ensures ∙ ap parts_of c.stage_of-stage.ensures in length-written s c.parts_of.result q (omega arith) a.out.now c.write_parts-answer.new.out c.write_parts-answer.result c.write_parts-answer.ensures.out_after c.in-Length.k c.in-Length.is
 
 pub returns-in-Length-clause-out_after : goal.returns-in-Length-clause-out_after
 unfolding written_as
@@ -42,11 +38,7 @@ returns-in-Length-clause-out_after c =
     let a = c.args in
     let s = a.sheet in
     let k = ranked s c.stage_of-stage.ensures c.rank_of.ensures in
-    let call = c.write_parts-answer in
-    (let q = c.parts_of.ensures ∙ ap parts_of c.stage_of-stage.ensures in (
-      length-written s c.parts_of.result q (omega arith) a.out.now call.new.1.1.0 call.result call.ensures.0 c.in-Length.k c.in-Length.is,
-      buffer_written s c.parts_of.result q (omega arith) a.out.now call.new.1.1.0 call.ensures.1,
-    )).1
+    let q = c.parts_of.ensures ∙ ap parts_of c.stage_of-stage.ensures in buffer_written s c.parts_of.result q (omega arith) a.out.now c.write_parts-answer.new.out c.write_parts-answer.ensures.out_after_2
 
 pub returns-in-Short-clause-result_value : goal.returns-in-Short-clause-result_value
 unfolding written_as
@@ -54,11 +46,7 @@ returns-in-Short-clause-result_value c =
     let a = c.args in
     let s = a.sheet in
     let k = ranked s c.stage_of-stage.ensures c.rank_of.ensures in
-    let call = c.write_parts-answer in
-    (let q = c.parts_of.ensures ∙ ap parts_of c.stage_of-stage.ensures in (
-      short-written s c.parts_of.result q (omega arith) a.out.now call.new.1.1.0 call.result call.ensures.0 c.in-Short.k c.in-Short.is,
-      buffer_written s c.parts_of.result q (omega arith) a.out.now call.new.1.1.0 call.ensures.1,
-    )).0
+    let q = c.parts_of.ensures ∙ ap parts_of c.stage_of-stage.ensures in short-written s c.parts_of.result q (omega arith) a.out.now c.write_parts-answer.new.out c.write_parts-answer.result c.write_parts-answer.ensures.out_after c.in-Short.k c.in-Short.is
 
 pub returns-in-Short-clause-out_after : goal.returns-in-Short-clause-out_after
 unfolding written_as
@@ -66,8 +54,4 @@ returns-in-Short-clause-out_after c =
     let a = c.args in
     let s = a.sheet in
     let k = ranked s c.stage_of-stage.ensures c.rank_of.ensures in
-    let call = c.write_parts-answer in
-    (let q = c.parts_of.ensures ∙ ap parts_of c.stage_of-stage.ensures in (
-      short-written s c.parts_of.result q (omega arith) a.out.now call.new.1.1.0 call.result call.ensures.0 c.in-Short.k c.in-Short.is,
-      buffer_written s c.parts_of.result q (omega arith) a.out.now call.new.1.1.0 call.ensures.1,
-    )).1
+    let q = c.parts_of.ensures ∙ ap parts_of c.stage_of-stage.ensures in buffer_written s c.parts_of.result q (omega arith) a.out.now c.write_parts-answer.new.out c.write_parts-answer.ensures.out_after_2
