@@ -6,7 +6,7 @@
  * function below is proved to do exactly what the definitions in crates/touchchart/specs say, for every input, damaged
  * input included. docs/CLAIMS.md says what is proved and what is assumed.
  *
- * Build: `rt staticlib touchchart` makes target/staticlib/libtouchchart.a (x86-64 Linux, System V calling convention).
+ * Build: `tools/staticlib` makes target/staticlib/libtouchchart.a (x86-64 Linux, System V calling convention).
  *
  *     cc -Iinclude draw.c target/staticlib/libtouchchart.a -o draw
  *

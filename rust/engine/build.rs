@@ -1,4 +1,4 @@
-//! Links the proved engine, which `rt staticlib touchchart` writes.
+//! Links the proved engine, which `tools/staticlib` writes.
 
 use std::path::Path;
 
@@ -7,7 +7,7 @@ fn main() {
     let archive = folder.join("libtouchchart.a");
     assert!(
         archive.exists(),
-        "there is no libtouchchart.a: run `rt staticlib touchchart` in the repository's root first"
+        "there is no libtouchchart.a: run `tools/staticlib` in the repository's root first"
     );
     println!("cargo:rerun-if-changed={}", archive.display());
     println!("cargo:rustc-link-search=native={}", folder.display());

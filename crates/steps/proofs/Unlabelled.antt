@@ -101,7 +101,7 @@ module _ (p : Plan) where
   unfolding bare_labels darts
   before-all = sym (map-darts (from 0 (count p)))
 
--- ---- while u < n { b = bareRing(b, k, u); k += size(u); u += 1; }
+-- ---- while u < n { b = bare_ring(b, k, u); k += size(u); u += 1; }
 pub record Filled (p : Plan) (b : List ℕ) (k u : ℕ) : Type 0 where
   pub same : b ≡ padded 1186 (before p u)
   pub size : k ≡ start p u

@@ -1,5 +1,6 @@
-// The C interface. A sheet is handed over as the bytes that write gives for it, none for a fresh sheet, so that a host needs no struct layout.
-// Each function answers number × 2^48 + value: number 0 is acceptance, 1 to 17 a refusal whose value is its place. include/touchchart.h documents it for C.
+// The interface for a host. A sheet is handed over as the bytes that write gives for it, none for a fresh sheet, so that a host needs no struct layout.
+// Each function answers number × 2^48 + value: number 0 is acceptance, 1 to 17 a refusal whose value is its place. touchchart_c exports the
+// functions to C under the same names, and include/touchchart.h documents them.
 #![tactic(auto)]
 
 ghost use Rattle.std.specs.Prelude.{◌≡◌, ◌+◌, ◌*◌, ◌<◌};
@@ -13,8 +14,7 @@ ghost use Rattle.touchchart.specs.Interface.{opens_to, sweeps_to, offers_to, tur
 use sheet::{Answer, Compared, RingAnswer, Scanned, Sheet};
 
 // Opens a file: the length of its sheet's file, which is written to out.
-#[unsafe(no_mangle)]
-pub extern "C" fn touchchart_open(file: &[u8], out: &mut [u8]) -> u64
+pub fn touchchart_open(file: &[u8], out: &mut [u8]) -> u64
     ensures value { result ≡ code (length_of (opens_to file.now out.old)) }
     ensures out_after { out.new ≡ buffer_after (opens_to file.now out.old) out.old }
 {
@@ -22,8 +22,7 @@ pub extern "C" fn touchchart_open(file: &[u8], out: &mut [u8]) -> u64
 }
 
 // Sweeps a sheet (OPEN up): the length of the new sheet's file, which is written to out.
-#[unsafe(no_mangle)]
-pub extern "C" fn touchchart_sweep(sheet: &[u8], out: &mut [u8]) -> u64
+pub fn touchchart_sweep(sheet: &[u8], out: &mut [u8]) -> u64
     ensures value { result ≡ code (length_of (sweeps_to sheet.now out.old)) }
     ensures out_after { out.new ≡ buffer_after (sweeps_to sheet.now out.old) out.old }
 {
@@ -33,8 +32,7 @@ pub extern "C" fn touchchart_sweep(sheet: &[u8], out: &mut [u8]) -> u64
 }
 
 // Offers labels to a sheet (OPEN up): the length of the new sheet's file, which is written to out.
-#[unsafe(no_mangle)]
-pub extern "C" fn touchchart_offer(sheet: &[u8], labels: &[u8], out: &mut [u8]) -> u64
+pub fn touchchart_offer(sheet: &[u8], labels: &[u8], out: &mut [u8]) -> u64
     ensures value { result ≡ code (length_of (offers_to sheet.now labels.now out.old)) }
     ensures out_after { out.new ≡ buffer_after (offers_to sheet.now labels.now out.old) out.old }
 {
@@ -44,8 +42,7 @@ pub extern "C" fn touchchart_offer(sheet: &[u8], labels: &[u8], out: &mut [u8]) 
 }
 
 // Turns labels of a sheet (LABELLED up): the length of the new sheet's file, which is written to out.
-#[unsafe(no_mangle)]
-pub extern "C" fn touchchart_turn(sheet: &[u8], pairs: &[u16], direction: u8, out: &mut [u8]) -> u64
+pub fn touchchart_turn(sheet: &[u8], pairs: &[u16], direction: u8, out: &mut [u8]) -> u64
     ensures value { result ≡ code (length_of (turns_to sheet.now pairs.now direction out.old)) }
     ensures out_after { out.new ≡ buffer_after (turns_to sheet.now pairs.now direction out.old) out.old }
 {
@@ -58,8 +55,7 @@ pub extern "C" fn touchchart_turn(sheet: &[u8], pairs: &[u16], direction: u8, ou
 }
 
 // Charts a sheet (LABELLED up): the length of the new sheet's file, which is written to out.
-#[unsafe(no_mangle)]
-pub extern "C" fn touchchart_chart(sheet: &[u8], out: &mut [u8]) -> u64
+pub fn touchchart_chart(sheet: &[u8], out: &mut [u8]) -> u64
     ensures value { result ≡ code (length_of (charts_to sheet.now out.old)) }
     ensures out_after { out.new ≡ buffer_after (charts_to sheet.now out.old) out.old }
 {
@@ -91,8 +87,7 @@ fn scan_held(sheet: Sheet) -> u64
 }
 
 // Scans a sheet (OPEN up): 0 for none, else a × 65536 + b × 256 + c.
-#[unsafe(no_mangle)]
-pub extern "C" fn touchchart_scan(sheet: &[u8]) -> u64
+pub fn touchchart_scan(sheet: &[u8]) -> u64
     ensures { result ≡ code (scans_to sheet.now) }
 {
     let handed = exchange::hand_over(sheet);
@@ -117,8 +112,7 @@ fn compare_held(a: Sheet, b: Sheet) -> u64
 }
 
 // Compares two sheets (both CHARTED): 1 where n, w, h and all points are equal, else 0.
-#[unsafe(no_mangle)]
-pub extern "C" fn touchchart_same(a: &[u8], b: &[u8]) -> u64
+pub fn touchchart_same(a: &[u8], b: &[u8]) -> u64
     ensures { result ≡ code (compares_to a.now b.now) }
 {
     let first = exchange::hand_over(a);
@@ -143,8 +137,7 @@ fn part_value(at: usize, size: usize) -> u64
 }
 
 // Finds a context's ring in a file: offset × 65536 + length of the part.
-#[unsafe(no_mangle)]
-pub extern "C" fn touchchart_ring(file: &[u8], context: u16) -> u64
+pub fn touchchart_ring(file: &[u8], context: u16) -> u64
     ensures { result ≡ code (rings_to file.now context) }
 {
     let answer = files::ring_answer(file, numbers::wide_word(context));

@@ -1,6 +1,6 @@
 //! Times each call of the engine and of the independent implementation, in one run.
 //!
-//! From the folder rust, after `rt staticlib touchchart` in the repository's root:
+//! From the folder rust, after `tools/staticlib` in the repository's root:
 //!
 //!     cargo run --release --example times
 //!
