@@ -5,7 +5,6 @@ use Rattle.reports.specs.FileParts.{parts_of}
 use Rattle.sheet.proofs.Reading.{ranked}
 use Rattle.reports.proofs.Writes.{early_length, buffer_kept, length-written, short-written, buffer_written}
 use native.Mathlib.Omega.{arith}
-use borrow.Author.Rules.{rules}
 use Rattle.reports.proofs.write.Goals as goal
 
 pub returns-then-rank_of-lt1-clause-result_value : goal.returns-then-rank_of-lt1-clause-result_value
@@ -31,10 +30,7 @@ returns-in-Length-clause-result_value c =
     let s = a.sheet in
     let k = ranked s c.stage_of-stage.ensures c.rank_of.ensures in
     let call = c.write_parts-answer in
-    (let q = c.parts_of.ensures ∙ ap parts_of c.stage_of-stage.ensures in (
-      length-written s c.parts_of.result q (omega arith) a.out.now call.new.1.1.0 call.result call.ensures.0 c.in-Length.k c.in-Length.is,
-      buffer_written s c.parts_of.result q (omega arith) a.out.now call.new.1.1.0 call.ensures.1,
-    )).0
+    let q = c.parts_of.ensures ∙ ap parts_of c.stage_of-stage.ensures in length-written s c.parts_of.result q (omega arith) a.out.now call.new.out call.result call.ensures.out_after c.in-Length.k c.in-Length.is
 
 pub returns-in-Length-clause-out_after : goal.returns-in-Length-clause-out_after
 unfolding written_as
@@ -43,10 +39,7 @@ returns-in-Length-clause-out_after c =
     let s = a.sheet in
     let k = ranked s c.stage_of-stage.ensures c.rank_of.ensures in
     let call = c.write_parts-answer in
-    (let q = c.parts_of.ensures ∙ ap parts_of c.stage_of-stage.ensures in (
-      length-written s c.parts_of.result q (omega arith) a.out.now call.new.1.1.0 call.result call.ensures.0 c.in-Length.k c.in-Length.is,
-      buffer_written s c.parts_of.result q (omega arith) a.out.now call.new.1.1.0 call.ensures.1,
-    )).1
+    let q = c.parts_of.ensures ∙ ap parts_of c.stage_of-stage.ensures in buffer_written s c.parts_of.result q (omega arith) a.out.now call.new.out call.ensures.out_after_2
 
 pub returns-in-Short-clause-result_value : goal.returns-in-Short-clause-result_value
 unfolding written_as
@@ -55,10 +48,7 @@ returns-in-Short-clause-result_value c =
     let s = a.sheet in
     let k = ranked s c.stage_of-stage.ensures c.rank_of.ensures in
     let call = c.write_parts-answer in
-    (let q = c.parts_of.ensures ∙ ap parts_of c.stage_of-stage.ensures in (
-      short-written s c.parts_of.result q (omega arith) a.out.now call.new.1.1.0 call.result call.ensures.0 c.in-Short.k c.in-Short.is,
-      buffer_written s c.parts_of.result q (omega arith) a.out.now call.new.1.1.0 call.ensures.1,
-    )).0
+    let q = c.parts_of.ensures ∙ ap parts_of c.stage_of-stage.ensures in short-written s c.parts_of.result q (omega arith) a.out.now call.new.out call.result call.ensures.out_after c.in-Short.k c.in-Short.is
 
 pub returns-in-Short-clause-out_after : goal.returns-in-Short-clause-out_after
 unfolding written_as
@@ -67,7 +57,4 @@ returns-in-Short-clause-out_after c =
     let s = a.sheet in
     let k = ranked s c.stage_of-stage.ensures c.rank_of.ensures in
     let call = c.write_parts-answer in
-    (let q = c.parts_of.ensures ∙ ap parts_of c.stage_of-stage.ensures in (
-      short-written s c.parts_of.result q (omega arith) a.out.now call.new.1.1.0 call.result call.ensures.0 c.in-Short.k c.in-Short.is,
-      buffer_written s c.parts_of.result q (omega arith) a.out.now call.new.1.1.0 call.ensures.1,
-    )).1
+    let q = c.parts_of.ensures ∙ ap parts_of c.stage_of-stage.ensures in buffer_written s c.parts_of.result q (omega arith) a.out.now call.new.out call.ensures.out_after_2
