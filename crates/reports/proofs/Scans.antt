@@ -4,7 +4,7 @@ use mathlib.Core.Path.{◌≡◌, sym, ap, ◌∙◌}
 use mathlib.Core.Option.{none, some}
 use Rattle.model.specs.Outcome.{accepted, refused}
 use Rattle.model.specs.Plan.{Plan}
-use Rattle.model.specs.Scan.{Triple, scan}
+use Rattle.model.specs.Scan.{scan}
 use Rattle.model.specs.Calls.{plan_of, scan_call}
 use Rattle.triples.specs.declared.Scanned as rings
 use Rattle.triples.specs.declared.Scanned.TheVariants as Rings

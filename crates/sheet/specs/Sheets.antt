@@ -1,8 +1,8 @@
 -- The sheet struct and the sheet that it holds: what a struct reads as, and the struct that a sheet is packed into.
 use Rattle.std.specs.Prelude.{ℕ, List, [], map, Bool, cond, length}
 use Rattle.lists.specs.Parts.{concat}
-use Rattle.lists.specs.Spans.{stretch, zeros, padded}
-use Rattle.model.specs.Plan.{Plan, count}
+use Rattle.lists.specs.Spans.{stretch, padded}
+use Rattle.model.specs.Plan.{Plan}
 use Rattle.model.specs.Chart.{Chart}
 use Rattle.model.specs.File as file
 use Rattle.rings.specs.Tables.{start_of, table}

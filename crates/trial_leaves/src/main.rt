@@ -129,7 +129,7 @@ fn print_points<'a>(xs: &'a [u16], ys: &'a [u16], n: usize) {
 }
 
 // A chart: its size and the point of each of n contexts.
-fn print_drawn(drawn: placement::Drawn, n: usize) {
+fn print_drawn(drawn: &placement::Drawn, n: usize) {
     let w = numbers::wide_word(drawn.w);
     let h = numbers::wide_word(drawn.h);
     console::show(b" chart #x#", w, h, 0, 0, 0);
@@ -152,7 +152,7 @@ fn points_in(chart: &[u8], from: usize) -> [u16; 200]
 }
 
 // What the body of a chart record is refused by where a chart is drawn: 0 if it is the same, else 12.
-fn refusal_of(chart: &[u8], n: usize, drawn: placement::Drawn) -> usize {
+fn refusal_of<'a>(chart: &'a [u8], n: usize, drawn: &'a placement::Drawn) -> usize {
     let w = arrays::word_at(chart, 0) as u16;
     let h = arrays::word_at(chart, 2) as u16;
     let xs = points_in(chart, 4);
@@ -181,10 +181,10 @@ fn print_chart<'a>(
         io::write_all(1, b" chart none");
         return;
     }
-    print_drawn(drawn, n);
+    print_drawn(&drawn, n);
     if chart != 0 {
         let record = arrays::part(file, chart, 4 + 4 * n);
-        console::show(b" record #", refusal_of(record, n, drawn), 0, 0, 0, 0);
+        console::show(b" record #", refusal_of(record, n, &drawn), 0, 0, 0, 0);
     }
 }
 

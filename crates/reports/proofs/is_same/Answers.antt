@@ -1,6 +1,5 @@
 -- is_same meets its contract.
-use Rattle.reports.proofs.Comparisons.{other_size, same_size}
-use borrow.Author.Rules.{rules}
+use Rattle.reports.proofs.Comparisons.{same_size}
 use Rattle.reports.proofs.is_same.Goals as goal
 
 pub returns : goal.returns

@@ -1,7 +1,6 @@
 -- parts_of meets its contract.
 use mathlib.Core.Path.{ap, sym}
 use Rattle.reports.specs.FileParts.{parts_of}
-use borrow.Author.Rules.{rules}
 use Rattle.reports.proofs.parts_of.Goals as goal
 
 pub returns-in-Empty : goal.returns-in-Empty

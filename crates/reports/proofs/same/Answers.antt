@@ -5,7 +5,6 @@ use Rattle.sheet.specs.Answers.{compared_as}
 use Rattle.sheet.proofs.Reading.{ranked}
 use Rattle.reports.proofs.Comparisons.{same_early, same_early_second, same_there}
 use native.Mathlib.Omega.{arith}
-use borrow.Author.Rules.{rules}
 use Rattle.reports.proofs.same.Goals as goal
 
 pub returns-then-rank_of-lt3 : goal.returns-then-rank_of-lt3

@@ -3,7 +3,6 @@ use Rattle.sheet.specs.Answers.{scanned_as}
 use Rattle.sheet.proofs.Reading.{ranked}
 use Rattle.reports.proofs.Scans.{scan_early, scan-triple, scan-nothing}
 use native.Mathlib.Omega.{arith}
-use borrow.Author.Rules.{rules}
 use Rattle.reports.proofs.scan.Goals as goal
 
 pub returns-then-rank_of-lt1 : goal.returns-then-rank_of-lt1

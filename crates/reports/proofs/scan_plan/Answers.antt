@@ -3,7 +3,6 @@ use mathlib.Core.Path.{◌∙◌}
 use Rattle.model.specs.Scan.{scan}
 use Rattle.rings.specs.Tables.{rows, table}
 use Rattle.sheet.specs.Sheets.{held_plan}
-use borrow.Author.Rules.{rules}
 use Rattle.reports.proofs.scan_plan.Goals as goal
 
 pub returns : goal.returns

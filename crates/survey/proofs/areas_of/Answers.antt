@@ -1,10 +1,8 @@
 -- areas_of meets its contract.
-use Rattle.std.proofs.Common.{◌-◌, sym, refl, ◌∙◌, arith, rules}
-use Rattle.areas.specs.Corners.{points}
-use Rattle.sheet.specs.Sheets.{held_plan}
+use Rattle.std.proofs.Common.{sym, refl, ◌∙◌, arith}
 use Rattle.sheet.proofs.Reading.{count_held}
 use Rattle.survey.specs.Surveys.{no_area}
-use Rattle.survey.proofs.Counts.{Across, across_start, across_on, across_end}
+use Rattle.survey.proofs.Counts.{across_start, across_on, across_end}
 use Rattle.survey.proofs.areas_of.Goals as goal
 
 pub loop-u-init : goal.loop-u-init

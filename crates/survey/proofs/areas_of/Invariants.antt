@@ -1,10 +1,8 @@
 -- What the loops of areas_of keep.
-use Rattle.std.proofs.Common.{◌-◌, sym, refl, ◌∙◌, arith, rules}
+use Rattle.std.proofs.Common.{◌-◌}
 use Rattle.areas.specs.Corners.{points}
 use Rattle.sheet.specs.Sheets.{held_plan}
-use Rattle.sheet.proofs.Reading.{count_held}
-use Rattle.survey.specs.Surveys.{no_area}
-use Rattle.survey.proofs.Counts.{Across, across_start, across_on, across_end}
+use Rattle.survey.proofs.Counts.{Across}
 use Rattle.survey.proofs.areas_of.Given as goal
 
 abbrev pub invariant-loop-u : goal.invariant-loop-u

@@ -1,7 +1,6 @@
 -- encloses meets its contract.
 use Rattle.sheet.specs.Sheets.{held_plan}
 use Rattle.survey.proofs.Walks.{apart_ab, apart_ac, apart_bc, walked_abc, walked_acb}
-use Rattle.std.proofs.Common.{arith, rules}
 use mathlib.Core.Path.{ap}
 use mathlib.Core.Bool.{not}
 use Rattle.survey.proofs.encloses.Goals as goal

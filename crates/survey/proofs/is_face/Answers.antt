@@ -1,7 +1,6 @@
 -- is_face meets its contract.
 use Rattle.sheet.specs.Sheets.{held_plan}
-use Rattle.survey.proofs.Walks.{face_outer, face_other, face_astray, face_back}
-use Rattle.std.proofs.Common.{arith, rules}
+use Rattle.survey.proofs.Walks.{face_outer, face_astray, face_back}
 use Rattle.survey.proofs.is_face.Goals as goal
 
 pub returns-then-is_outer : goal.returns-then-is_outer

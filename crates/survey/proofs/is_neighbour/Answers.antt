@@ -1,5 +1,5 @@
 -- is_neighbour meets its contract.
-use Rattle.std.proofs.Common.{◌∙◌, arith, rules}
+use Rattle.std.proofs.Common.{◌∙◌}
 use Rattle.model.specs.Plan.{adjacent}
 use Rattle.rings.specs.Tables.{rows, table}
 use Rattle.sheet.specs.Sheets.{held_plan}

@@ -1,9 +1,8 @@
 -- natural meets its contract.
-use Rattle.std.proofs.Common.{T, ℤ, pos, nat_abs, sym, ap, ◌∙◌, subst, arith, w64, to_z, of_z, rules}
+use Rattle.std.proofs.Common.{T, ℤ, pos, nat_abs, sym, ap, ◌∙◌, subst, w64, to_z, of_z}
 use lib.Signed.{le_z, non_neg, yes_non_neg, le_z_yes}
 use mir.ValLaws.{to_z-of_z}
 use Rattle.survey.proofs.Counts.{natural-yes, natural-no}
-use mir.Facts.{Fits-nat_abs, sfits_to_z, Fits-of_z}
 use Rattle.survey.proofs.natural.Goals as goal
 
 pub returns-then-area-ge0 : goal.returns-then-area-ge0

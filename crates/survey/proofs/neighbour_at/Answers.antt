@@ -1,5 +1,5 @@
 -- neighbour_at meets its contract.
-use Rattle.std.proofs.Common.{get_or, ◌∙◌, arith, rules}
+use Rattle.std.proofs.Common.{get_or, ◌∙◌}
 use Rattle.model.specs.Plan.{ring}
 use Rattle.rings.specs.Tables.{rows, table}
 use Rattle.sheet.specs.Sheets.{held_plan}

@@ -1,5 +1,5 @@
 -- ring_size meets its contract.
-use Rattle.std.proofs.Common.{ℕ, sym, ap, ◌∙◌, arith, rules}
+use Rattle.std.proofs.Common.{ℕ, sym, ap, ◌∙◌}
 use Rattle.rings.specs.Tables.{size_of, starts_of, table}
 use Rattle.rings.proofs.Rows.{ring-size}
 use Rattle.sheet.specs.Sheets.{held_plan}

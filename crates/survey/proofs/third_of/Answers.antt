@@ -1,5 +1,5 @@
 -- third_of meets its contract.
-use Rattle.std.proofs.Common.{◌∙◌, arith, rules}
+use Rattle.std.proofs.Common.{◌∙◌}
 use Rattle.model.specs.Plan.{ring, next, step}
 use Rattle.rings.specs.Tables.{rows, table}
 use Rattle.sheet.specs.Sheets.{held_plan}

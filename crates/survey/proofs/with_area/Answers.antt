@@ -1,5 +1,5 @@
 -- with_area meets its contract.
-use Rattle.std.proofs.Common.{ℕ, ◌+◌, ◌%◌, ◌^◌, ap, ◌∙◌, arith, rules}
+use Rattle.std.proofs.Common.{ℕ, ◌+◌, ◌%◌, ◌^◌, ap, ◌∙◌}
 use Rattle.survey.specs.Surveys.{with_area}
 use Rattle.survey.proofs.with_area.Goals as goal
 

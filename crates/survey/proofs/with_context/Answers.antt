@@ -1,8 +1,6 @@
 -- with_context meets its contract.
-use Rattle.std.proofs.Common.{◌-◌, arith, rules}
-use Rattle.areas.specs.Corners.{points}
-use Rattle.sheet.specs.Sheets.{held_plan}
-use Rattle.survey.proofs.Counts.{Around, around_start, around_on, around_end}
+use Rattle.std.proofs.Common.{arith}
+use Rattle.survey.proofs.Counts.{around_start, around_on, around_end}
 use Rattle.survey.proofs.with_context.Goals as goal
 
 pub loop-i-init : goal.loop-i-init

@@ -1,8 +1,8 @@
 -- What the loops of with_context keep.
-use Rattle.std.proofs.Common.{◌-◌, arith, rules}
+use Rattle.std.proofs.Common.{◌-◌}
 use Rattle.areas.specs.Corners.{points}
 use Rattle.sheet.specs.Sheets.{held_plan}
-use Rattle.survey.proofs.Counts.{Around, around_start, around_on, around_end}
+use Rattle.survey.proofs.Counts.{Around}
 use Rattle.survey.proofs.with_context.Given as goal
 
 abbrev pub invariant-loop-i : goal.invariant-loop-i

@@ -1,5 +1,5 @@
 -- with_dart meets its contract.
-use Rattle.std.proofs.Common.{◌∙◌, arith, rules}
+use Rattle.std.proofs.Common.{◌∙◌, arith}
 use Rattle.areas.specs.Corners.{points}
 use Rattle.sheet.specs.Sheets.{held_plan}
 use Rattle.survey.proofs.Counts.{dart-low, third-low, no_face, one_face}

@@ -1,0 +1,10 @@
+-- What the loops of print_files keep.
+use Prim.Native.Nat.{◌-◌}
+use lib.ListN.{length}
+use Rattle.trial_leaves.proofs.print_files.Given as goal
+
+abbrev pub invariant-loop-at : goal.invariant-loop-at
+invariant-loop-at l = Unit {0}
+
+abbrev pub decreases-loop-at : goal.decreases-loop-at
+decreases-loop-at l = length l.input - l.at
