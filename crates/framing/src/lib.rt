@@ -47,7 +47,7 @@ pub enum Found {
 }
 
 // Where everything stands in a file: the number of contexts, the number of entries of each ring, and the offsets of the label bytes and of the chart's numbers. What is not there is 0.
-#[derive(Drop)]
+#[derive(Clone, Copy)]
 pub struct Layout {
     pub found: Found,
     pub n: usize,

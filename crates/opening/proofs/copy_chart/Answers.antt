@@ -1,0 +1,18 @@
+-- copy_chart meets its contract.
+use mathlib.Core.Path.{◌≡◌, refl, sym, ap, ◌∙◌}
+use Prim.Native.Nat.{ℕ, ◌+◌, ◌-◌, ◌*◌, ◌≤◌}
+use Rattle.framing.specs.Offsets.{word_at}
+use Rattle.lists.proofs.Loops.{Fills, fills_start, fills_on}
+use Rattle.opening.proofs.Copies.{points-copied}
+use native.Mathlib.Omega.{arith}
+use borrow.Author.Rules.{rules}
+use Rattle.opening.proofs.copy_chart.Goals as goal
+
+pub loop-u-init : goal.loop-u-init
+loop-u-init c = (omega arith, fills_start refl)
+
+pub loop-u-preserved : goal.loop-u-preserved
+loop-u-preserved c = (omega arith, fills_on c.loop-u.invariant.1 (omega arith) (omega arith) c.word_at.ensures.value refl)
+
+pub returns : goal.returns
+returns c = points-copied c.args.file.now c.args.at c.loop-u.invariant.1 (omega arith)

@@ -1,0 +1,18 @@
+-- copy_labels meets its contract.
+use mathlib.Core.Path.{◌≡◌, refl, sym, ap, ◌∙◌}
+use Prim.Native.Nat.{ℕ, ◌+◌, ◌-◌, ◌≤◌}
+use lib.ListN.{get_or}
+use Rattle.lists.proofs.Loops.{Fills, fills_start, fills_on}
+use Rattle.opening.proofs.Copies.{labels-copied}
+use native.Mathlib.Omega.{arith}
+use borrow.Author.Rules.{rules}
+use Rattle.opening.proofs.copy_labels.Goals as goal
+
+pub loop-i-init : goal.loop-i-init
+loop-i-init c = (omega arith, fills_start refl)
+
+pub loop-i-preserved : goal.loop-i-preserved
+loop-i-preserved c = (omega arith, fills_on c.loop-i.invariant.1 (omega arith) (omega arith) c.byte.ensures.value refl)
+
+pub returns : goal.returns
+returns c = labels-copied c.args.file.now c.args.at c.loop-i.invariant.1 (omega arith)
