@@ -97,6 +97,7 @@ ring_late b u first t e f = ap (λ (r : Sheet). held_ring r u) f ∙ go (open_ca
 -- ---- the part
 -- a list whose entries are bytes
 pub bytes-at : (l : List ℕ) → ((i : ℕ) → get_or l i 0 < 256) → Bytes l
+bytes-at [] h a x'' = elim x'' [ ]
 bytes-at (b ∷ l) h a (Memᴰ.head e) = let q = h 0 in omega arith
 bytes-at (b ∷ l) h a (Memᴰ.tail m) = bytes-at l (λ i. h (suc i)) a m
 
