@@ -1,0 +1,8 @@
+-- plan_file meets its contract.
+use mathlib.Core.Path.{sym}
+use lib.Seq.{take_all}
+use native.Mathlib.Omega.{arith}
+use Rattle.printing.proofs.plan_file.Goals as goal
+
+pub returns-then-input-lt8192 : goal.returns-then-input-lt8192
+returns-then-input-lt8192 c = sym (take_all 8192 c.args.input.now (omega arith))
