@@ -16,7 +16,6 @@ use mir.Val.{SFits, to_z, of_z}
 use mir.ValLaws.{to_z_pos, to_z-of_z}
 use Rattle.lists.specs.Spans.{stretch}
 use Rattle.lists.proofs.Spans.{get_or-stretch}
-use Rattle.model.specs.Chart.{Chart, x, y}
 use Rattle.model.specs.Geometry.{positive, is_zero, corner, fan, area}
 use Rattle.charts.specs.Charts.{chart_on}
 use Rattle.areas.specs.Corners.{points, negative, corner_at, ahead, behind, counterclockwise, flat, clockwise, at_points}

@@ -1,5 +1,5 @@
 -- Doubled area of a triangle from the coordinates of its corners, and which way round it is walked.
-use Rattle.std.specs.Prelude.{ℕ, zero, suc, ◌+◌, ◌*◌, List, [], ◌∷◌, Bool, true, false, ℤ, pos, negsuc, ◌-ℤ◌, ◌*ℤ◌, eqb, ltb, get_or}
+use Rattle.std.specs.Prelude.{ℕ, ◌+◌, ◌*◌, List, Bool, true, false, ℤ, pos, negsuc, ◌-ℤ◌, ◌*ℤ◌, eqb, ltb, get_or}
 use Rattle.std.proofs.Math.IntN.{sub_ℕ}
 use Rattle.model.specs.Chart.{Chart}
 

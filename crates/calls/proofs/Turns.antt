@@ -2,7 +2,7 @@
 use Prim.Native.Nat.{ℕ, ◌≤◌, ◌<◌}
 use mathlib.Core.Path.{◌≡◌, sym, ap, ◌∙◌}
 use mathlib.Core.List.{List}
-use mathlib.Core.Bool.{Bool, true, cond, ◌&&◌}
+use mathlib.Core.Bool.{Bool, cond}
 use lib.Dec.{leb}
 use borrow.Author.Tests.{le-leb}
 use Rattle.lists.specs.Spans.{stretch}
@@ -18,7 +18,7 @@ use Rattle.turn.specs.declared.TurnAnswer.{TurnAnswer}
 use Rattle.turn.specs.declared.TurnAnswer.TheVariants.{Labelled}
 use Rattle.turn.specs.Turned.{labels_in, turn_of, outcome_of}
 use Rattle.sheet.specs.declared.Sheet.{Sheet}
-use Rattle.sheet.specs.Sheets.{held_count, held_plan, held_labels, reads, stage_read, rank, packed}
+use Rattle.sheet.specs.Sheets.{held_count, held_plan, held_labels, reads, stage_read, rank}
 use Rattle.sheet.proofs.Reading.{labels_early, labels_there, fits_there, few, room}
 
 module _ (s : Sheet) (items : List ℕ) (direction : ℕ) where

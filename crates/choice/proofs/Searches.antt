@@ -10,7 +10,7 @@ use lib.ListN.{length, get_or, length-append}
 use lib.Seq.{get_or-append-add, get_or-append_seam}
 use lib.Dec.{eqb, ltb, leb}
 use borrow.Author.Tests.{eqb-true, eqb-false, ne_eqb, lt-ltb, ltb-true, ltb-false, leb-true, leb-false}
-use Rattle.lists.specs.Tests.{any, empty, member, repeats}
+use Rattle.lists.specs.Tests.{empty, member, repeats}
 use Rattle.lists.specs.Ranges.{from}
 use Rattle.lists.specs.Parts.{squeeze, squeeze_after}
 use Rattle.lists.specs.Spans.{padded}

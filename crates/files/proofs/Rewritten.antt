@@ -3,7 +3,7 @@ use Prim.Native.Nat.{ℕ}
 use mathlib.Core.Path.{◌≡◌, refl, sym, ap, ◌∙◌}
 use mathlib.Core.List.{List}
 use Rattle.lists.proofs.Words.{Bytes}
-use Rattle.model.specs.Outcome.{Outcome, accepted, refused, passed, ◌>>=◌, ◌>>◌}
+use Rattle.model.specs.Outcome.{Outcome, accepted, refused, passed, ◌>>=◌}
 use Rattle.model.specs.File as file
 use Rattle.model.specs.File.{encode}
 use Rattle.model.specs.Calls.{plan_of, open_call, write_call}

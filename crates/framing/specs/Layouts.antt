@@ -1,5 +1,5 @@
 -- The layout of a lent file: what it says of the file in the terms of the model.
-use Rattle.std.specs.Prelude.{ℕ, ◌+◌, ◌-◌, ◌*◌, ◌^◌, ◌<◌, ◌≤◌, ◌≡◌, List, ◌++◌, ◌&&◌, leb}
+use Rattle.std.specs.Prelude.{ℕ, ◌+◌, ◌*◌, ◌^◌, ◌<◌, ◌≤◌, ◌≡◌, List, ◌++◌, ◌&&◌, leb}
 use Rattle.lists.specs.Spans.{stretch, zeros, padded}
 use Rattle.model.specs.Outcome.{Outcome, accepted, refused, ◌>>=◌, ◌>>◌, require}
 use Rattle.model.specs.Plan.{Plan, dart_count}

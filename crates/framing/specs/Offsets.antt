@@ -1,5 +1,5 @@
 -- The records of a lent file by their offsets: what the answers about one record and about the rings say in the terms of the model.
-use Rattle.std.specs.Prelude.{ℕ, ◌+◌, ◌-◌, ◌*◌, ◌<◌, ◌≤◌, ◌≡◌, List, [], Bool, cond, ◌&&◌, length, get_or, take, drop, eqb, leb}
+use Rattle.std.specs.Prelude.{ℕ, ◌+◌, ◌-◌, ◌*◌, ◌<◌, ◌≤◌, ◌≡◌, List, [], Bool, cond, ◌&&◌, length, get_or, drop, eqb, leb}
 use Rattle.lists.specs.Spans.{stretch, padded}
 use Rattle.model.specs.Outcome.{Outcome, accepted, refused, ◌>>◌, require}
 use Rattle.model.specs.File.{Cursor, Framed}

@@ -1,19 +1,19 @@
 -- After every list of calls what the sheet holds is as large as it should be: so it fits the struct, and it fits a file.
 use Prim.Native.Nat.{ℕ}
-use mathlib.Core.Path.{◌≡◌, refl, sym, ap, ◌∙◌, subst}
-use mathlib.Core.List.{List, [], ◌∷◌}
+use mathlib.Core.Path.{◌≡◌, sym, ap, ◌∙◌, subst}
+use mathlib.Core.List.{List}
 use lib.ListN.{length}
 use lib.Dec.{eqb}
 use borrow.Author.Tests.{eqb-true}
-use Rattle.model.specs.Outcome.{Outcome, accepted, refused, passed, ◌>>=◌, ◌>>◌, require, taken}
-use Rattle.model.specs.Plan.{Plan, count, dart_count, entry_count, plan_rules}
+use Rattle.model.specs.Outcome.{Outcome, accepted, passed, ◌>>=◌, require}
+use Rattle.model.specs.Plan.{Plan, count, dart_count, plan_rules}
 use Rattle.model.specs.Labels.{label_rules}
-use Rattle.model.specs.Chart.{Chart, chart, slope}
+use Rattle.model.specs.Chart.{chart, slope}
 use Rattle.model.specs.Sweep.{sweep}
 use Rattle.model.specs.Turn.{turn}
 use Rattle.model.specs.File.{Sheet, fresh, opened, labelled, charted}
 use Rattle.model.specs.Calls.{plan_of, labels_of, offered, offer_call, sweep_call, turn_call, chart_call}
-use Rattle.model.specs.CallLists.{Call, open_file, offer_labels, sweep-labels, turn_edges, draw_chart, call, run}
+use Rattle.model.specs.CallLists.{Call, open_file, offer_labels, sweep-labels, turn_edges, draw_chart, call}
 use Rattle.model.proofs.Outcomes.{same-value, not-both, bind_accepted, then_accepted, require-passed}
 use Rattle.model.proofs.PlanRules.{sound}
 use Rattle.model.proofs.Placements.{placed, chart-is}
@@ -23,7 +23,7 @@ use Rattle.model.proofs.FileRead.{read_fits}
 use Rattle.model.proofs.LabelCounts.{sweep_long, turn_long}
 use Rattle.sheet.proofs.Packed.{Held}
 use Rattle.sheet.proofs.RoundTrips.{plan-held}
-use Rattle.guarantee.proofs.Kept.{Kept, plan-kept, labels-kept, leaves}
+use Rattle.guarantee.proofs.Kept.{Kept, plan-kept, leaves}
 
 -- As large as it should be: a plan that fits a file, a label for each dart, a point for each context
 abbrev pub Sized : Sheet → Type 0

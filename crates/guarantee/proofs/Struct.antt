@@ -1,6 +1,5 @@
 -- The struct follows the sheet: after every list of calls it is the sheet's, packed, and each call is answered as on the sheet.
-use Prim.Native.Nat.{ℕ}
-use mathlib.Core.Path.{◌≡◌, refl, sym, ap, ◌∙◌, subst}
+use mathlib.Core.Path.{◌≡◌, refl, ap, ◌∙◌}
 use mathlib.Core.List.{List, [], ◌∷◌}
 use Rattle.model.specs.Outcome.{Outcome, accepted, refused, taken}
 use Rattle.model.specs.File.{Sheet, fresh}

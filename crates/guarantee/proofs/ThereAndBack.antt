@@ -1,6 +1,6 @@
 -- A sheet that calls leave, written and opened, is the same sheet.
 use Prim.Native.Nat.{ℕ}
-use mathlib.Core.Path.{◌≡◌, refl, sym, ap, ◌∙◌, subst}
+use mathlib.Core.Path.{◌≡◌, refl, sym, ap, ◌∙◌}
 use mathlib.Core.List.{List}
 use mathlib.Core.Bool.{Bool, true, ◌&&◌}
 use lib.ListN.{take}
@@ -9,7 +9,7 @@ use borrow.Author.Tests.{eq-eqb}
 use Rattle.lists.specs.Tests.{same_list}
 use Rattle.lists.proofs.Bools.{yes_and}
 use Rattle.lists.proofs.Tests.{same_refl}
-use Rattle.model.specs.Outcome.{Outcome, accepted, passed, require, ◌>>=◌, ◌>>◌}
+use Rattle.model.specs.Outcome.{accepted, passed, require, ◌>>=◌, ◌>>◌}
 use Rattle.model.specs.Plan.{plan_rules}
 use Rattle.model.specs.Labels.{label_rules}
 use Rattle.model.specs.Chart.{Chart, chart, same_chart}

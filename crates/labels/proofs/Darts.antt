@@ -4,7 +4,7 @@ use mathlib.Core.Path.{◌≡◌, refl, sym, ap, ◌∙◌}
 use mathlib.Core.List.{List, [], ◌∷◌, ◌++◌}
 use mathlib.Core.Bool.{Bool, true, false, cond, not, ◌&&◌, ◌||◌}
 use native.Mathlib.Omega.{arith}
-use lib.ListN.{length, get_or, set, take, drop, length-append, length-drop, length-map, length-set, take-append-drop}
+use lib.ListN.{length, get_or, set, take, drop, length-append, length-drop, length-map, take-append-drop}
 use lib.Seq.{take-length, take-append-le, drop-append-le, get_or-take, get_or-drop, set-append_left}
 use lib.Dec.{eqb, ltb}
 use borrow.Author.Tests.{ltb-true, ltb-false}

@@ -1,5 +1,5 @@
 -- What a Boolean expression's value says of its parts.
-use mathlib.Core.Path.{◌≡◌, refl, sym}
+use mathlib.Core.Path.{◌≡◌, refl}
 use mathlib.Core.Bool.{Bool, true, false, ◌&&◌, ◌||◌, not, false≢true, true≢false}
 use mathlib.Core.Logic.{◌⊎◌, inl, inr}
 

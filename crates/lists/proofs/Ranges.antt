@@ -1,7 +1,7 @@
 -- Which numbers a range has; and what the lowest number that passes is.
 use Prim.Native.Nat.{ℕ, zero, suc, ◌+◌, ◌≤◌, ◌<◌}
 use mathlib.Core.Path.{◌≡◌, refl, sym, ap, ◌∙◌}
-use mathlib.Core.List.{List, map, Memᴰ}
+use mathlib.Core.List.{map, Memᴰ}
 use mathlib.Core.Logic.{◌≢◌, ◌⊎◌, inl, inr}
 use mathlib.Core.Bool.{Bool, true, false, cond}
 use native.Mathlib.Omega.{arith}
@@ -9,7 +9,7 @@ use native.Mathlib.Decide.{dec_lt}
 use lib.ListN.{length, get_or}
 use lib.Dec.{eqb}
 use borrow.Author.Tests.{eqb-true, eqb-false}
-use Rattle.lists.specs.Ranges.{from, first_from, lowest}
+use Rattle.lists.specs.Ranges.{from, first_from}
 
 -- a number is below another, or not
 pub lt-or-le : (a b : ℕ) → (a < b) ⊎ (b ≤ a)

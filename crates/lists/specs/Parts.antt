@@ -1,5 +1,5 @@
 -- Parts of lists: lists joined, neighbouring entries, the entries before one, repeats dropped, rotations.
-use Rattle.std.specs.Prelude.{ℕ, zero, suc, List, [], ◌∷◌, ◌++◌, map, Bool, cond, length, take, drop, eqb}
+use Rattle.std.specs.Prelude.{ℕ, suc, List, [], ◌∷◌, ◌++◌, map, cond, length, take, drop, eqb}
 use Rattle.lists.specs.Ranges.{from}
 
 module _ {A : Type 0} where

@@ -1,5 +1,5 @@
 -- Tests on lists: some entry passes, every entry passes, how many pass, an entry is there, an entry stands twice, two lists are equal.
-use Rattle.std.specs.Prelude.{ℕ, suc, ◌+◌, List, [], ◌∷◌, Bool, true, false, cond, ◌&&◌, ◌||◌, eqb}
+use Rattle.std.specs.Prelude.{ℕ, ◌+◌, List, [], ◌∷◌, Bool, true, false, cond, ◌&&◌, ◌||◌, eqb}
 
 module _ {A : Type 0} where
   -- some entry passes

@@ -1,7 +1,7 @@
 -- Wherever there is a placement there is one on a grid of n − 3 by n − 3 in which no line is upright or level. So no number of a chart is above n − 3.
-use Prim.Native.Nat.{ℕ, zero, suc, ◌+◌, ◌-◌, ◌≤◌, ◌<◌, max}
+use Prim.Native.Nat.{ℕ, zero, suc, ◌-◌, ◌≤◌, ◌<◌}
 use mathlib.Core.Path.{◌≡◌, refl, sym, ap, ◌∙◌}
-use mathlib.Core.List.{List, [], ◌∷◌, map}
+use mathlib.Core.List.{List, map}
 use mathlib.Core.Logic.{◌≢◌, ◌⊎◌, inl, inr}
 use mathlib.Core.Bool.{Bool, true, false, cond, ◌&&◌, ◌||◌, or-true}
 use native.Mathlib.Omega.{arith}
@@ -14,13 +14,13 @@ use Rattle.lists.proofs.Ranges.{length-map-from, get_or-map-from, lt-or-le}
 use Rattle.lists.proofs.Counts.{counted, counted_strict, counted-from}
 use Rattle.model.specs.Outcome.{accepted, passed}
 use Rattle.model.specs.Plan.{Plan, count, adjacent, plan_rules, north, east, south, west}
-use Rattle.model.specs.Labels.{up, right, down, left, turned, label_of, label_rules}
+use Rattle.model.specs.Labels.{up, right, turned, label_of, label_rules}
 use Rattle.model.specs.Chart.{Chart, x, y, least_placement, slope, chart}
 use Rattle.model.specs.Transversal.{Transversal}
 use Rattle.model.proofs.Plans.{adjacent-from}
-use Rattle.model.proofs.PlanRules.{Sound, sound}
+use Rattle.model.proofs.PlanRules.{sound}
 use Rattle.model.proofs.LabelRules.{labels_exactly}
-use Rattle.model.proofs.Placements.{Compass, Placed, placed, is-placed, chart-is}
+use Rattle.model.proofs.Placements.{Placed, placed, is-placed, chart-is}
 
 -- ---- a strict order of contexts, as a test
 record Order : Type 0 where

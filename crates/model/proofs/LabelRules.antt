@@ -1,5 +1,5 @@
 -- The label test passes exactly where the labels are a transversal structure, as source 001's C1 and C2 and 01 have it.
-use Prim.Native.Nat.{ℕ, zero, suc, ◌+◌, ◌≤◌, ◌<◌, max}
+use Prim.Native.Nat.{ℕ, zero, suc, ◌≤◌, ◌<◌, max}
 use mathlib.Core.Path.{◌≡◌, refl, sym, ap, ◌∙◌, subst}
 use mathlib.Core.List.{List, [], ◌∷◌, ◌++◌, Memᴰ, cons-ne-nil}
 use mathlib.Core.Logic.{◌↔◌}

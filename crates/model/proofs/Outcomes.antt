@@ -1,12 +1,12 @@
 -- What an outcome says of the steps that led to it; and the one law of all refusals that have a place: it is the lowest that breaks the rule.
-use Prim.Native.Nat.{ℕ, zero, suc, ◌+◌, ◌≤◌, ◌<◌}
+use Prim.Native.Nat.{ℕ, ◌+◌, ◌<◌}
 use mathlib.Core.Path.{◌≡◌, refl, sym, ap, subst}
 use mathlib.Core.Logic.{◌↔◌, ◌⊎◌, inl, inr}
-use mathlib.Core.Bool.{Bool, true, false, cond}
+use mathlib.Core.Bool.{Bool, true, false}
 use native.Mathlib.Omega.{arith}
 use lib.Dec.{leb}
 use borrow.Author.Tests.{leb-true, leb-false, le-leb, lt-leb}
-use Rattle.lists.specs.Ranges.{first_from, lowest}
+use Rattle.lists.specs.Ranges.{lowest}
 use Rattle.lists.proofs.Ranges.{FirstOf, first_found, first-none, none_first, found_first}
 use Rattle.model.specs.Outcome.{Outcome, accepted, refused, passed, require, rule, ◌>>=◌, ◌>>◌}
 

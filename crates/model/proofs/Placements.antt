@@ -1,22 +1,22 @@
 -- Placements read rule by rule; and the chart: it is the least placement, and it is refused exactly where no placement keeps the compass rules.
-use Prim.Native.Nat.{ℕ, zero, suc, ◌+◌, ◌≤◌, ◌<◌}
+use Prim.Native.Nat.{ℕ, ◌+◌, ◌≤◌, ◌<◌}
 use mathlib.Core.Path.{◌≡◌, refl, sym, ap, ◌∙◌, subst}
 use mathlib.Core.List.Memᴰ
 use mathlib.Core.List.{List, [], ◌∷◌, ◌++◌, map, Memᴰ}
 use mathlib.Core.Logic.{◌↔◌, ◌⊎◌, inl, inr}
-use mathlib.Core.Bool.{Bool, true, false, cond, ◌&&◌, false≢true}
+use mathlib.Core.Bool.{Bool, true, false, cond}
 use native.Mathlib.Omega.{arith}
 use lib.ListN.{length, get_or}
 use lib.Seq.{ext_get_or}
-use lib.Dec.{eqb, leb}
-use borrow.Author.Tests.{eqb-true, eqb-false, eq-eqb, leb-true, le-leb}
+use lib.Dec.{eqb}
+use borrow.Author.Tests.{eqb-true, eq-eqb, leb-true, le-leb}
 use Rattle.lists.specs.Tests.{all}
 use Rattle.lists.specs.Parts.{concat}
 use Rattle.lists.proofs.Bools.{and_yes, yes_and, both}
 use Rattle.lists.proofs.Tests.{all_of, of_all}
-use Rattle.lists.proofs.Ranges.{from-mem, mem-from}
+use Rattle.lists.proofs.Ranges.{from-mem}
 use Rattle.lists.proofs.Joins.{join_mem, mem_join}
-use Rattle.model.specs.Outcome.{Outcome, accepted, refused, passed, require, ◌>>◌, ◌>>=◌}
+use Rattle.model.specs.Outcome.{Outcome, accepted, refused, require, ◌>>◌, ◌>>=◌}
 use Rattle.model.specs.Plan.{Plan, Dart, count, contexts, ring, adjacent, darts_from, darts, north, east, south, west}
 use Rattle.model.specs.Labels.{up, right, label_of}
 use Rattle.model.specs.Chart.{Chart, x, y, Constraint, constraint, meets, x_constraint, y_constraint, x_constraints, y_constraints, is_at, is_placement, AtMost, IsChart, least_numbers, tie, least_placement}

@@ -1,21 +1,21 @@
 -- The plan rules 4 to 9 read as statements about neighbours: they pass exactly where these hold.
 use Prim.Native.Nat.{ℕ, ◌+◌, ◌-◌, ◌*◌, ◌%◌, ◌≤◌, ◌<◌}
-use mathlib.Core.Path.{◌≡◌, refl, sym, ap, subst, ◌∙◌}
+use mathlib.Core.Path.{◌≡◌, refl, sym, subst, ◌∙◌}
 use mathlib.Core.List.Memᴰ
-use mathlib.Core.List.{List, [], ◌∷◌, ◌++◌, map, Memᴰ}
+use mathlib.Core.List.{List, [], ◌∷◌, ◌++◌, Memᴰ}
 use mathlib.Core.Bool.{Bool, true, false, not, ◌&&◌, ◌||◌}
 use mathlib.Core.Logic.{◌≢◌}
 use native.Mathlib.Omega.{arith}
-use lib.ListN.{length, get_or, get_or-eq_default}
+use lib.ListN.{length, get_or}
 use lib.Seq.{slice}
 use lib.Dec.{eqb, leb, ltb}
 use borrow.Author.Tests.{eqb-true, eqb-false, eq-eqb, ne_eqb, leb-false, lt-leb, ltb-true, ltb-false, not-true, not-false}
 use Rattle.lists.specs.Tests.{any, member, repeats}
 use Rattle.lists.proofs.Bools.{or_no, no_or, and_yes, yes_and, no-not, yes-not}
-use Rattle.lists.proofs.Tests.{none_of, of_none, any-map, mem-member, member-mem}
+use Rattle.lists.proofs.Tests.{none_of, of_none, any-map}
 use Rattle.lists.proofs.Members.{first_last}
 use Rattle.model.specs.Outcome.{Outcome, passed, ◌>>◌, rule, require}
-use Rattle.model.specs.Plan.{Plan, Dart, count, neighbour, entries, ring, adjacent, darts_from, outer, closes, bad_entry, bad_repeat, unreturned, entry_count, dart_count, bad_border, bad_face, plan_rules}
+use Rattle.model.specs.Plan.{Plan, Dart, count, ring, adjacent, darts_from, outer, closes, bad_entry, bad_repeat, unreturned, entry_count, dart_count, bad_border, bad_face, plan_rules}
 use Rattle.model.proofs.Outcomes.{then_accepted, passed_then, require-passed, passed-require, rule-passes}
 use Rattle.model.proofs.Plans.{ring_outside, adjacent-mem, mem-adjacent, adjacent-from}
 

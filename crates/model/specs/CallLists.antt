@@ -1,5 +1,5 @@
 -- Lists of calls: what they leave on a sheet, and the ledger that 01 keeps beside it.
-use Rattle.std.specs.Prelude.{ℕ, zero, suc, ◌+◌, List, [], ◌∷◌, Bool, true, false, length, drop}
+use Rattle.std.specs.Prelude.{ℕ, zero, suc, ◌+◌, List, [], ◌∷◌, Bool, length, drop}
 use Rattle.std.proofs.Math.Option.{Option, none, some}
 use Rattle.lists.specs.Tests.{member}
 use Rattle.lists.specs.Words.{word}

@@ -1,5 +1,5 @@
 -- The calls on a sheet: open, offer, sweep, turn, chart, write, scan, same, ring. The stage comes first, then the order of 01's table.
-use Rattle.std.specs.Prelude.{ℕ, suc, ◌+◌, ◌*◌, List, [], ◌∷◌, ◌++◌, Bool, ◌&&◌, length, take, drop, eqb, ltb, leb}
+use Rattle.std.specs.Prelude.{ℕ, suc, ◌+◌, ◌*◌, List, [], ◌++◌, Bool, ◌&&◌, length, take, drop, eqb, ltb, leb}
 use Rattle.std.proofs.Math.Option.{Option}
 use Rattle.model.specs.Outcome.{Outcome, accepted, refused, passed, ◌>>=◌, ◌>>◌, require}
 use Rattle.model.specs.Plan.{Plan, count, entries, dart_count, plan_rules}

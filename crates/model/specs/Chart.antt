@@ -1,6 +1,6 @@
 -- Placement and chart: the compass rules, and the least placement that keeps them.
 -- Standard terms: a placement is a straight-line grid drawing; the compass rules are difference constraints, and the chart is their least solution.
-use Rattle.std.specs.Prelude.{ℕ, zero, suc, ◌+◌, ◌*◌, ◌≤◌, ◌<◌, max, ◌≡◌, List, [], ◌∷◌, ◌++◌, map, Bool, true, cond, ◌&&◌, length, get_or, set, replicate, eqb, ltb, leb}
+use Rattle.std.specs.Prelude.{ℕ, zero, suc, ◌+◌, ◌*◌, ◌≤◌, ◌<◌, max, ◌≡◌, List, [], ◌∷◌, ◌++◌, map, Bool, true, cond, ◌&&◌, length, get_or, set, replicate, eqb, leb}
 use Rattle.lists.specs.Tests.{all, same_list}
 use Rattle.lists.specs.Parts.{concat}
 use Rattle.model.specs.Outcome.{Outcome, accepted, refused, ◌>>=◌, ◌>>◌, require}

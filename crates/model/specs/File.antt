@@ -3,7 +3,7 @@ use Rattle.std.specs.Prelude.{ℕ, zero, suc, ◌+◌, ◌-◌, ◌*◌, ◌%◌
 use Rattle.lists.specs.Tests.{empty}
 use Rattle.lists.specs.Parts.{concat, pairs}
 use Rattle.lists.specs.Words.{word, words, bytes}
-use Rattle.model.specs.Outcome.{Outcome, accepted, refused, ◌>>=◌, ◌>>◌, require}
+use Rattle.model.specs.Outcome.{Outcome, accepted, ◌>>=◌, ◌>>◌, require}
 use Rattle.model.specs.Plan.{Plan, count, dart_count}
 use Rattle.model.specs.Chart.{Chart}
 

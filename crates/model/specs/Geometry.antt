@@ -1,5 +1,5 @@
 -- Areas, lines and points of a chart.
-use Rattle.std.specs.Prelude.{ℕ, zero, suc, ◌*◌, min, max, List, [], ◌∷◌, map, Bool, true, false, ◌&&◌, ℤ, pos, negsuc, ◌+ℤ◌, ◌-ℤ◌, ◌*ℤ◌, ltb, leb}
+use Rattle.std.specs.Prelude.{ℕ, zero, suc, ◌*◌, min, max, List, [], ◌∷◌, Bool, true, false, ◌&&◌, ℤ, pos, negsuc, ◌+ℤ◌, ◌-ℤ◌, ◌*ℤ◌, ltb, leb}
 use Rattle.std.proofs.Math.IntN.{sub_ℕ}
 use Rattle.lists.specs.Tests.{any, all}
 use Rattle.lists.specs.Parts.{cycle}

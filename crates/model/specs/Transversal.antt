@@ -1,6 +1,6 @@
 -- What the label rules say, without a test: conditions C1 and C2 of source 001, read as 01 reads them.
 -- Up is outgoing red, right outgoing blue, down ingoing red, left ingoing blue.
-use Rattle.std.specs.Prelude.{ℕ, suc, ◌≤◌, ◌<◌, max, ◌≡◌, List, ◌++◌, true, length, take, drop, replicate}
+use Rattle.std.specs.Prelude.{ℕ, ◌≤◌, ◌<◌, max, ◌≡◌, List, ◌++◌, true, length, take, drop, replicate}
 use Rattle.model.specs.Plan.{Plan, count, adjacent, north, east, south, west}
 use Rattle.model.specs.Labels.{up, right, down, left, border_label, turned, label_of, labels_around}
 

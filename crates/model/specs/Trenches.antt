@@ -1,6 +1,6 @@
 -- Four trenches, and the table of what 01 says is to be shown of them.
 use Rattle.std.specs.Prelude.{ℕ, ◌+◌, ◌%◌, ◌≡◌, List, [], ◌∷◌, ◌++◌, map, pos}
-use Rattle.std.proofs.Math.Option.{Option, none, some}
+use Rattle.std.proofs.Math.Option.{none, some}
 use Rattle.lists.specs.Parts.{concat}
 use Rattle.model.specs.Outcome.{Outcome, accepted, refused, passed, ◌>>=◌}
 use Rattle.model.specs.Plan.{Plan, faces}

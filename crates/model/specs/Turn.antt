@@ -1,5 +1,5 @@
 -- Turn: both darts of each named edge by a quarter; 15, then 10.
-use Rattle.std.specs.Prelude.{ℕ, ◌%◌, List, [], ◌∷◌, Bool, cond, not, ◌&&◌, ◌||◌, length, get_or, take, eqb, ltb}
+use Rattle.std.specs.Prelude.{ℕ, ◌%◌, List, [], ◌∷◌, Bool, cond, not, ◌||◌, length, get_or, take, eqb, ltb}
 use Rattle.lists.specs.Tests.{any}
 use Rattle.lists.specs.Parts.{pairs}
 use Rattle.model.specs.Outcome.{Outcome, accepted, ◌>>◌, require, rule}

@@ -28,7 +28,6 @@ use Rattle.lent.proofs.Copied.{entry-count-lent}
 use Rattle.framing.specs.Offsets.{word_at}
 use Rattle.framing.specs.Layouts.{plan_in, labels_in, chart_from, found_as, sheet_in, tidy_as, tidied, Enough}
 use Rattle.framing.specs.declared.Found.{Found}
-use Rattle.framing.specs.declared.Found.TheVariants as Found
 use Rattle.framing.specs.declared.Layout.{Layout}
 use Rattle.sheet.specs.declared.Sheet.{Sheet}
 use Rattle.sheet.specs.declared.Stage.TheVariants.{Open, Labelled, Charted}

@@ -10,7 +10,7 @@ use borrow.Author.Tests.{leb-true, eqb-true, le-leb, lt-leb}
 use Rattle.lists.specs.Parts.{concat}
 use Rattle.lists.specs.Spans.{stretch, padded}
 use Rattle.lists.proofs.Bools.{and_yes}
-use Rattle.model.specs.Outcome.{passed, ◌>>=◌, ◌>>◌}
+use Rattle.model.specs.Outcome.{passed, ◌>>=◌}
 use Rattle.model.specs.Plan.{Plan, count, dart_count}
 use Rattle.model.specs.Chart.{Chart}
 use Rattle.model.specs.File as file
@@ -19,7 +19,6 @@ use Rattle.lent.proofs.Rings.{count-lent}
 use Rattle.lent.proofs.Copied.{copied-padded, entry-count-lent}
 use Rattle.framing.specs.Layouts.{plan_in, labels_in, chart_from, found_as, sheet_in, tidy_as, tidied}
 use Rattle.framing.specs.declared.Found.{Found}
-use Rattle.framing.specs.declared.Found.TheVariants as Found
 use Rattle.framing.specs.declared.Layout.{Layout}
 use Rattle.sheet.specs.declared.Sheet.{Sheet}
 use Rattle.sheet.specs.declared.Stage.{Stage}

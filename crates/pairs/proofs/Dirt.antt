@@ -1,5 +1,5 @@
 -- Lists that may not be put on the frontier: with a repeat, a border context, or one that is or was on the frontier. How a list that is squeezed grows at its end and at its beginning.
-use Prim.Native.Nat.{ℕ, ◌+◌, ◌-◌}
+use Prim.Native.Nat.{ℕ}
 use mathlib.Core.Path.{◌≡◌, refl, ap, sym, ◌∙◌, subst}
 use mathlib.Core.Logic.{◌⊎◌, inl, inr}
 use mathlib.Core.List.{List, [], ◌∷◌, ◌++◌, append_assoc, append-nil}

@@ -1,5 +1,5 @@
 -- The engine's list of a pair of positions is the model's, or it failed and the model's may not be put on the frontier.
-use Prim.Native.Nat.{ℕ, zero, suc, ◌+◌, ◌-◌, ◌≤◌}
+use Prim.Native.Nat.{ℕ, zero, suc, ◌-◌, ◌≤◌}
 use mathlib.Core.Path.{◌≡◌, refl, ap, sym, ◌∙◌, subst}
 use mathlib.Core.Logic.{◌⊎◌, inl, inr, ⊎_elim}
 use mathlib.Core.List.{List, [], ◌++◌, map, append_assoc, append-nil, reverse}
@@ -10,7 +10,7 @@ use lib.Dec.{eqb}
 use borrow.Author.Tests.{ne_eqb}
 use Rattle.lists.specs.Tests.{all, empty, member}
 use Rattle.lists.specs.Ranges.{from}
-use Rattle.lists.specs.Parts.{concat, before, squeeze}
+use Rattle.lists.specs.Parts.{concat, squeeze}
 use Rattle.lists.specs.Spans.{padded}
 use Rattle.model.specs.Plan.{Plan}
 use Rattle.model.specs.Sweep.{below, listed}

@@ -1,5 +1,5 @@
 -- The chart of a table in flat arrays, and the answer that stands for its outcome.
-use Rattle.std.specs.Prelude.{ℕ, List, Bool, true, false, cond, ◌&&◌, get_or, eqb, leb}
+use Rattle.std.specs.Prelude.{ℕ, List, Bool, true, false, cond, ◌&&◌, get_or, eqb}
 use Rattle.lists.specs.Spans.{zeros, padded}
 use Rattle.model.specs.Outcome.{Outcome, accepted, refused}
 use Rattle.model.specs.Plan.{north, east, south, west}

@@ -2,7 +2,7 @@
 use Prim.Native.Nat.{ℕ, suc, ◌-◌, ◌≤◌, ◌<◌}
 use mathlib.Core.Path.{◌≡◌, refl, sym, ap, ◌∙◌}
 use mathlib.Core.List.{List}
-use mathlib.Core.Bool.{Bool, true, false, cond, not}
+use mathlib.Core.Bool.{Bool, true, false, not}
 use native.Mathlib.Omega.{arith}
 use lib.ListN.{length, get_or}
 use lib.Dec.{eqb, ltb}
@@ -11,7 +11,7 @@ use Rattle.lists.specs.Tests.{member}
 use Rattle.lists.specs.Parts.{index_of}
 use Rattle.model.specs.Plan.{Plan, ring, adjacent}
 use Rattle.rings.proofs.Rows.{index_le, member_index}
-use Rattle.places.specs.Places.{place, cell, tabled, places_of, placed, index_by, adjacent_by}
+use Rattle.places.specs.Places.{place, cell, places_of, placed, index_by, adjacent_by}
 use Rattle.places.proofs.Notes.{places_cell, place_absent, place-present}
 
 module _ (t : List ℕ) (p : Plan) (u v : ℕ) where

@@ -1,18 +1,18 @@
 -- The ring of a context in flat arrays, and look-ups in it.
-use Prim.Native.Nat.{ℕ, zero, suc, ◌+◌, ◌-◌, ◌*◌, ◌≤◌, ◌<◌, min}
-use mathlib.Core.Path.{◌≡◌, refl, sym, ap, ◌∙◌, subst}
-use mathlib.Core.List.{List, [], ◌∷◌, ◌++◌, map}
+use Prim.Native.Nat.{ℕ, zero, suc, ◌+◌, ◌-◌, ◌≤◌, ◌<◌, min}
+use mathlib.Core.Path.{◌≡◌, refl, sym, ap, ◌∙◌}
+use mathlib.Core.List.{List, [], ◌∷◌, map}
 use mathlib.Core.Bool.{Bool, true, false, cond, ◌||◌}
 use native.Mathlib.Omega.{arith}
-use lib.ListN.{length, get_or, take, drop, drop_of_length-le}
+use lib.ListN.{length, get_or, drop, drop_of_length-le}
 use lib.Seq.{get_or-take, drop-cons}
 use lib.Dec.{eqb, ltb}
 use borrow.Author.Tests.{ltb-true, ltb-false, lt-ltb, le-ltb}
-use Rattle.lists.specs.Tests.{any, member}
+use Rattle.lists.specs.Tests.{member}
 use Rattle.lists.specs.Parts.{index_of}
 use Rattle.lists.specs.Spans.{stretch, span}
 use Rattle.lists.proofs.Spans.{length-stretch, get_or-stretch}
-use Rattle.model.specs.Plan.{Plan, count, neighbour, entries, ring, adjacent, onward, next}
+use Rattle.model.specs.Plan.{count, neighbour, entries, ring, onward, next}
 use Rattle.rings.specs.Tables.{sum_of, start_of, size_of, rows, table, held}
 use Rattle.rings.proofs.Made.{Reads, entries-made, ring-made, count-made, size-made, past-made, at-made}
 

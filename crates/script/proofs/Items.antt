@@ -13,7 +13,7 @@ use Rattle.model.specs.CallLists.{Call, open_file, offer_labels, sweep-labels, d
 use Rattle.sheet.specs.declared.Sheet.{Sheet}
 use Rattle.sheet.specs.Sheets.{reads}
 use Rattle.sheet.specs.Answers.{after}
-use Rattle.script.specs.Scripts.{argument_size, alone, turn_of, call_of, call_at}
+use Rattle.script.specs.Scripts.{argument_size, turn_of, call_of, call_at}
 use Rattle.script.specs.Steps.{stepped, size_if}
 
 -- ---- what an item leaves

@@ -6,7 +6,7 @@ use mathlib.Core.Option.{Option, none, some}
 use native.Mathlib.Omega.{arith}
 use lib.ListN.{length, take, drop, length-drop}
 use lib.Seq.{take_all, drop-drop}
-use Rattle.model.specs.CallLists.{Call, call}
+use Rattle.model.specs.CallLists.{Call}
 use Rattle.sheet.specs.declared.Sheet.{Sheet}
 use Rattle.guarantee.specs.Engine.{start, left}
 use Rattle.script.specs.Scripts.{argument_size, call_at, behind, with_later, if_called, calls_from, rest_from, calls_of, end_of}

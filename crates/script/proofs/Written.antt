@@ -7,7 +7,7 @@ use mathlib.Core.Option.{none, some}
 use native.Mathlib.Omega.{arith}
 use lib.ListN.{length, take, drop, length-append}
 use lib.Seq.{take-append_seam, drop-append_seam}
-use Rattle.lists.specs.Words.{words, bytes}
+use Rattle.lists.specs.Words.{bytes}
 use Rattle.lists.proofs.Words.{words-bytes, length-bytes}
 use Rattle.model.specs.CallLists.{Call, open_file, offer_labels, sweep-labels, turn_edges, draw_chart}
 use Rattle.script.specs.Scripts.{argument_size, call_of, call_at, behind, calls_from, rest_from, calls_of, end_of}

@@ -12,7 +12,6 @@ use borrow.Author.Tests.{eqb-true, eqb-false, le-leb, lt-leb}
 use Rattle.constraints.proofs.Listed.{mem-listed, listed-mem, listed_small}
 use Rattle.constraints.specs.Constraints.{rise, constraint_at, listed}
 use Rattle.lists.proofs.Padded.{get_or-zeros}
-use Rattle.lists.specs.Tests.{all}
 use Rattle.lists.specs.Spans.{zeros}
 use Rattle.model.specs.Outcome.{refused}
 use Rattle.model.specs.Chart.{Constraint, least_numbers}

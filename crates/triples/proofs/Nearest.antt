@@ -10,9 +10,8 @@ use lib.Dec.{eqb, ltb}
 use borrow.Author.Tests.{ltb-true, ltb-false, lt-ltb, le-ltb, eqb-true, eqb-false}
 use Rattle.lists.specs.Parts.{index_of}
 use Rattle.lists.specs.Ranges.{first_from}
-use Rattle.lists.proofs.Bools.{and_yes}
 use Rattle.lists.proofs.Places.{index_below, index_is}
-use Rattle.lists.proofs.Ranges.{FirstOf, found_first, none_first}
+use Rattle.lists.proofs.Ranges.{found_first, none_first}
 use Rattle.model.specs.Plan.{neighbour, ring}
 use Rattle.rings.specs.Tables.{size_of, rows}
 use Rattle.rings.proofs.Rows.{ring-at}

@@ -1,6 +1,6 @@
 -- Scan as a search context by context: first a, then b, then c; and the tests that the code makes of one triple.
 use Prim.Native.Nat.{ℕ, zero, suc, ◌+◌, ◌-◌, ◌≤◌, ◌<◌}
-use mathlib.Core.Path.{◌≡◌, refl, sym, ap, ◌∙◌, subst}
+use mathlib.Core.Path.{◌≡◌, refl, sym, ap, ◌∙◌}
 use mathlib.Core.List.{List, [], ◌∷◌, ◌++◌, map, Memᴰ}
 use mathlib.Core.Bool.{Bool, true, false, cond, not, ◌&&◌, ◌||◌, and-true, or-true, true≢false}
 use mathlib.Core.Option.{Option, none, some}
@@ -8,9 +8,9 @@ use native.Mathlib.Omega.{arith}
 use lib.Dec.{eqb, ltb}
 use borrow.Author.Tests.{ltb-true, ltb-false, lt-ltb, le-ltb, eqb-true, eq-eqb, ne_eqb, not-true}
 use Rattle.lists.proofs.Bools.{and_yes}
-use Rattle.lists.specs.Ranges.{from, first_from, lowest}
+use Rattle.lists.specs.Ranges.{from, first_from}
 use Rattle.lists.specs.Parts.{concat}
-use Rattle.lists.proofs.Ranges.{FirstOf, first_found, none_first}
+use Rattle.lists.proofs.Ranges.{first_found}
 use Rattle.model.proofs.Plans.{adjacent-mem}
 use Rattle.model.specs.Plan.{Plan, count, ring, adjacent, next, step, outer, closes, walk, on_inner_face}
 use Rattle.model.specs.Scan.{Triple, after, triples, inner_face, enclosing, first_enclosing, scan}

@@ -2,7 +2,6 @@
 use Rattle.std.specs.Prelude.{ℕ, min, List}
 use Rattle.lists.specs.Spans.{stretch}
 use Rattle.model.specs.Outcome.{Outcome, accepted, refused}
-use Rattle.model.specs.Plan.{Plan}
 use Rattle.model.specs.Chart.{Chart}
 use Rattle.model.specs.File.{Sheet, opened, labelled, charted}
 use Rattle.rings.specs.Tables.{start_of, held}

@@ -1,5 +1,5 @@
 -- followed meets its contract.
-use Rattle.std.proofs.Common.{ap, rules}
+use Rattle.std.proofs.Common.{ap}
 use Rattle.sheet.specs.Answers.{answer_as}
 use Rattle.answers.proofs.Steps.{turn-off, turn_on}
 use Rattle.answers.proofs.followed.Goals as goal

@@ -6,7 +6,6 @@ use mir.Val.{to_z, of_z}
 use Rattle.areas.specs.Corners.{corner_at}
 use mathlib.Core.Path.{ap, ◌∙◌}
 use native.Mathlib.Omega.{arith}
-use borrow.Author.Rules.{rules}
 use Rattle.areas.proofs.area_of.Goals as goal
 
 pub returns-clause-value : goal.returns-clause-value

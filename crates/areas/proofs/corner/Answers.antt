@@ -1,7 +1,5 @@
 -- corner meets its contract.
-use Rattle.areas.proofs.Areas.{times_fits, corner-fits, corner-read}
-use native.Mathlib.Omega.{arith}
-use borrow.Author.Rules.{rules}
+use Rattle.areas.proofs.Areas.{corner-fits, corner-read}
 use Rattle.areas.proofs.corner.Goals as goal
 
 pub overflow_sub-result : goal.overflow_sub-result

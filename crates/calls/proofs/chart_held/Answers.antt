@@ -1,8 +1,6 @@
 -- chart_held meets its contract.
 use mathlib.Core.Path.{◌≡◌, sym, ap, ◌∙◌}
-use Prim.Native.Nat.{◌≤◌}
 use lib.ListN.{length}
-use Rattle.rings.specs.Tables.{start_of}
 use Rattle.placement.specs.Drawing.{drawn_as, drawn_of}
 use Rattle.sheet.proofs.Reading.{room, total-held}
 use Rattle.calls.proofs.Charts.{chart_for_lem}

@@ -1,11 +1,8 @@
 -- first_labels meets its contract.
 use mathlib.Core.Path.{refl}
-use Prim.Native.Nat.{ℕ, ◌-◌, ◌≤◌}
-use lib.ListN.{get_or}
-use Rattle.lists.proofs.Loops.{Fills, fills_start, fills_on}
+use Rattle.lists.proofs.Loops.{fills_start, fills_on}
 use Rattle.calls.proofs.Cleaned.{filled-front}
 use native.Mathlib.Omega.{arith}
-use borrow.Author.Rules.{rules}
 use Rattle.calls.proofs.first_labels.Goals as goal
 
 pub loop-i-init : goal.loop-i-init

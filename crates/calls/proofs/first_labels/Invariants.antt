@@ -1,11 +1,7 @@
 -- What the loops of first_labels keep.
-use mathlib.Core.Path.{refl}
 use Prim.Native.Nat.{ℕ, ◌-◌, ◌≤◌}
 use lib.ListN.{get_or}
-use Rattle.lists.proofs.Loops.{Fills, fills_start, fills_on}
-use Rattle.calls.proofs.Cleaned.{filled-front}
-use native.Mathlib.Omega.{arith}
-use borrow.Author.Rules.{rules}
+use Rattle.lists.proofs.Loops.{Fills}
 use Rattle.calls.proofs.first_labels.Given as goal
 
 abbrev pub invariant-loop-i : goal.invariant-loop-i

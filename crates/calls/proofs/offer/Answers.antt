@@ -11,7 +11,6 @@ use Rattle.sheet.proofs.Reading.{fits_there, few, ranked}
 use Rattle.sheet.proofs.Reading.{answer_refused, answer_accepted}
 use Rattle.calls.proofs.Offers.{offer_early, offer_count, offer_broken, offer_kept}
 use native.Mathlib.Omega.{arith}
-use borrow.Author.Rules.{rules}
 use Rattle.calls.proofs.offer.Goals as goal
 
 pub returns-then-rank_of-lt1-clause-answer_value : goal.returns-then-rank_of-lt1-clause-answer_value

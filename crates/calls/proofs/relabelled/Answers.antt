@@ -2,12 +2,10 @@
 use mathlib.Core.Path.{ap, ◌∙◌}
 use Prim.Native.Nat.{ℕ}
 use Rattle.lists.specs.Spans.{stretch, zeros, padded}
-use Rattle.rings.specs.Tables.{start_of}
 use Rattle.sheet.specs.declared.Stage.TheVariants.{Labelled}
 use Rattle.sheet.proofs.Reading.{few, room, total-held}
 use Rattle.calls.proofs.Cleaned.{rebuilt}
 use native.Mathlib.Omega.{arith}
-use borrow.Author.Rules.{rules}
 use Rattle.calls.proofs.relabelled.Goals as goal
 
 pub first_sizes-sizes_kept-requires : goal.first_sizes-sizes_kept-requires

@@ -5,10 +5,7 @@ use mathlib.Core.List.{[]}
 use Rattle.lists.specs.Spans.{padded}
 use Rattle.model.specs.Outcome.{taken}
 use Rattle.sweep.specs.Swept.{outcome_of, sweep_of}
-use Rattle.sheet.specs.Sheets.{held_plan}
 use Rattle.sheet.proofs.Reading.{table-held}
-use native.Mathlib.Omega.{arith}
-use borrow.Author.Rules.{rules}
 use Rattle.calls.proofs.sweep_held.Goals as goal
 
 pub returns-clause-sheet_value : goal.returns-clause-sheet_value

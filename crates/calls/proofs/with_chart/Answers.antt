@@ -1,8 +1,5 @@
 -- with_chart meets its contract.
-use mathlib.Core.Path.{refl}
 use Rattle.calls.proofs.Charts.{chart-stored}
-use native.Mathlib.Omega.{arith}
-use borrow.Author.Rules.{rules}
 use Rattle.calls.proofs.with_chart.Goals as goal
 
 pub returns : goal.returns

@@ -1,13 +1,11 @@
 -- with_labels meets its contract.
 use mathlib.Core.Path.{ap, ◌∙◌}
-use mathlib.Core.List.{List}
-use Prim.Native.Nat.{ℕ, ◌≤◌}
+use Prim.Native.Nat.{ℕ}
 use Rattle.lists.specs.Spans.{stretch}
 use Rattle.model.specs.File.{labelled}
 use Rattle.sheet.specs.Sheets.{held_count, held_plan, packed}
 use Rattle.sheet.proofs.Reading.{room, total-held}
 use native.Mathlib.Omega.{arith}
-use borrow.Author.Rules.{rules}
 use Rattle.calls.proofs.with_labels.Goals as goal
 
 pub relabelled-requires-clause-k_bound : goal.relabelled-requires-clause-k_bound

@@ -1,8 +1,5 @@
 -- same_chart meets its contract.
 use Rattle.charts.proofs.Comparing.{charts-w, charts-h, charts-x, charts-y}
-use borrow.Author.Tests.{not-true, not-false}
-use native.Mathlib.Omega.{arith}
-use borrow.Author.Rules.{rules}
 use Rattle.charts.proofs.same_chart.Goals as goal
 
 pub returns-then-aw-bw : goal.returns-then-aw-bw

@@ -1,8 +1,6 @@
 -- same_numbers meets its contract.
-use Rattle.charts.proofs.Comparing.{Matches, matches_start, matches_hit, matches_on, matches_end}
-use Prim.Native.Nat.{◌-◌}
+use Rattle.charts.proofs.Comparing.{matches_hit, matches_on, matches_end}
 use native.Mathlib.Omega.{arith}
-use borrow.Author.Rules.{rules}
 use Rattle.charts.proofs.same_numbers.Goals as goal
 
 pub returns-then-num : goal.returns-then-num

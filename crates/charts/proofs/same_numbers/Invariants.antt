@@ -1,8 +1,6 @@
 -- What the loops of same_numbers keep.
-use Rattle.charts.proofs.Comparing.{Matches, matches_start, matches_hit, matches_on, matches_end}
+use Rattle.charts.proofs.Comparing.{Matches}
 use Prim.Native.Nat.{◌-◌}
-use native.Mathlib.Omega.{arith}
-use borrow.Author.Rules.{rules}
 use Rattle.charts.proofs.same_numbers.Given as goal
 
 abbrev pub invariant-loop-i : goal.invariant-loop-i

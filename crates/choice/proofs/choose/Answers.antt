@@ -1,17 +1,11 @@
 -- choose meets its contract.
 use mathlib.Core.Path.{refl}
 use mathlib.Core.Bool.{true}
-use Prim.Native.Nat.{◌-◌, ◌≤◌}
-use borrow.Author.Tests.{not-false}
-use Rattle.model.specs.Sweep.{State}
+use Prim.Native.Nat.{◌-◌}
 use Rattle.rings.specs.Tables.{rows}
 use Rattle.frontier.specs.Run.{line}
-use Rattle.choice.specs.Search.{Ready}
-use Rattle.choice.proofs.Searches.{shut_best, Choosing, choosing_start, choosing_on, choosing_hit, choosing_end}
+use Rattle.choice.proofs.Searches.{shut_best, choosing_on, choosing_hit, choosing_end}
 use native.Mathlib.Omega.{arith}
-use borrow.Author.Rules.{rules}
-use mathlib.Core.Path.{ap}
-use mathlib.Core.Bool.{not}
 use Rattle.choice.proofs.choose.Goals as goal
 
 pub returns-then-i-gt0 : goal.returns-then-i-gt0

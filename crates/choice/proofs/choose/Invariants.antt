@@ -1,15 +1,11 @@
 -- What the loops of choose keep.
-use mathlib.Core.Path.{refl}
 use mathlib.Core.Bool.{true}
-use Prim.Native.Nat.{◌-◌, ◌≤◌}
-use borrow.Author.Tests.{not-false}
+use Prim.Native.Nat.{◌≤◌}
 use Rattle.model.specs.Sweep.{State}
 use Rattle.rings.specs.Tables.{rows}
 use Rattle.frontier.specs.Run.{line}
 use Rattle.choice.specs.Search.{Ready}
-use Rattle.choice.proofs.Searches.{shut_best, Choosing, choosing_start, choosing_on, choosing_hit, choosing_end}
-use native.Mathlib.Omega.{arith}
-use borrow.Author.Rules.{rules}
+use Rattle.choice.proofs.Searches.{Choosing}
 use Rattle.choice.proofs.choose.Given as goal
 
 abbrev pub invariant-loop-j : goal.invariant-loop-j

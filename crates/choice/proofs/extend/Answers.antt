@@ -1,18 +1,14 @@
 -- extend meets its contract.
-use mathlib.Core.Path.{◌≡◌, refl, sym, ap, ◌∙◌}
-use mathlib.Core.Bool.{true}
+use mathlib.Core.Path.{refl, sym, ap, ◌∙◌}
 use mathlib.Core.List.{List}
-use Prim.Native.Nat.{ℕ, ◌-◌, ◌≤◌}
-use lib.ListN.{length, get_or}
+use Prim.Native.Nat.{ℕ}
+use lib.ListN.{get_or}
 use borrow.Author.Tests.{not-true, not-false}
 use Rattle.rings.specs.Tables.{rows}
-use Rattle.places.specs.Places.{places_of}
 use Rattle.frontier.proofs.Moves.{under-turned, turn-told, depth-told}
-use Rattle.choice.proofs.Trails.{Grows, grows_start, grows_on, grows_end, grows_stop, extends_bare}
-use Rattle.choice.specs.Run as run
+use Rattle.choice.proofs.Trails.{grows_on, grows_end, grows_stop, extends_bare}
 use native.Mathlib.Omega.{arith}
 use borrow.Author.Rules.{rules}
-use mathlib.Core.Bool.{not}
 use Rattle.choice.proofs.extend.Goals as goal
 
 pub returns-then-q-eq0 : goal.returns-then-q-eq0

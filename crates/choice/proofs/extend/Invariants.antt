@@ -1,17 +1,12 @@
 -- What the loops of extend keep.
-use mathlib.Core.Path.{◌≡◌, refl, sym, ap, ◌∙◌}
+use mathlib.Core.Path.{◌≡◌}
 use mathlib.Core.Bool.{true}
-use mathlib.Core.List.{List}
-use Prim.Native.Nat.{ℕ, ◌-◌, ◌≤◌}
-use lib.ListN.{length, get_or}
-use borrow.Author.Tests.{not-true, not-false}
+use Prim.Native.Nat.{◌-◌, ◌≤◌}
+use lib.ListN.{length}
 use Rattle.rings.specs.Tables.{rows}
 use Rattle.places.specs.Places.{places_of}
-use Rattle.frontier.proofs.Moves.{under-turned, turn-told, depth-told}
-use Rattle.choice.proofs.Trails.{Grows, grows_start, grows_on, grows_end, grows_stop, extends_bare}
+use Rattle.choice.proofs.Trails.{Grows}
 use Rattle.choice.specs.Run as run
-use native.Mathlib.Omega.{arith}
-use borrow.Author.Rules.{rules}
 use Rattle.choice.proofs.extend.Given as goal
 
 abbrev pub invariant-loop-t : goal.invariant-loop-t

@@ -1,6 +1,5 @@
 -- look meets its contract.
 use mathlib.Core.Path.{refl, ap, sym, ◌∙◌}
-use Prim.Native.Nat.{◌-◌}
 use lib.ListN.{get_or}
 use Rattle.model.specs.Plan.{ring, adjacent}
 use Rattle.model.proofs.Plans.{mem-adjacent}
@@ -8,10 +7,8 @@ use Rattle.model.proofs.Eligible.{get_or-mem}
 use Rattle.rings.specs.Tables.{rows}
 use Rattle.rings.proofs.Rows.{ring-size}
 use Rattle.pockets.proofs.Pocketed.{pocket_told}
-use Rattle.choice.specs.Search.{Lowest}
-use Rattle.choice.proofs.Takes.{lowest_start, lowest-on, knot_reason, takes_no, takes_looked}
+use Rattle.choice.proofs.Takes.{lowest-on, knot_reason, takes_no, takes_looked}
 use native.Mathlib.Omega.{arith}
-use borrow.Author.Rules.{rules}
 use Rattle.choice.proofs.look.Goals as goal
 
 pub returns-then-knot : goal.returns-then-knot

@@ -1,13 +1,12 @@
 -- placed meets its contract.
 use mathlib.Core.Path.{◌≡◌, sym}
-use Prim.Native.Nat.{ℕ, suc, ◌+◌, ◌-◌, min}
-use lib.ListN.{length, get_or, set, length-set}
+use Prim.Native.Nat.{suc, ◌+◌}
+use lib.ListN.{get_or, set, length-set}
 use lib.Seq.{set_out}
 use Rattle.lists.specs.Spans.{zeros}
-use Rattle.lists.proofs.Folds.{Goes, goes_start, goes_on, goes_end}
+use Rattle.lists.proofs.Folds.{goes_on, goes_end}
 use Rattle.choice.specs.Run as run
 use native.Mathlib.Omega.{arith}
-use borrow.Author.Rules.{rules}
 use Rattle.choice.proofs.placed.Goals as goal
 
 pub loop-k-preserved-then-c-lt256 : goal.loop-k-preserved-then-c-lt256

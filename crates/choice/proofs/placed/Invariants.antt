@@ -1,13 +1,8 @@
 -- What the loops of placed keep.
-use mathlib.Core.Path.{◌≡◌, sym}
-use Prim.Native.Nat.{ℕ, suc, ◌+◌, ◌-◌, min}
-use lib.ListN.{length, get_or, set, length-set}
-use lib.Seq.{set_out}
-use Rattle.lists.specs.Spans.{zeros}
-use Rattle.lists.proofs.Folds.{Goes, goes_start, goes_on, goes_end}
-use Rattle.choice.specs.Run as run
-use native.Mathlib.Omega.{arith}
-use borrow.Author.Rules.{rules}
+use mathlib.Core.Path.{◌≡◌}
+use Prim.Native.Nat.{ℕ, suc, ◌-◌, min}
+use lib.ListN.{length, get_or, set}
+use Rattle.lists.proofs.Folds.{Goes}
 use Rattle.choice.proofs.placed.Given as goal
 
 abbrev pub invariant-loop-k : goal.invariant-loop-k

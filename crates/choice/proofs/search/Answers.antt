@@ -1,21 +1,15 @@
 -- search meets its contract.
-use mathlib.Core.Path.{◌≡◌, refl, sym, ◌∙◌}
+use mathlib.Core.Path.{refl, sym, ◌∙◌}
 use mathlib.Core.Bool.{true}
-use Prim.Native.Nat.{◌<◌}
-use lib.ListN.{length}
 use borrow.Author.Tests.{not-true, not-false}
-use Rattle.model.specs.Sweep.{State}
 use Rattle.rings.specs.Tables.{rows}
 use Rattle.lists.specs.Spans.{zeros}
 use Rattle.frontier.specs.Run as lines
-use Rattle.choice.specs.Search.{Ready}
 use Rattle.choice.specs.Run as run
-use Rattle.choice.proofs.Searches.{Seeking, seeking_start, seeking_end, seeking_stop, seeking_on, seeking_over, seeking_hit}
+use Rattle.choice.proofs.Searches.{seeking_start, seeking_end, seeking_stop, seeking_on, seeking_over, seeking_hit}
 use native.Mathlib.Omega.{arith}
 use borrow.Author.Rules.{rules}
 use Rattle.chords.proofs.Eligibility.{fits-own}
-use mathlib.Core.Path.{ap}
-use mathlib.Core.Bool.{not}
 use Rattle.choice.proofs.search.Goals as goal
 
 pub loop-k-init : goal.loop-k-init

@@ -1,5 +1,5 @@
 -- shut meets its contract.
-use mathlib.Core.Path.{refl, ap, ◌∙◌, subst}
+use mathlib.Core.Path.{ap, ◌∙◌, subst}
 use mathlib.Core.List.{List, []}
 use Prim.Native.Nat.{ℕ}
 use lib.ListN.{get_or}
@@ -8,7 +8,6 @@ use Rattle.rings.specs.Tables.{rows}
 use Rattle.frontier.proofs.Moves.{under-turned, turn-told}
 use Rattle.choice.specs.Search.{Stops}
 use Rattle.choice.proofs.Trails.{shut_stops}
-use borrow.Author.Rules.{rules}
 use Rattle.choice.proofs.shut.Goals as goal
 
 pub returns : goal.returns

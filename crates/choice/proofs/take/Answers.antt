@@ -1,7 +1,6 @@
 -- take meets its contract.
 use mathlib.Core.Path.{refl, sym, ◌∙◌}
 use Rattle.choice.proofs.Takes.{barred_reason, takes_no, takes_same}
-use borrow.Author.Rules.{rules}
 use Rattle.choice.proofs.take.Goals as goal
 
 pub returns-then-same : goal.returns-then-same

@@ -3,7 +3,6 @@ use mathlib.Core.Path.{refl, ◌∙◌}
 use Rattle.lists.specs.Spans.{zeros}
 use Rattle.rings.specs.Tables.{rows}
 use Rattle.chords.proofs.Moves.{broken-on, broken-off}
-use borrow.Author.Rules.{rules}
 use Prim.Native.Nat.{◌+◌}
 use Rattle.pairs.proofs.Moves.{replaced-own}
 use Rattle.places.specs.Places.{adjacent_by}

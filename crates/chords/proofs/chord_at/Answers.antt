@@ -2,7 +2,6 @@
 use Rattle.rings.specs.Tables.{rows}
 use Rattle.chords.proofs.Moves.{at_last, at_hit, at_on}
 use native.Mathlib.Omega.{arith}
-use borrow.Author.Rules.{rules}
 use Rattle.places.specs.Places.{adjacent_by}
 use Rattle.chords.proofs.chord_at.Goals as goal
 

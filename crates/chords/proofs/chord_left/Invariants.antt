@@ -1,14 +1,10 @@
 -- What the loops of chord_left keep.
-use mathlib.Core.Path.{sym, ap, ◌∙◌}
 use Prim.Native.Nat.{ℕ, ◌-◌}
 use lib.ListN.{get_or}
 use Rattle.rings.specs.Tables.{rows}
 use Rattle.places.specs.Places.{adjacent_by}
-use Rattle.lists.proofs.Folds.{Seeks, seeks_start, seeks_hit, seeks_on, seeks_end}
-use Rattle.chords.proofs.Moves.{left_hit, left-on}
+use Rattle.lists.proofs.Folds.{Seeks}
 use Rattle.chords.specs.Run as run
-use native.Mathlib.Omega.{arith}
-use borrow.Author.Rules.{rules}
 use Rattle.chords.proofs.chord_left.Given as goal
 
 abbrev pub invariant-loop-k : goal.invariant-loop-k

@@ -2,7 +2,6 @@
 use mathlib.Core.Path.{◌≡◌, sym, ◌∙◌}
 use mathlib.Core.Bool.{true, false}
 use Rattle.chords.specs.Run as run
-use borrow.Author.Rules.{rules}
 use Rattle.chords.proofs.chord_new.Goals as goal
 
 pub returns-then-chord_left : goal.returns-then-chord_left

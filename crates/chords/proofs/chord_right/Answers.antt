@@ -1,12 +1,8 @@
 -- chord_right meets its contract.
 use mathlib.Core.Path.{sym, ◌∙◌}
-use Prim.Native.Nat.{◌-◌}
-use Rattle.rings.specs.Tables.{rows}
-use Rattle.places.specs.Places.{adjacent_by}
-use Rattle.lists.proofs.Folds.{Seeks, seeks_start, seeks_hit, seeks_on, seeks_end}
+use Rattle.lists.proofs.Folds.{seeks_hit, seeks_on, seeks_end}
 use Rattle.chords.specs.Run as run
 use native.Mathlib.Omega.{arith}
-use borrow.Author.Rules.{rules}
 use Rattle.chords.proofs.chord_right.Goals as goal
 
 pub returns-then-chord_at : goal.returns-then-chord_at

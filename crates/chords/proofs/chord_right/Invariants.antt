@@ -1,12 +1,9 @@
 -- What the loops of chord_right keep.
-use mathlib.Core.Path.{sym, ◌∙◌}
 use Prim.Native.Nat.{◌-◌}
 use Rattle.rings.specs.Tables.{rows}
 use Rattle.places.specs.Places.{adjacent_by}
-use Rattle.lists.proofs.Folds.{Seeks, seeks_start, seeks_hit, seeks_on, seeks_end}
+use Rattle.lists.proofs.Folds.{Seeks}
 use Rattle.chords.specs.Run as run
-use native.Mathlib.Omega.{arith}
-use borrow.Author.Rules.{rules}
 use Rattle.chords.proofs.chord_right.Given as goal
 
 abbrev pub invariant-loop-x : goal.invariant-loop-x

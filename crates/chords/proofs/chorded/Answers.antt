@@ -1,13 +1,11 @@
 -- chorded meets its contract.
-use mathlib.Core.Path.{◌≡◌, sym, ap, ◌∙◌}
-use Prim.Native.Nat.{ℕ, ◌+◌, ◌-◌}
-use lib.ListN.{get_or}
+use mathlib.Core.Path.{sym, ap, ◌∙◌}
+use Prim.Native.Nat.{ℕ, ◌+◌}
 use Rattle.rings.specs.Tables.{rows}
 use Rattle.places.specs.Places.{adjacent_by}
-use Rattle.lists.proofs.Folds.{Seeks, seeks_start, seeks_hit, seeks_on, seeks_end}
+use Rattle.lists.proofs.Folds.{seeks_hit, seeks_on, seeks_end}
 use Rattle.chords.specs.Run as run
 use native.Mathlib.Omega.{arith}
-use borrow.Author.Rules.{rules}
 use Rattle.chords.proofs.chorded.Goals as goal
 
 pub returns-then-touches : goal.returns-then-touches

@@ -1,13 +1,11 @@
 -- What the loops of chorded keep.
-use mathlib.Core.Path.{◌≡◌, sym, ap, ◌∙◌}
+use mathlib.Core.Path.{◌≡◌}
 use Prim.Native.Nat.{ℕ, ◌+◌, ◌-◌}
 use lib.ListN.{get_or}
 use Rattle.rings.specs.Tables.{rows}
 use Rattle.places.specs.Places.{adjacent_by}
-use Rattle.lists.proofs.Folds.{Seeks, seeks_start, seeks_hit, seeks_on, seeks_end}
+use Rattle.lists.proofs.Folds.{Seeks}
 use Rattle.chords.specs.Run as run
-use native.Mathlib.Omega.{arith}
-use borrow.Author.Rules.{rules}
 use Rattle.chords.proofs.chorded.Given as goal
 
 abbrev pub invariant-loop-k : goal.invariant-loop-k

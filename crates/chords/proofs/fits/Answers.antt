@@ -7,7 +7,6 @@ use Rattle.chords.proofs.Moves.{fits-none, fits_out, fits_on, fits-off, listing-
 use Rattle.frontier.specs.Run as lines
 use Rattle.chords.specs.Run as run
 use native.Mathlib.Omega.{arith}
-use borrow.Author.Rules.{rules}
 use Prim.Native.Nat.{suc}
 use Rattle.places.specs.Places.{adjacent_by}
 use Rattle.pairs.specs.Run.{listing_by}

@@ -1,13 +1,10 @@
 -- touches meets its contract.
 use mathlib.Core.Path.{sym, ap, ◌∙◌}
-use Prim.Native.Nat.{ℕ, ◌-◌}
-use lib.ListN.{get_or}
 use Rattle.rings.specs.Tables.{rows}
 use Rattle.places.specs.Places.{adjacent_by}
-use Rattle.lists.proofs.Folds.{Seeks, seeks_start, seeks_hit, seeks_on, seeks_end}
+use Rattle.lists.proofs.Folds.{seeks_hit, seeks_on, seeks_end}
 use Rattle.chords.specs.Run as run
 use native.Mathlib.Omega.{arith}
-use borrow.Author.Rules.{rules}
 use Rattle.chords.proofs.touches.Goals as goal
 
 pub returns-then-is_adjacent_by : goal.returns-then-is_adjacent_by

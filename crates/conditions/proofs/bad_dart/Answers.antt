@@ -1,7 +1,6 @@
 -- bad_dart meets its contract.
 use Rattle.conditions.proofs.Breaks.{dart-border, dart-high, dart_inner}
 use native.Mathlib.Omega.{arith}
-use borrow.Author.Rules.{rules}
 use Rattle.conditions.proofs.bad_dart.Goals as goal
 
 pub returns-then-both_border : goal.returns-then-both_border

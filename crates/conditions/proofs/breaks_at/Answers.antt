@@ -1,10 +1,8 @@
 -- breaks_at meets its contract.
-use mathlib.Core.Path.{◌∙◌}
 use Rattle.rings.specs.Tables.{rows}
 use Rattle.conditions.proofs.ByTable.{ring_there, around_there}
 use Rattle.conditions.proofs.Breaks.{breaks-dart, breaks-border, breaks-runs}
 use native.Mathlib.Omega.{arith}
-use borrow.Author.Rules.{rules}
 use Rattle.conditions.proofs.breaks_at.Goals as goal
 
 pub returns-then-wrong_darts : goal.returns-then-wrong_darts

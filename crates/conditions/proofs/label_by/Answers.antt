@@ -2,7 +2,6 @@
 use mathlib.Core.Path.{◌∙◌}
 use Rattle.conditions.proofs.Breaks.{label_high, label_wide, label_zero, label_place_lem}
 use native.Mathlib.Omega.{arith}
-use borrow.Author.Rules.{rules}
 use Rattle.conditions.proofs.label_by.Goals as goal
 
 pub returns-then-u-ge200-clause-value : goal.returns-then-u-ge200-clause-value

@@ -1,7 +1,6 @@
 -- not_due meets its contract.
 use Rattle.conditions.proofs.Breaks.{due-border, due_inner}
 use native.Mathlib.Omega.{arith}
-use borrow.Author.Rules.{rules}
 use Rattle.conditions.proofs.not_due.Goals as goal
 
 pub returns-then-v-lt4 : goal.returns-then-v-lt4

@@ -1,11 +1,7 @@
 -- place_by meets its contract.
 use mathlib.Core.Path.{sym, ◌∙◌}
-use Prim.Native.Nat.{◌-◌}
-use Rattle.lists.proofs.Loops.{Looks, looks_start, looks_hit, looks_on, looks_end}
-use Rattle.rings.specs.Tables.{rows}
-use Rattle.conditions.specs.LabelBy.{breaks_by}
+use Rattle.lists.proofs.Loops.{looks_hit, looks_on, looks_end}
 use native.Mathlib.Omega.{arith}
-use borrow.Author.Rules.{rules}
 use Rattle.conditions.proofs.place_by.Goals as goal
 
 pub returns-then-breaks_at-clause-value : goal.returns-then-breaks_at-clause-value

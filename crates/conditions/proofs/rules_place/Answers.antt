@@ -6,7 +6,6 @@ use Rattle.rings.specs.Tables.{table, held}
 use Rattle.places.proofs.Notes.{filled-zeros}
 use Rattle.conditions.proofs.Breaks.{rules_own}
 use native.Mathlib.Omega.{arith}
-use borrow.Author.Rules.{rules}
 use Rattle.conditions.proofs.rules_place.Goals as goal
 
 pub returns-clause-value : goal.returns-clause-value

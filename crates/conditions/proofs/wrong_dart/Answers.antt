@@ -1,7 +1,6 @@
 -- wrong_dart meets its contract.
 use Rattle.conditions.proofs.Breaks.{wrong_bad, wrong_inner, wrong_due}
 use native.Mathlib.Omega.{arith}
-use borrow.Author.Rules.{rules}
 use Rattle.conditions.proofs.wrong_dart.Goals as goal
 
 pub returns-then-bad_dart : goal.returns-then-bad_dart

@@ -1,13 +1,11 @@
 -- wrong_darts meets its contract.
 use mathlib.Core.Path.{refl, sym, ap, ◌∙◌}
-use Prim.Native.Nat.{ℕ, ◌-◌}
 use Rattle.lists.proofs.Tests.{any-map}
-use Rattle.lists.proofs.Loops.{Sees, sees_start, sees_hit, sees_on, sees_end}
+use Rattle.lists.proofs.Loops.{sees_hit, sees_on, sees_end}
 use Rattle.lists.specs.Spans.{span}
 use Rattle.model.specs.Plan.{neighbour}
 use Rattle.conditions.specs.LabelBy.{wrong_dart_by}
 use native.Mathlib.Omega.{arith}
-use borrow.Author.Rules.{rules}
 use Rattle.conditions.proofs.wrong_darts.Goals as goal
 
 pub returns-then-wrong_dart : goal.returns-then-wrong_dart

@@ -1,13 +1,8 @@
 -- What the loops of wrong_darts keep.
-use mathlib.Core.Path.{refl, sym, ap, ◌∙◌}
 use Prim.Native.Nat.{ℕ, ◌-◌}
-use Rattle.lists.proofs.Tests.{any-map}
-use Rattle.lists.proofs.Loops.{Sees, sees_start, sees_hit, sees_on, sees_end}
-use Rattle.lists.specs.Spans.{span}
+use Rattle.lists.proofs.Loops.{Sees}
 use Rattle.model.specs.Plan.{neighbour}
 use Rattle.conditions.specs.LabelBy.{wrong_dart_by}
-use native.Mathlib.Omega.{arith}
-use borrow.Author.Rules.{rules}
 use Rattle.conditions.proofs.wrong_darts.Given as goal
 
 abbrev pub invariant-loop-i : goal.invariant-loop-i

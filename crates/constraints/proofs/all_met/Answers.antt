@@ -1,10 +1,9 @@
 -- all_met meets its contract.
-use Rattle.constraints.proofs.Listed.{Checks, checks_start, checks_hit, checks_on, checks_end}
-use Prim.Native.Nat.{ℕ, ◌-◌}
+use Rattle.constraints.proofs.Listed.{checks_hit, checks_on, checks_end}
+use Prim.Native.Nat.{ℕ}
 use mathlib.Core.Path.{ap, ◌∙◌}
 use lib.ListN.{get_or}
 use native.Mathlib.Omega.{arith}
-use borrow.Author.Rules.{rules}
 use Rattle.constraints.proofs.all_met.Goals as goal
 
 pub returns-then-num-due_at : goal.returns-then-num-due_at

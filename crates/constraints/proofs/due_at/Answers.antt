@@ -4,8 +4,6 @@ use Rattle.constraints.specs.Constraints.{rise}
 use lib.ListN.{get_or}
 use Prim.Native.Nat.{ℕ, ◌+◌}
 use mathlib.Core.Path.{ap, ◌∙◌}
-use native.Mathlib.Omega.{arith}
-use borrow.Author.Rules.{rules}
 use Rattle.constraints.proofs.due_at.Goals as goal
 
 pub returns-then-byte-eq0-clause-value : goal.returns-then-byte-eq0-clause-value

@@ -1,7 +1,6 @@
 -- edge meets its contract.
 use mathlib.Core.Path.{ap, ◌∙◌}
 use native.Mathlib.Omega.{arith}
-use borrow.Author.Rules.{rules}
 use Rattle.edges.specs.Edges.{put_by, edge_by}
 use Rattle.edges.proofs.Draws.{edge-high, edge_wide}
 use Rattle.edges.proofs.edge.Goals as goal

@@ -1,7 +1,6 @@
 -- put_on meets its contract.
 use mathlib.Core.Path.{◌∙◌}
 use native.Mathlib.Omega.{arith}
-use borrow.Author.Rules.{rules}
 use Rattle.edges.proofs.Draws.{put_in, put_out}
 use Rattle.edges.proofs.put_on.Goals as goal
 

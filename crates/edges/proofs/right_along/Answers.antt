@@ -1,14 +1,11 @@
 -- right_along meets its contract.
-use mathlib.Core.Path.{◌≡◌, refl, ◌∙◌}
-use Prim.Native.Nat.{◌+◌, ◌-◌}
+use mathlib.Core.Path.{◌∙◌}
+use Prim.Native.Nat.{◌+◌}
 use native.Mathlib.Omega.{arith}
-use lib.ListN.{length, get_or}
+use lib.ListN.{get_or}
 use borrow.Author.Rules.{rules}
-use Rattle.lists.specs.Spans.{span}
-use Rattle.lists.specs.Parts.{steps}
-use Rattle.model.specs.Labels.{right}
 use Rattle.edges.specs.Edges.{edge_by}
-use Rattle.edges.proofs.Draws.{Draws, draws-start, draws-on, draws_end, steps-more, steps_end}
+use Rattle.edges.proofs.Draws.{draws-on, draws_end, steps-more, steps_end}
 use Rattle.edges.proofs.right_along.Goals as goal
 
 pub loop-k-preserved : goal.loop-k-preserved

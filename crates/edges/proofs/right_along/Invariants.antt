@@ -1,14 +1,11 @@
 -- What the loops of right_along keep.
-use mathlib.Core.Path.{◌≡◌, refl, ◌∙◌}
-use Prim.Native.Nat.{◌+◌, ◌-◌}
-use native.Mathlib.Omega.{arith}
-use lib.ListN.{length, get_or}
-use borrow.Author.Rules.{rules}
+use mathlib.Core.Path.{◌≡◌}
+use Prim.Native.Nat.{◌-◌}
+use lib.ListN.{length}
 use Rattle.lists.specs.Spans.{span}
 use Rattle.lists.specs.Parts.{steps}
 use Rattle.model.specs.Labels.{right}
-use Rattle.edges.specs.Edges.{edge_by}
-use Rattle.edges.proofs.Draws.{Draws, draws-start, draws-on, draws_end, steps-more, steps_end}
+use Rattle.edges.proofs.Draws.{Draws}
 use Rattle.edges.proofs.right_along.Given as goal
 
 abbrev pub invariant-loop-k : goal.invariant-loop-k

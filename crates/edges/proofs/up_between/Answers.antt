@@ -1,14 +1,12 @@
 -- up_between meets its contract.
-use mathlib.Core.Path.{◌≡◌, refl, ap, ◌∙◌}
-use Prim.Native.Nat.{ℕ, ◌-◌}
+use mathlib.Core.Path.{ap, ◌∙◌}
+use Prim.Native.Nat.{ℕ}
 use native.Mathlib.Omega.{arith}
-use lib.ListN.{length, get_or}
+use lib.ListN.{get_or}
 use borrow.Author.Rules.{rules}
 use Rattle.lists.specs.Spans.{span}
-use Rattle.model.specs.Labels.{up}
-use Rattle.model.specs.Sweep.{product}
 use Rattle.edges.specs.Edges.{edges_by, fan}
-use Rattle.edges.proofs.Draws.{Draws, draws-start, draws_part, draws_end, product-more, product_end}
+use Rattle.edges.proofs.Draws.{draws_part, draws_end, product-more, product_end}
 use Rattle.edges.proofs.up_between.Goals as goal
 
 pub loop-k-preserved : goal.loop-k-preserved

@@ -1,14 +1,11 @@
 -- What the loops of up_between keep.
-use mathlib.Core.Path.{◌≡◌, refl, ap, ◌∙◌}
-use Prim.Native.Nat.{ℕ, ◌-◌}
-use native.Mathlib.Omega.{arith}
-use lib.ListN.{length, get_or}
-use borrow.Author.Rules.{rules}
+use mathlib.Core.Path.{◌≡◌}
+use Prim.Native.Nat.{◌-◌}
+use lib.ListN.{length}
 use Rattle.lists.specs.Spans.{span}
 use Rattle.model.specs.Labels.{up}
 use Rattle.model.specs.Sweep.{product}
-use Rattle.edges.specs.Edges.{edges_by, fan}
-use Rattle.edges.proofs.Draws.{Draws, draws-start, draws_part, draws_end, product-more, product_end}
+use Rattle.edges.proofs.Draws.{Draws}
 use Rattle.edges.proofs.up_between.Given as goal
 
 abbrev pub invariant-loop-k : goal.invariant-loop-k

@@ -1,13 +1,11 @@
 -- up_from meets its contract.
-use mathlib.Core.Path.{◌≡◌, refl, ap, ◌∙◌}
-use Prim.Native.Nat.{ℕ, ◌-◌}
+use mathlib.Core.Path.{ap, ◌∙◌}
+use Prim.Native.Nat.{ℕ}
 use native.Mathlib.Omega.{arith}
-use lib.ListN.{length, get_or}
+use lib.ListN.{get_or}
 use borrow.Author.Rules.{rules}
-use Rattle.lists.specs.Spans.{span}
-use Rattle.model.specs.Labels.{up}
-use Rattle.edges.specs.Edges.{edge_by, fan}
-use Rattle.edges.proofs.Draws.{Draws, draws-start, draws-on, draws_end, fan-more, fan_end}
+use Rattle.edges.specs.Edges.{edge_by}
+use Rattle.edges.proofs.Draws.{draws-on, draws_end, fan-more, fan_end}
 use Rattle.edges.proofs.up_from.Goals as goal
 
 pub loop-k-preserved : goal.loop-k-preserved

@@ -1,13 +1,11 @@
 -- What the loops of up_from keep.
-use mathlib.Core.Path.{◌≡◌, refl, ap, ◌∙◌}
-use Prim.Native.Nat.{ℕ, ◌-◌}
-use native.Mathlib.Omega.{arith}
-use lib.ListN.{length, get_or}
-use borrow.Author.Rules.{rules}
+use mathlib.Core.Path.{◌≡◌}
+use Prim.Native.Nat.{◌-◌}
+use lib.ListN.{length}
 use Rattle.lists.specs.Spans.{span}
 use Rattle.model.specs.Labels.{up}
-use Rattle.edges.specs.Edges.{edge_by, fan}
-use Rattle.edges.proofs.Draws.{Draws, draws-start, draws-on, draws_end, fan-more, fan_end}
+use Rattle.edges.specs.Edges.{fan}
+use Rattle.edges.proofs.Draws.{Draws}
 use Rattle.edges.proofs.up_from.Given as goal
 
 abbrev pub invariant-loop-k : goal.invariant-loop-k

@@ -1,5 +1,4 @@
 -- done_at meets its contract.
-use borrow.Author.Rules.{rules}
 use Rattle.rings.specs.Tables.{rows}
 use Rattle.ends.proofs.Finishing.{done-yes, done-no}
 use Rattle.ends.proofs.done_at.Goals as goal

@@ -1,6 +1,5 @@
 -- first_line meets its contract.
 use mathlib.Core.Path.{ap, ◌∙◌}
-use borrow.Author.Rules.{rules}
 use Rattle.frontier.specs.Run as run
 use Rattle.ends.specs.Ends.{marked, first_line}
 use Rattle.ends.proofs.first_line.Goals as goal

@@ -2,13 +2,12 @@
 use mathlib.Core.Path.{◌≡◌, sym, ap, ◌∙◌}
 use Prim.Native.Nat.{ℕ, suc, ◌-◌}
 use native.Mathlib.Omega.{arith}
-use lib.ListN.{length, get_or}
 use borrow.Author.Rules.{rules}
 use Rattle.lists.specs.Spans.{zeros}
 use Rattle.model.specs.Plan.{ring}
 use Rattle.rings.specs.Tables.{rows}
 use Rattle.rings.proofs.Rows.{ring-size}
-use Rattle.lists.proofs.Folds.{Sinks, sinks_from, sinks_on, sinks_end}
+use Rattle.lists.proofs.Folds.{sinks_from, sinks_on, sinks_end}
 use Rattle.frontier.specs.Run as run
 use Rattle.ends.specs.Ends.{front}
 use Rattle.ends.proofs.Beginning.{onward-first}

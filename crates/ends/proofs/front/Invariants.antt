@@ -1,17 +1,12 @@
 -- What the loops of front keep.
-use mathlib.Core.Path.{◌≡◌, sym, ap, ◌∙◌}
+use mathlib.Core.Path.{◌≡◌}
 use Prim.Native.Nat.{ℕ, suc, ◌-◌}
-use native.Mathlib.Omega.{arith}
 use lib.ListN.{length, get_or}
-use borrow.Author.Rules.{rules}
 use Rattle.lists.specs.Spans.{zeros}
 use Rattle.model.specs.Plan.{ring}
 use Rattle.rings.specs.Tables.{rows}
-use Rattle.rings.proofs.Rows.{ring-size}
-use Rattle.lists.proofs.Folds.{Sinks, sinks_from, sinks_on, sinks_end}
+use Rattle.lists.proofs.Folds.{Sinks}
 use Rattle.frontier.specs.Run as run
-use Rattle.ends.specs.Ends.{front}
-use Rattle.ends.proofs.Beginning.{onward-first}
 use Rattle.ends.proofs.front.Given as goal
 
 abbrev pub invariant-loop-t : goal.invariant-loop-t

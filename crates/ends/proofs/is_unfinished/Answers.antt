@@ -1,12 +1,9 @@
 -- is_unfinished meets its contract.
-use mathlib.Core.Path.{◌≡◌, sym, ap, ◌∙◌}
+use mathlib.Core.Path.{sym, ap, ◌∙◌}
 use mathlib.Core.Bool.{not}
-use Prim.Native.Nat.{ℕ, ◌-◌}
 use native.Mathlib.Omega.{arith}
-use borrow.Author.Rules.{rules}
-use Rattle.rings.specs.Tables.{rows}
-use Rattle.lists.proofs.Folds.{Seeks, seeks_start, seeks_hit, seeks_on, seeks_end}
-use Rattle.ends.specs.Ends.{done_by, unfinished_by}
+use Rattle.lists.proofs.Folds.{seeks_hit, seeks_on, seeks_end}
+use Rattle.ends.specs.Ends.{unfinished_by}
 use Rattle.ends.proofs.is_unfinished.Goals as goal
 
 pub returns-then-not-done_at : goal.returns-then-not-done_at

@@ -1,12 +1,10 @@
 -- What the loops of is_unfinished keep.
-use mathlib.Core.Path.{◌≡◌, sym, ap, ◌∙◌}
+use mathlib.Core.Path.{◌≡◌}
 use mathlib.Core.Bool.{not}
 use Prim.Native.Nat.{ℕ, ◌-◌}
-use native.Mathlib.Omega.{arith}
-use borrow.Author.Rules.{rules}
 use Rattle.rings.specs.Tables.{rows}
-use Rattle.lists.proofs.Folds.{Seeks, seeks_start, seeks_hit, seeks_on, seeks_end}
-use Rattle.ends.specs.Ends.{done_by, unfinished_by}
+use Rattle.lists.proofs.Folds.{Seeks}
+use Rattle.ends.specs.Ends.{done_by}
 use Rattle.ends.proofs.is_unfinished.Given as goal
 
 abbrev pub invariant-loop-k : goal.invariant-loop-k

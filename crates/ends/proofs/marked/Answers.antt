@@ -1,12 +1,10 @@
 -- marked meets its contract.
-use mathlib.Core.Path.{◌≡◌, sym}
-use Prim.Native.Nat.{ℕ, ◌-◌}
+use mathlib.Core.Path.{sym}
 use native.Mathlib.Omega.{arith}
-use lib.ListN.{length, get_or, set, length-set}
+use lib.ListN.{get_or, set, length-set}
 use lib.Seq.{set_out}
-use borrow.Author.Rules.{rules}
 use Rattle.lists.specs.Spans.{zeros}
-use Rattle.lists.proofs.Folds.{Goes, goes_start, goes_on, goes_end}
+use Rattle.lists.proofs.Folds.{goes_on, goes_end}
 use Rattle.ends.specs.Ends.{marked}
 use Rattle.ends.proofs.marked.Goals as goal
 

@@ -1,13 +1,8 @@
 -- What the loops of marked keep.
-use mathlib.Core.Path.{◌≡◌, sym}
+use mathlib.Core.Path.{◌≡◌}
 use Prim.Native.Nat.{ℕ, ◌-◌}
-use native.Mathlib.Omega.{arith}
-use lib.ListN.{length, get_or, set, length-set}
-use lib.Seq.{set_out}
-use borrow.Author.Rules.{rules}
-use Rattle.lists.specs.Spans.{zeros}
-use Rattle.lists.proofs.Folds.{Goes, goes_start, goes_on, goes_end}
-use Rattle.ends.specs.Ends.{marked}
+use lib.ListN.{length, get_or, set}
+use Rattle.lists.proofs.Folds.{Goes}
 use Rattle.ends.proofs.marked.Given as goal
 
 abbrev pub invariant-loop-k : goal.invariant-loop-k

@@ -5,7 +5,6 @@ use Rattle.sheet.specs.Answers.{answer_as}
 use Rattle.answers.specs.Codes.{given}
 use Rattle.answers.proofs.Steps.{given-off, given-at}
 use Rattle.exchange.proofs.Steps.{back_off, back_at}
-use borrow.Author.Rules.{rules}
 use Rattle.exchange.proofs.hand_back.Goals as goal
 
 pub returns-in-Refused-clause-value : goal.returns-in-Refused-clause-value
@@ -24,10 +23,10 @@ pub returns-in-Accepted-clause-value : goal.returns-in-Accepted-clause-value
 unfolding answer_as
 returns-in-Accepted-clause-value c =
     let a = c.args in
-        (back_at (given a.outcome) (sheets.reads a.outcome.sheet) a.out.now _ _ (given-at a.outcome (ap answer_as c.in-Accepted.is)) c.write_back.ensures.value c.write_back.ensures.out_after).0
+    (back_at (given a.outcome) (sheets.reads a.outcome.sheet) a.out.now _ _ (given-at a.outcome (ap answer_as c.in-Accepted.is)) c.write_back.ensures.value c.write_back.ensures.out_after).0
 
 pub returns-in-Accepted-clause-out_after : goal.returns-in-Accepted-clause-out_after
 unfolding answer_as
 returns-in-Accepted-clause-out_after c =
     let a = c.args in
-        (back_at (given a.outcome) (sheets.reads a.outcome.sheet) a.out.now _ _ (given-at a.outcome (ap answer_as c.in-Accepted.is)) c.write_back.ensures.value c.write_back.ensures.out_after).1
+    (back_at (given a.outcome) (sheets.reads a.outcome.sheet) a.out.now _ _ (given-at a.outcome (ap answer_as c.in-Accepted.is)) c.write_back.ensures.value c.write_back.ensures.out_after).1

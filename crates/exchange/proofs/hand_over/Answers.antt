@@ -2,7 +2,6 @@
 use mathlib.Core.Path.{sym, ◌∙◌}
 use Rattle.exchange.proofs.Handing.{given-fresh}
 use Rattle.exchange.proofs.Steps.{none_in, some_in}
-use borrow.Author.Rules.{rules}
 use Rattle.exchange.proofs.hand_over.Goals as goal
 
 pub returns-then-bytes-eq0 : goal.returns-then-bytes-eq0

@@ -1,6 +1,5 @@
 -- open_bytes meets its contract.
 use Rattle.exchange.proofs.Handing.{given-opened}
-use borrow.Author.Rules.{rules}
 use Rattle.exchange.proofs.open_bytes.Goals as goal
 
 pub returns : goal.returns

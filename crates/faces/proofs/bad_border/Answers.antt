@@ -2,7 +2,6 @@
 use Rattle.rings.specs.Tables.{rows}
 use Rattle.faces.proofs.FaceTests.{ring_long, border-empty, border-first, border_last, border_across}
 use native.Mathlib.Omega.{arith}
-use borrow.Author.Rules.{rules}
 use Rattle.faces.proofs.bad_border.Goals as goal
 
 pub returns-then-k-eq0 : goal.returns-then-k-eq0

@@ -1,12 +1,9 @@
 -- bad_face meets its contract.
 use Rattle.rings.specs.Tables.{rows}
-use Prim.Native.Nat.{◌-◌}
 use mathlib.Core.Path.{refl, ◌∙◌}
-use Rattle.model.specs.Plan.{ring}
-use Rattle.faces.proofs.FaceTests.{ring_long, bad_dart, dart_bad, dart_good, face_darts}
-use Rattle.lists.proofs.Loops.{Sees, sees_start, sees_hit, sees_on, sees_end}
+use Rattle.faces.proofs.FaceTests.{ring_long, dart_bad, dart_good, face_darts}
+use Rattle.lists.proofs.Loops.{sees_hit, sees_on, sees_end}
 use native.Mathlib.Omega.{arith}
-use borrow.Author.Rules.{rules}
 use Rattle.faces.proofs.bad_face.Goals as goal
 
 pub returns-then-bad_dart : goal.returns-then-bad_dart

@@ -1,12 +1,9 @@
 -- What the loops of bad_face keep.
 use Rattle.rings.specs.Tables.{rows}
 use Prim.Native.Nat.{◌-◌}
-use mathlib.Core.Path.{refl, ◌∙◌}
 use Rattle.model.specs.Plan.{ring}
-use Rattle.faces.proofs.FaceTests.{ring_long, bad_dart, dart_bad, dart_good, face_darts}
-use Rattle.lists.proofs.Loops.{Sees, sees_start, sees_hit, sees_on, sees_end}
-use native.Mathlib.Omega.{arith}
-use borrow.Author.Rules.{rules}
+use Rattle.faces.proofs.FaceTests.{bad_dart}
+use Rattle.lists.proofs.Loops.{Sees}
 use Rattle.faces.proofs.bad_face.Given as goal
 
 abbrev pub invariant-loop-i : goal.invariant-loop-i

@@ -1,8 +1,6 @@
 -- closes meets its contract.
 use Rattle.rings.specs.Tables.{rows}
 use Rattle.faces.proofs.FaceTests.{closes_last, closes_never}
-use native.Mathlib.Omega.{arith}
-use borrow.Author.Rules.{rules}
 use Rattle.faces.proofs.closes.Goals as goal
 
 pub returns-then-x-u : goal.returns-then-x-u

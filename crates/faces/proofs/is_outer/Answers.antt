@@ -1,7 +1,5 @@
 -- is_outer meets its contract.
 use Rattle.faces.proofs.FaceTests.{outer-border, outer_inner}
-use native.Mathlib.Omega.{arith}
-use borrow.Author.Rules.{rules}
 use Rattle.faces.proofs.is_outer.Goals as goal
 
 pub returns-then-u-lt4 : goal.returns-then-u-lt4

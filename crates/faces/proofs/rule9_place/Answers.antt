@@ -1,11 +1,7 @@
 -- rule9_place meets its contract.
 use Rattle.faces.proofs.Flags.{flag_yes, flag_no}
-use Rattle.rings.specs.Tables.{rows}
-use Prim.Native.Nat.{◌-◌}
-use Rattle.model.specs.Plan.{bad_face}
-use Rattle.lists.proofs.Loops.{Looks, looks_start, looks_hit, looks_on, looks_end}
+use Rattle.lists.proofs.Loops.{looks_hit, looks_on, looks_end}
 use native.Mathlib.Omega.{arith}
-use borrow.Author.Rules.{rules}
 use Rattle.faces.proofs.rule9_place.Goals as goal
 
 pub returns-then-bad_face : goal.returns-then-bad_face

@@ -1,11 +1,8 @@
 -- What the loops of rule9_place keep.
-use Rattle.faces.proofs.Flags.{flag_yes, flag_no}
 use Rattle.rings.specs.Tables.{rows}
 use Prim.Native.Nat.{◌-◌}
 use Rattle.model.specs.Plan.{bad_face}
-use Rattle.lists.proofs.Loops.{Looks, looks_start, looks_hit, looks_on, looks_end}
-use native.Mathlib.Omega.{arith}
-use borrow.Author.Rules.{rules}
+use Rattle.lists.proofs.Loops.{Looks}
 use Rattle.faces.proofs.rule9_place.Given as goal
 
 abbrev pub invariant-loop-u : goal.invariant-loop-u

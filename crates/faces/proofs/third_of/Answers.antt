@@ -1,6 +1,5 @@
 -- third_of meets its contract.
 use Rattle.model.specs.Plan.{step}
-use borrow.Author.Rules.{rules}
 use Rattle.faces.proofs.third_of.Goals as goal
 
 pub returns : goal.returns

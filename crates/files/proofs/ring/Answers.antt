@@ -1,10 +1,9 @@
 -- ring meets its contract.
-use mathlib.Core.Path.{◌≡◌, refl, sym, ap, ◌∙◌}
+use mathlib.Core.Path.{sym, ap, ◌∙◌}
 use Rattle.model.specs.Calls.{ring_part}
 use Rattle.sheet.specs.Answers.{ring_answer_as}
 use Rattle.files.proofs.RingParts.{bytes-at, part_named}
 use native.Mathlib.Omega.{arith}
-use borrow.Author.Rules.{rules}
 use Rattle.files.proofs.ring.Goals as goal
 
 pub returns-in-Refused : goal.returns-in-Refused

@@ -1,12 +1,10 @@
 -- ring_of meets its contract.
-use mathlib.Core.Path.{◌≡◌, refl, sym, ap, ◌∙◌}
+use mathlib.Core.Path.{ap, ◌∙◌}
 use mathlib.Core.List.{List}
 use Prim.Native.Nat.{ℕ}
 use lib.ListN.{get_or}
 use Rattle.sheet.specs.Answers.{ring_answer_as}
 use Rattle.files.proofs.RingParts.{ring-none, ring_there}
-use native.Mathlib.Omega.{arith}
-use borrow.Author.Rules.{rules}
 use Rattle.files.proofs.ring_of.Goals as goal
 
 pub returns-then-n-context : goal.returns-then-n-context

@@ -1,13 +1,11 @@
 -- any_strange meets its contract.
 use mathlib.Core.Path.{refl, sym, ap, ◌∙◌}
-use Prim.Native.Nat.{ℕ, ◌-◌, ◌≤◌}
 use lib.Dec.{leb}
 use borrow.Author.Tests.{le-leb, lt-leb}
-use Rattle.lists.proofs.Loops.{Sees, sees_start, sees_hit, sees_on, sees_end}
+use Rattle.lists.proofs.Loops.{sees_hit, sees_on, sees_end}
 use Rattle.model.specs.Plan.{neighbour}
 use Rattle.fit.specs.Fits.{strange}
 use native.Mathlib.Omega.{arith}
-use borrow.Author.Rules.{rules}
 use Rattle.fit.proofs.any_strange.Goals as goal
 
 pub returns-then-n-neighbour_of : goal.returns-then-n-neighbour_of

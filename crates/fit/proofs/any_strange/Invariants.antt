@@ -1,13 +1,7 @@
 -- What the loops of any_strange keep.
-use mathlib.Core.Path.{refl, sym, ap, ◌∙◌}
-use Prim.Native.Nat.{ℕ, ◌-◌, ◌≤◌}
-use lib.Dec.{leb}
-use borrow.Author.Tests.{le-leb, lt-leb}
-use Rattle.lists.proofs.Loops.{Sees, sees_start, sees_hit, sees_on, sees_end}
-use Rattle.model.specs.Plan.{neighbour}
+use Prim.Native.Nat.{◌-◌}
+use Rattle.lists.proofs.Loops.{Sees}
 use Rattle.fit.specs.Fits.{strange}
-use native.Mathlib.Omega.{arith}
-use borrow.Author.Rules.{rules}
 use Rattle.fit.proofs.any_strange.Given as goal
 
 abbrev pub invariant-loop-i : goal.invariant-loop-i

@@ -2,7 +2,6 @@
 use mathlib.Core.Path.{ap, ◌∙◌}
 use mathlib.Core.Bool.{not}
 use native.Mathlib.Omega.{arith}
-use borrow.Author.Rules.{rules}
 use Rattle.fit.proofs.Fits.{all-counted, fit_many, fit_long, fit-rest}
 use Rattle.fit.proofs.is_fit.Goals as goal
 

@@ -1,7 +1,6 @@
 -- is_in_bounds meets its contract.
 use Rattle.fit.proofs.Fits.{bounds_large, bounds_total}
 use native.Mathlib.Omega.{arith}
-use borrow.Author.Rules.{rules}
 use Rattle.fit.proofs.is_in_bounds.Goals as goal
 
 pub returns-then-n-le200 : goal.returns-then-n-le200

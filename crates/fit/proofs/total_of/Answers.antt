@@ -1,9 +1,6 @@
 -- total_of meets its contract.
-use mathlib.Core.Path.{◌≡◌, ap, ◌∙◌}
-use Prim.Native.Nat.{◌+◌, ◌-◌, ◌*◌, ◌≤◌, min}
+use Prim.Native.Nat.{◌+◌}
 use native.Mathlib.Omega.{arith}
-use borrow.Author.Rules.{rules}
-use Rattle.rings.specs.Tables.{start_of}
 use Rattle.rings.proofs.Rows.{start_first, start-next}
 use Rattle.fit.proofs.total_of.Goals as goal
 

@@ -2,7 +2,6 @@
 use mathlib.Core.Path.{◌∙◌}
 use Rattle.followers.proofs.Notes.{told_there, closes-none, closes_wide, closes_astray, closes_last}
 use native.Mathlib.Omega.{arith}
-use borrow.Author.Rules.{rules}
 use Rattle.followers.proofs.closes_by.Goals as goal
 
 pub returns-then-w-eq0 : goal.returns-then-w-eq0

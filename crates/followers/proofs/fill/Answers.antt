@@ -1,13 +1,9 @@
 -- fill meets its contract.
-use mathlib.Core.Path.{◌≡◌, refl, ◌∙◌}
+use mathlib.Core.Path.{◌∙◌}
 use mathlib.Core.Bool.{true}
-use Prim.Native.Nat.{◌-◌}
-use lib.ListN.{length}
-use Rattle.lists.proofs.Folds.{Goes, goes_start, goes_on, goes_end}
-use Rattle.rings.specs.Tables.{rows}
-use Rattle.followers.proofs.Notes.{paired, row, row-noted, rows-noted}
+use Rattle.lists.proofs.Folds.{goes_on, goes_end}
+use Rattle.followers.proofs.Notes.{paired, row-noted, rows-noted}
 use native.Mathlib.Omega.{arith}
-use borrow.Author.Rules.{rules}
 use Rattle.followers.proofs.fill.Goals as goal
 
 pub loop-u-preserved : goal.loop-u-preserved

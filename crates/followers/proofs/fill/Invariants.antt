@@ -1,13 +1,11 @@
 -- What the loops of fill keep.
-use mathlib.Core.Path.{◌≡◌, refl, ◌∙◌}
+use mathlib.Core.Path.{◌≡◌}
 use mathlib.Core.Bool.{true}
 use Prim.Native.Nat.{◌-◌}
 use lib.ListN.{length}
-use Rattle.lists.proofs.Folds.{Goes, goes_start, goes_on, goes_end}
+use Rattle.lists.proofs.Folds.{Goes}
 use Rattle.rings.specs.Tables.{rows}
-use Rattle.followers.proofs.Notes.{paired, row, row-noted, rows-noted}
-use native.Mathlib.Omega.{arith}
-use borrow.Author.Rules.{rules}
+use Rattle.followers.proofs.Notes.{row}
 use Rattle.followers.proofs.fill.Given as goal
 
 abbrev pub invariant-loop-u : goal.invariant-loop-u

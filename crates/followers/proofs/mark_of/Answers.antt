@@ -1,7 +1,6 @@
 -- mark_of meets its contract.
 use Rattle.followers.specs.Followers.{mark}
 use native.Mathlib.Omega.{arith}
-use borrow.Author.Rules.{rules}
 use Rattle.followers.proofs.mark_of.Goals as goal
 
 pub returns : goal.returns

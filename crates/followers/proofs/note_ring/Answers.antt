@@ -1,11 +1,8 @@
 -- note_ring meets its contract.
 use mathlib.Core.Path.{ap, ◌∙◌}
-use Prim.Native.Nat.{◌-◌, ◌≤◌}
-use lib.ListN.{get_or}
 use Rattle.model.specs.Plan.{neighbour}
-use Rattle.followers.proofs.Notes.{paired, Back, back_start, back_on, back_end, back_long}
+use Rattle.followers.proofs.Notes.{paired, back_start, back_on}
 use native.Mathlib.Omega.{arith}
-use borrow.Author.Rules.{rules}
 use Rattle.followers.proofs.note_ring.Goals as goal
 
 pub loop-i-init : goal.loop-i-init

@@ -1,11 +1,8 @@
 -- What the loops of note_ring keep.
-use mathlib.Core.Path.{ap, ◌∙◌}
 use Prim.Native.Nat.{◌-◌, ◌≤◌}
 use lib.ListN.{get_or}
 use Rattle.model.specs.Plan.{neighbour}
-use Rattle.followers.proofs.Notes.{paired, Back, back_start, back_on, back_end, back_long}
-use native.Mathlib.Omega.{arith}
-use borrow.Author.Rules.{rules}
+use Rattle.followers.proofs.Notes.{Back}
 use Rattle.followers.proofs.note_ring.Given as goal
 
 abbrev pub invariant-loop-i : goal.invariant-loop-i

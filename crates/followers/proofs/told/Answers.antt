@@ -1,8 +1,6 @@
 -- told meets its contract.
 use mathlib.Core.Path.{◌∙◌}
 use Rattle.followers.proofs.Notes.{told-high, told_wide, told-cell}
-use native.Mathlib.Omega.{arith}
-use borrow.Author.Rules.{rules}
 use Rattle.followers.proofs.told.Goals as goal
 
 pub returns-then-u-ge200-clause-value : goal.returns-then-u-ge200-clause-value

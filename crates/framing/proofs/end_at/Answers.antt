@@ -5,7 +5,6 @@ use mathlib.Core.Path.{refl}
 use mathlib.Core.Bool.{Bool, false}
 use Rattle.framing.proofs.Offsets.{as_broken, as_size}
 use Rattle.framing.proofs.Layouts.{rest_end, end_refused}
-use borrow.Author.Rules.{rules}
 use Rattle.framing.proofs.end_at.Goals as goal
 
 pub returns-then-file-end : goal.returns-then-file-end

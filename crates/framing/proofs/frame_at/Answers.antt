@@ -5,7 +5,6 @@ use Rattle.framing.specs.declared.Frame.TheVariants.{Body}
 use Rattle.framing.specs.Offsets.{framed_of}
 use Rattle.framing.proofs.Offsets.{frame_same, at-past, at-short, at_low, at_long, at_whole}
 use native.Mathlib.Omega.{arith}
-use borrow.Author.Rules.{rules}
 use Rattle.framing.proofs.frame_at.Goals as goal
 
 pub returns-then-file-at-clause-value : goal.returns-then-file-at-clause-value

@@ -7,8 +7,6 @@ use Rattle.model.specs.Plan.{dart_count}
 use Rattle.framing.specs.Offsets.{due_of}
 use Rattle.framing.specs.Layouts.{plan_in, labels_in}
 use Rattle.framing.proofs.Layouts.{due-refused, due_there, lays_refused, lays_as, lays_labelled}
-use native.Mathlib.Omega.{arith}
-use borrow.Author.Rules.{rules}
 use Rattle.framing.proofs.frame_chart.Goals as goal
 
 pub returns-then-file-at : goal.returns-then-file-at

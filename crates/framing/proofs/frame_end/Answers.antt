@@ -6,7 +6,6 @@ use Rattle.lists.specs.Spans.{stretch}
 use Rattle.framing.specs.Offsets.{end_of}
 use Rattle.framing.specs.Layouts.{plan_in, labels_in}
 use Rattle.framing.proofs.Layouts.{rest-refused, lays_refused, lays_charted}
-use borrow.Author.Rules.{rules}
 use Rattle.framing.proofs.frame_end.Goals as goal
 
 pub returns-in-Refused : goal.returns-in-Refused

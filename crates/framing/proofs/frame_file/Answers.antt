@@ -2,7 +2,6 @@
 use mathlib.Core.Path.{sym, ap, ◌∙◌}
 use Rattle.framing.specs.Offsets.{due_of}
 use Rattle.framing.proofs.Layouts.{file_refused, file_there, lays_refused, lays_as}
-use borrow.Author.Rules.{rules}
 use Rattle.framing.proofs.frame_file.Goals as goal
 
 pub returns-in-Refused-clause-result_value : goal.returns-in-Refused-clause-result_value

@@ -8,8 +8,6 @@ use Rattle.model.specs.File.{optional}
 use Rattle.framing.specs.Offsets.{due_of}
 use Rattle.framing.specs.Layouts.{plan_in}
 use Rattle.framing.proofs.Layouts.{due-refused, due_there, lays_refused, lays_as, lays_opened}
-use native.Mathlib.Omega.{arith}
-use borrow.Author.Rules.{rules}
 use Rattle.framing.proofs.frame_labels.Goals as goal
 
 pub returns-then-file-at : goal.returns-then-file-at

@@ -1,11 +1,9 @@
 -- frame_plan meets its contract.
-use mathlib.Core.Path.{sym, ap, ◌∙◌, subst}
+use mathlib.Core.Path.{sym, ap, ◌∙◌}
 use Rattle.framing.specs.declared.Due.{Due}
-use Rattle.framing.specs.Offsets.{rings_as, WalkBounds}
+use Rattle.framing.specs.Offsets.{rings_as}
 use Rattle.framing.specs.Layouts.{plan_from}
 use Rattle.framing.proofs.Layouts.{plan-low, plan-high, plan-refused, plan_there, lays_refused, lays_as}
-use native.Mathlib.Omega.{arith}
-use borrow.Author.Rules.{rules}
 use Rattle.framing.proofs.frame_plan.Goals as goal
 
 pub returns-then-n-lt5 : goal.returns-then-n-lt5

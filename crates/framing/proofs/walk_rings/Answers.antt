@@ -1,10 +1,8 @@
 -- walk_rings meets its contract.
-use Prim.Native.Nat.{◌-◌, ◌<◌}
 use mathlib.Core.Path.{◌≡◌, refl, sym, ap, ◌∙◌, subst}
 use Rattle.framing.specs.Offsets.{ring_of, RingBelow}
-use Rattle.framing.proofs.Walks.{Walks, walks_start, walks_refused, walks_on, walks_sizes, walks_end}
+use Rattle.framing.proofs.Walks.{walks_start, walks_refused, walks_on, walks_sizes, walks_end}
 use native.Mathlib.Omega.{arith}
-use borrow.Author.Rules.{rules}
 use Rattle.framing.proofs.walk_rings.Goals as goal
 
 pub loop-i-init : goal.loop-i-init

@@ -3,7 +3,6 @@ use mathlib.Core.Path.{sym, ap, ◌∙◌}
 use Prim.Native.Nat.{ℕ, ◌+◌}
 use native.Mathlib.Omega.{arith}
 use lib.ListN.{get_or}
-use borrow.Author.Rules.{rules}
 use Rattle.model.specs.Plan.{neighbour}
 use Rattle.rings.proofs.Rows.{ring-at, ring-past}
 use Rattle.frontier.proofs.entry_at.Goals as goal

@@ -1,7 +1,6 @@
 -- push meets its contract.
 use borrow.Author.Tests.{lt-ltb, le-ltb}
 use native.Mathlib.Omega.{arith}
-use borrow.Author.Rules.{rules}
 use Rattle.frontier.specs.Run as run
 use Rattle.frontier.proofs.push.Goals as goal
 

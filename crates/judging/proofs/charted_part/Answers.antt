@@ -5,7 +5,6 @@ use Rattle.sheet.specs.Sheets.{held_plan, held_labels, held_chart}
 use Rattle.sheet.specs.Answers.{answer_as}
 use Rattle.judging.specs.Rules.{chart_rules, rules_from_10}
 use Rattle.judging.proofs.Rules.{first-refused, first-passed}
-use borrow.Author.Rules.{rules}
 use Rattle.judging.proofs.charted_part.Goals as goal
 
 pub returns-in-Refused : goal.returns-in-Refused

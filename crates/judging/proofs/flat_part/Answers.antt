@@ -1,6 +1,5 @@
 -- flat_part meets its contract.
 use Rattle.sheet.specs.Sheets.{held_plan}
-use borrow.Author.Rules.{rules}
 use Rattle.judging.proofs.flat_part.Goals as goal
 
 pub returns : goal.returns

@@ -7,7 +7,6 @@ use Rattle.model.specs.Plan.{bad_border, bad_face}
 use Rattle.rings.specs.Tables.{rows, table}
 use Rattle.sheet.specs.Answers.{answer_as}
 use Rattle.judging.proofs.Rules.{eight_refused, nine_refused, flat-passed}
-use borrow.Author.Rules.{rules}
 use Rattle.judging.proofs.flat_rules.Goals as goal
 
 pub returns-then-eight-lt4 : goal.returns-then-eight-lt4

@@ -1,7 +1,6 @@
 -- label_rule meets its contract.
 use Rattle.sheet.specs.Answers.{answer_as}
 use Rattle.judging.proofs.Rules.{ten_refused, ten_passed}
-use borrow.Author.Rules.{rules}
 use Rattle.judging.proofs.label_rule.Goals as goal
 
 pub returns-then-ten-n : goal.returns-then-ten-n

@@ -5,7 +5,6 @@ use Rattle.sheet.specs.Answers.{answer_as}
 use Rattle.judging.specs.Rules.{rules_from_10}
 use Rattle.judging.proofs.Rules.{none-from_10, from_10_at, fits-at}
 use native.Mathlib.Omega.{arith}
-use borrow.Author.Rules.{rules}
 use Rattle.judging.proofs.rules_from_10.Goals as goal
 
 pub returns-then-rank_of-lt2 : goal.returns-then-rank_of-lt2

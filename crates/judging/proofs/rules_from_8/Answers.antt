@@ -5,7 +5,6 @@ use Rattle.sheet.specs.Answers.{answer_as}
 use Rattle.judging.specs.Rules.{flat_of, rules_from_10, rules_from_8}
 use Rattle.judging.proofs.Rules.{first-refused, first-passed, none-from_8, flat_there}
 use native.Mathlib.Omega.{arith}
-use borrow.Author.Rules.{rules}
 use Rattle.judging.proofs.rules_from_8.Goals as goal
 
 pub returns-then-rank_of-lt1 : goal.returns-then-rank_of-lt1

@@ -4,7 +4,6 @@ use Prim.Native.Nat.{◌+◌, ◌*◌}
 use Rattle.rings.specs.Lent.{body_at}
 use Rattle.lent.proofs.Rings.{word_of, word-past}
 use native.Mathlib.Omega.{arith}
-use borrow.Author.Rules.{rules}
 use Rattle.lent.proofs.entry_in.Goals as goal
 
 pub returns-then-file-u : goal.returns-then-file-u

@@ -1,15 +1,9 @@
 -- What the loops of is_from keep.
-use mathlib.Core.Path.{refl, sym, ap, ◌∙◌}
-use Prim.Native.Nat.{ℕ, ◌-◌}
+use Prim.Native.Nat.{◌-◌}
 use lib.Dec.{eqb}
-use borrow.Author.Tests.{eq-eqb, ne_eqb}
-use Rattle.lists.specs.Tests.{member}
-use Rattle.lists.specs.Spans.{span}
-use Rattle.lists.proofs.Loops.{Sees, sees_start, sees_hit, sees_on, sees_end}
+use Rattle.lists.proofs.Loops.{Sees}
 use Rattle.model.specs.Plan.{ring}
 use Rattle.rings.specs.Lent.{lent}
-use native.Mathlib.Omega.{arith}
-use borrow.Author.Rules.{rules}
 use Rattle.lent.proofs.is_from.Given as goal
 
 abbrev pub invariant-loop-i : goal.invariant-loop-i

@@ -3,7 +3,6 @@ use mathlib.Core.Path.{sym, ap, ◌∙◌}
 use Rattle.model.specs.Plan.{neighbour}
 use Rattle.lent.proofs.Rings.{lent_at, lent-past}
 use native.Mathlib.Omega.{arith}
-use borrow.Author.Rules.{rules}
 use Rattle.lent.proofs.neighbour_in.Goals as goal
 
 pub returns-then-i-size_of : goal.returns-then-i-size_of

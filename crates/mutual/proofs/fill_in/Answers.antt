@@ -1,13 +1,9 @@
 -- fill_in meets its contract.
-use mathlib.Core.Path.{◌≡◌, refl, sym, ◌∙◌}
-use Prim.Native.Nat.{ℕ, ◌-◌, ◌*◌, ◌≤◌, min}
-use Rattle.model.specs.Plan.{ring}
-use Rattle.rings.specs.Lent.{lent}
+use mathlib.Core.Path.{refl, sym, ◌∙◌}
 use Rattle.rings.proofs.Rows.{size_outside}
 use Rattle.lent.proofs.Rings.{lent-size}
-use Rattle.places.proofs.Notes.{Notes, notes_start, notes_on, notes_next, notes_end}
+use Rattle.places.proofs.Notes.{notes_start, notes_on, notes_next, notes_end}
 use native.Mathlib.Omega.{arith}
-use borrow.Author.Rules.{rules}
 use Rattle.mutual.proofs.fill_in.Goals as goal
 
 pub loop-u-init : goal.loop-u-init

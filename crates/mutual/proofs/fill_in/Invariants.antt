@@ -1,13 +1,7 @@
 -- What the loops of fill_in keep.
-use mathlib.Core.Path.{◌≡◌, refl, sym, ◌∙◌}
-use Prim.Native.Nat.{ℕ, ◌-◌, ◌*◌, ◌≤◌, min}
-use Rattle.model.specs.Plan.{ring}
+use Prim.Native.Nat.{◌-◌, ◌*◌, ◌≤◌}
 use Rattle.rings.specs.Lent.{lent}
-use Rattle.rings.proofs.Rows.{size_outside}
-use Rattle.lent.proofs.Rings.{lent-size}
-use Rattle.places.proofs.Notes.{Notes, notes_start, notes_on, notes_next, notes_end}
-use native.Mathlib.Omega.{arith}
-use borrow.Author.Rules.{rules}
+use Rattle.places.proofs.Notes.{Notes}
 use Rattle.mutual.proofs.fill_in.Given as goal
 
 abbrev pub invariant-loop-u : goal.invariant-loop-u

@@ -1,8 +1,6 @@
 -- is_listed meets its contract.
 use mathlib.Core.Path.{refl, ◌∙◌}
 use Rattle.mutual.proofs.Returns.{whole_adjacent}
-use native.Mathlib.Omega.{arith}
-use borrow.Author.Rules.{rules}
 use Rattle.mutual.proofs.is_listed.Goals as goal
 
 pub returns : goal.returns

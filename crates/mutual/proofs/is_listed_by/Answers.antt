@@ -2,7 +2,6 @@
 use Rattle.rings.specs.Lent.{lent}
 use Rattle.places.proofs.Look.{adjacent-cell, adjacent-told}
 use native.Mathlib.Omega.{arith}
-use borrow.Author.Rules.{rules}
 use Rattle.mutual.proofs.is_listed_by.Goals as goal
 
 pub returns : goal.returns

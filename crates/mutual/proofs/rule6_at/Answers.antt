@@ -1,13 +1,10 @@
 -- rule6_at meets its contract.
 use mathlib.Core.Path.{refl, ◌∙◌}
 use mathlib.Core.Bool.{not}
-use Prim.Native.Nat.{ℕ, ◌-◌}
-use Rattle.lists.proofs.Loops.{Sees, sees_start, sees_hit, sees_on, sees_end}
-use Rattle.model.specs.Plan.{ring, adjacent}
+use Rattle.lists.proofs.Loops.{sees_hit, sees_on, sees_end}
 use Rattle.rings.specs.Lent.{lent}
 use Rattle.mutual.proofs.Returns.{return_same, whole_return}
 use native.Mathlib.Omega.{arith}
-use borrow.Author.Rules.{rules}
 use mathlib.Core.Path.{ap}
 use Rattle.mutual.proofs.rule6_at.Goals as goal
 

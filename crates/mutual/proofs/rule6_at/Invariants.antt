@@ -1,13 +1,9 @@
 -- What the loops of rule6_at keep.
-use mathlib.Core.Path.{refl, ◌∙◌}
 use mathlib.Core.Bool.{not}
 use Prim.Native.Nat.{ℕ, ◌-◌}
-use Rattle.lists.proofs.Loops.{Sees, sees_start, sees_hit, sees_on, sees_end}
+use Rattle.lists.proofs.Loops.{Sees}
 use Rattle.model.specs.Plan.{ring, adjacent}
 use Rattle.rings.specs.Lent.{lent}
-use Rattle.mutual.proofs.Returns.{return_same, whole_return}
-use native.Mathlib.Omega.{arith}
-use borrow.Author.Rules.{rules}
 use Rattle.mutual.proofs.rule6_at.Given as goal
 
 abbrev pub invariant-loop-i : goal.invariant-loop-i

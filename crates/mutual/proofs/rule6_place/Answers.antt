@@ -1,12 +1,9 @@
 -- rule6_place meets its contract.
 use mathlib.Core.Path.{refl, sym, ◌∙◌}
 use Rattle.places.proofs.Notes.{filled-zeros}
-use Prim.Native.Nat.{◌-◌}
-use Rattle.lists.proofs.Loops.{Looks, looks_start, looks_hit, looks_on, looks_end}
-use Rattle.model.specs.Plan.{unreturned}
+use Rattle.lists.proofs.Loops.{looks_hit, looks_on, looks_end}
 use Rattle.rings.specs.Lent.{lent}
 use native.Mathlib.Omega.{arith}
-use borrow.Author.Rules.{rules}
 use Rattle.mutual.proofs.rule6_place.Goals as goal
 
 pub rule6_at-requires : goal.rule6_at-requires

@@ -1,12 +1,8 @@
 -- What the loops of rule6_place keep.
-use mathlib.Core.Path.{refl, sym, ◌∙◌}
-use Rattle.places.proofs.Notes.{filled-zeros}
 use Prim.Native.Nat.{◌-◌}
-use Rattle.lists.proofs.Loops.{Looks, looks_start, looks_hit, looks_on, looks_end}
+use Rattle.lists.proofs.Loops.{Looks}
 use Rattle.model.specs.Plan.{unreturned}
 use Rattle.rings.specs.Lent.{lent}
-use native.Mathlib.Omega.{arith}
-use borrow.Author.Rules.{rules}
 use Rattle.mutual.proofs.rule6_place.Given as goal
 
 abbrev pub invariant-loop-u : goal.invariant-loop-u

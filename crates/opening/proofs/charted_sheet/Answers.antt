@@ -1,8 +1,6 @@
 -- charted_sheet meets its contract.
 use Rattle.framing.specs.Layouts.{labels_in}
 use Rattle.opening.proofs.Opened.{charted-packed}
-use native.Mathlib.Omega.{arith}
-use borrow.Author.Rules.{rules}
 use Rattle.opening.proofs.charted_sheet.Goals as goal
 
 pub returns : goal.returns

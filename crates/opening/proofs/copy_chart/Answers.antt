@@ -1,11 +1,8 @@
 -- copy_chart meets its contract.
-use mathlib.Core.Path.{◌≡◌, refl, sym, ap, ◌∙◌}
-use Prim.Native.Nat.{ℕ, ◌+◌, ◌-◌, ◌*◌, ◌≤◌}
-use Rattle.framing.specs.Offsets.{word_at}
-use Rattle.lists.proofs.Loops.{Fills, fills_start, fills_on}
+use mathlib.Core.Path.{refl}
+use Rattle.lists.proofs.Loops.{fills_start, fills_on}
 use Rattle.opening.proofs.Copies.{points-copied}
 use native.Mathlib.Omega.{arith}
-use borrow.Author.Rules.{rules}
 use Rattle.opening.proofs.copy_chart.Goals as goal
 
 pub loop-u-init : goal.loop-u-init

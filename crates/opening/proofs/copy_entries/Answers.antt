@@ -1,9 +1,7 @@
 -- copy_entries meets its contract.
-use mathlib.Core.Path.{◌≡◌, refl, sym, ap, ◌∙◌}
-use Prim.Native.Nat.{◌+◌, ◌-◌}
-use Rattle.opening.proofs.Copies.{Copies, copies_start, copies_room, copies_entry, copies_ring, copies_end}
+use mathlib.Core.Path.{refl}
+use Rattle.opening.proofs.Copies.{copies_start, copies_room, copies_entry, copies_ring, copies_end}
 use native.Mathlib.Omega.{arith}
-use borrow.Author.Rules.{rules}
 use Rattle.opening.proofs.copy_entries.Goals as goal
 
 pub loop-u-init : goal.loop-u-init

@@ -1,9 +1,6 @@
 -- What the loops of copy_entries keep.
-use mathlib.Core.Path.{◌≡◌, refl, sym, ap, ◌∙◌}
 use Prim.Native.Nat.{◌+◌, ◌-◌}
-use Rattle.opening.proofs.Copies.{Copies, copies_start, copies_room, copies_entry, copies_ring, copies_end}
-use native.Mathlib.Omega.{arith}
-use borrow.Author.Rules.{rules}
+use Rattle.opening.proofs.Copies.{Copies}
 use Rattle.opening.proofs.copy_entries.Given as goal
 
 abbrev pub invariant-loop-u : goal.invariant-loop-u

@@ -1,11 +1,8 @@
 -- copy_labels meets its contract.
-use mathlib.Core.Path.{◌≡◌, refl, sym, ap, ◌∙◌}
-use Prim.Native.Nat.{ℕ, ◌+◌, ◌-◌, ◌≤◌}
-use lib.ListN.{get_or}
-use Rattle.lists.proofs.Loops.{Fills, fills_start, fills_on}
+use mathlib.Core.Path.{refl}
+use Rattle.lists.proofs.Loops.{fills_start, fills_on}
 use Rattle.opening.proofs.Copies.{labels-copied}
 use native.Mathlib.Omega.{arith}
-use borrow.Author.Rules.{rules}
 use Rattle.opening.proofs.copy_labels.Goals as goal
 
 pub loop-i-init : goal.loop-i-init

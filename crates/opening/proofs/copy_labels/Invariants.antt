@@ -1,11 +1,7 @@
 -- What the loops of copy_labels keep.
-use mathlib.Core.Path.{◌≡◌, refl, sym, ap, ◌∙◌}
 use Prim.Native.Nat.{ℕ, ◌+◌, ◌-◌, ◌≤◌}
 use lib.ListN.{get_or}
-use Rattle.lists.proofs.Loops.{Fills, fills_start, fills_on}
-use Rattle.opening.proofs.Copies.{labels-copied}
-use native.Mathlib.Omega.{arith}
-use borrow.Author.Rules.{rules}
+use Rattle.lists.proofs.Loops.{Fills}
 use Rattle.opening.proofs.copy_labels.Given as goal
 
 abbrev pub invariant-loop-i : goal.invariant-loop-i

@@ -1,12 +1,10 @@
 -- copy_sheet meets its contract.
-use mathlib.Core.Path.{◌≡◌, refl, sym, ap, ◌∙◌}
+use mathlib.Core.Path.{ap, ◌∙◌}
 use Rattle.framing.specs.declared.Found.TheVariants.{Opened, Labelled, Charted, Refused}
 use Rattle.model.specs.File.{fresh}
 use Rattle.sheet.specs.Sheets.{packed}
 use Rattle.sheet.specs.Answers.{after}
-use Rattle.opening.proofs.Opened.{enough-found, sizes_found, lent_found}
-use native.Mathlib.Omega.{arith}
-use borrow.Author.Rules.{rules}
+use Rattle.opening.proofs.Opened.{sizes_found, lent_found}
 use Rattle.opening.proofs.copy_sheet.Goals as goal
 
 pub opened_sheet-requires-clause-sizes_value : goal.opened_sheet-requires-clause-sizes_value

@@ -1,6 +1,5 @@
 -- is_due meets its contract.
 use Rattle.opening.proofs.Quick.{due-few, due-total}
-use borrow.Author.Rules.{rules}
 use Rattle.opening.proofs.is_due.Goals as goal
 
 pub returns-then-n-lt5 : goal.returns-then-n-lt5

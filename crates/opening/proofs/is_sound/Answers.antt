@@ -1,6 +1,5 @@
 -- is_sound meets its contract.
 use Rattle.sheet.specs.Sheets.{held_plan}
-use borrow.Author.Rules.{rules}
 use Rattle.opening.proofs.is_sound.Goals as goal
 
 pub returns : goal.returns

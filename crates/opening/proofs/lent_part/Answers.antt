@@ -5,9 +5,7 @@ use Rattle.framing.specs.declared.Found.{Found}
 use Rattle.framing.specs.declared.Found.TheVariants.{Opened, Labelled, Charted, Refused}
 use Rattle.sheet.specs.Answers.{answer_as}
 use Rattle.opening.specs.Opening.{lent_of, lent_in}
-use Rattle.opening.proofs.Opened.{There, lent_found, lent_there, enough-found}
-use native.Mathlib.Omega.{arith}
-use borrow.Author.Rules.{rules}
+use Rattle.opening.proofs.Opened.{There, lent_found, lent_there}
 use Rattle.opening.proofs.lent_part.Goals as goal
 
 -- what is no refusal is there

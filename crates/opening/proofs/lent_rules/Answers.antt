@@ -1,5 +1,5 @@
 -- lent_rules meets its contract.
-use mathlib.Core.Path.{◌≡◌, refl, sym, ap, ◌∙◌}
+use mathlib.Core.Path.{sym, ap, ◌∙◌}
 use mathlib.Core.List.{List}
 use Prim.Native.Nat.{ℕ}
 use Rattle.lists.specs.Ranges.{lowest}
@@ -11,8 +11,6 @@ use Rattle.framing.specs.Layouts.{plan_in}
 use Rattle.sheet.specs.Answers.{answer_as}
 use Rattle.opening.proofs.Lent.{four_refused, five_refused, six_refused, seven_refused, lent-passed}
 use Rattle.fit.proofs.Fits.{all-counted}
-use native.Mathlib.Omega.{arith}
-use borrow.Author.Rules.{rules}
 use Rattle.opening.proofs.lent_rules.Goals as goal
 
 pub returns-then-four-n : goal.returns-then-four-n

@@ -8,7 +8,6 @@ use Rattle.sheet.specs.Answers.{answer_of, after}
 use Rattle.sheet.specs.Answers.{answer_as}
 use Rattle.opening.specs.Opening.{replaced}
 use Rattle.opening.proofs.Opened.{open_early, open_late, room_in}
-use borrow.Author.Rules.{rules}
 use Rattle.opening.proofs.open_by_rules.Goals as goal
 
 pub copy_sheet-new-requires-clause-n_bound : goal.copy_sheet-new-requires-clause-n_bound
@@ -43,7 +42,7 @@ returns-in-Accepted-clause-answer_value c =
     let a = c.args in
     let f = a.file.now in
     let h = c.requires in
-        let e = open_late f (sheet_in f a.layout) h.layout_value (sym (ap answer_as c.in-Accepted.is) ∙ c.lent_part-judged.ensures) (packed fresh) c.copy_sheet-new.result c.copy_sheet-new.ensures in
+    let e = open_late f (sheet_in f a.layout) h.layout_value (sym (ap answer_as c.in-Accepted.is) ∙ c.lent_part-judged.ensures) (packed fresh) c.copy_sheet-new.result c.copy_sheet-new.ensures in
     let j = c.rules_from_8.ensures in
     c.replace.ensures.answer_value ∙ j ∙ e.0
 
@@ -53,6 +52,6 @@ returns-in-Accepted-clause-sheet_value c =
     let a = c.args in
     let f = a.file.now in
     let h = c.requires in
-        let e = open_late f (sheet_in f a.layout) h.layout_value (sym (ap answer_as c.in-Accepted.is) ∙ c.lent_part-judged.ensures) (packed fresh) c.copy_sheet-new.result c.copy_sheet-new.ensures in
+    let e = open_late f (sheet_in f a.layout) h.layout_value (sym (ap answer_as c.in-Accepted.is) ∙ c.lent_part-judged.ensures) (packed fresh) c.copy_sheet-new.result c.copy_sheet-new.ensures in
     let j = c.rules_from_8.ensures in
     c.replace.ensures.sheet_value ∙ ap (λ (o : Outcome (Unit {0})). replaced o a.sheet c.copy_sheet-new.result) j ∙ e.1 a.sheet

@@ -1,7 +1,5 @@
 -- opened_sheet meets its contract.
 use Rattle.opening.proofs.Opened.{opened_packed}
-use native.Mathlib.Omega.{arith}
-use borrow.Author.Rules.{rules}
 use Rattle.opening.proofs.opened_sheet.Goals as goal
 
 pub returns : goal.returns

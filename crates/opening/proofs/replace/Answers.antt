@@ -3,7 +3,6 @@ use mathlib.Core.Path.{sym, ap, ◌∙◌}
 use Rattle.model.specs.Outcome.{Outcome}
 use Rattle.sheet.specs.Answers.{answer_as}
 use Rattle.opening.specs.Opening.{replaced}
-use borrow.Author.Rules.{rules}
 use Rattle.opening.proofs.replace.Goals as goal
 
 pub returns-in-Refused-clause-answer_value : goal.returns-in-Refused-clause-answer_value

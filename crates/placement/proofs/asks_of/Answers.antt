@@ -1,10 +1,9 @@
 -- asks_of meets its contract.
-use Prim.Native.Nat.{ℕ, ◌+◌, ◌-◌, ◌*◌}
+use Prim.Native.Nat.{ℕ, ◌+◌}
 use mathlib.Core.Path.{refl, ap}
 use Rattle.placement.proofs.Asking.{neighbour-le}
-use Rattle.placement.proofs.Walk.{Walks, walks_start, walks_room, walks_at, walks_dart, walks_next, walks_x, walks_y}
+use Rattle.placement.proofs.Walk.{walks_start, walks_room, walks_at, walks_dart, walks_next, walks_x, walks_y}
 use native.Mathlib.Omega.{arith}
-use borrow.Author.Rules.{rules}
 use Rattle.placement.proofs.asks_of.Goals as goal
 
 pub loop-u-init : goal.loop-u-init

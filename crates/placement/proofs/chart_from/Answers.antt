@@ -5,7 +5,6 @@ use borrow.Author.Tests.{not-true, not-false}
 use Rattle.lists.specs.Spans.{zeros}
 use Rattle.fit.proofs.Fits.{bounds_say}
 use Rattle.placement.proofs.Draw.{chart-not-x, chart-not-y, chart-drawn, axis_at, axis_kept}
-use borrow.Author.Rules.{rules}
 use Rattle.placement.proofs.chart_from.Goals as goal
 
 pub asks_of-count-requires-clause-n_bound : goal.asks_of-count-requires-clause-n_bound

@@ -1,10 +1,9 @@
 -- chart_of meets its contract.
 use mathlib.Core.Path.{sym, ap, ◌∙◌}
-use borrow.Author.Tests.{not-true, not-false}
+use borrow.Author.Tests.{not-true}
 use Rattle.placement.specs.declared.Drawn.{Drawn}
 use Rattle.placement.specs.Drawing.{drawn_as}
 use Rattle.placement.proofs.Draw.{chart_out_lem, drawn-says}
-use borrow.Author.Rules.{rules}
 use mathlib.Core.Bool.{not}
 use Rattle.placement.proofs.chart_of.Goals as goal
 

@@ -1,7 +1,5 @@
 -- end_of meets its contract.
 use borrow.Author.Tests.{eq-eqb, ne_eqb}
-use native.Mathlib.Omega.{arith}
-use borrow.Author.Rules.{rules}
 use Rattle.placement.specs.Asking.{end_of}
 use Rattle.placement.proofs.end_of.Goals as goal
 

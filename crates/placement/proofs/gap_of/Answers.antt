@@ -1,8 +1,6 @@
 -- gap_of meets its contract.
 use Rattle.model.specs.Chart.{slope}
 use borrow.Author.Tests.{eq-eqb, ne_eqb}
-use native.Mathlib.Omega.{arith}
-use borrow.Author.Rules.{rules}
 use Rattle.placement.specs.Asking.{gap_of}
 use Rattle.placement.proofs.gap_of.Goals as goal
 

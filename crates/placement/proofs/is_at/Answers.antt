@@ -1,8 +1,5 @@
 -- is_at meets its contract.
 use Rattle.placement.proofs.Draw.{stands-yes, stands-no}
-use Rattle.placement.specs.Drawing.{stands_at}
-use native.Mathlib.Omega.{arith}
-use borrow.Author.Rules.{rules}
 use Rattle.placement.proofs.is_at.Goals as goal
 
 pub returns-then-num-a : goal.returns-then-num-a

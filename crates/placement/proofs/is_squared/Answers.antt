@@ -1,9 +1,5 @@
 -- is_squared meets its contract.
 use Rattle.placement.proofs.Draw.{squared-south, squared-west, squared-east}
-use borrow.Author.Tests.{not-true, not-false}
-use Rattle.placement.specs.Drawing.{squared}
-use native.Mathlib.Omega.{arith}
-use borrow.Author.Rules.{rules}
 use Rattle.placement.proofs.is_squared.Goals as goal
 
 pub returns-then-not-is_at : goal.returns-then-not-is_at

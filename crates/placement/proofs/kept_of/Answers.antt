@@ -1,7 +1,5 @@
 -- kept_of meets its contract.
 use borrow.Author.Tests.{lt-ltb, le-ltb}
-use native.Mathlib.Omega.{arith}
-use borrow.Author.Rules.{rules}
 use Rattle.placement.specs.Asking.{kept_of}
 use Rattle.placement.proofs.kept_of.Goals as goal
 

@@ -1,9 +1,7 @@
 -- label_place meets its contract.
-use Prim.Native.Nat.{ℕ, ◌+◌}
-use mathlib.Core.Path.{refl, ap}
-use Rattle.placement.proofs.Marks.{marked_wide, place-marked, marked-still, place-first, marked_more}
+use mathlib.Core.Path.{refl}
+use Rattle.placement.proofs.Marks.{marked_wide, marked-still, place-first, marked_more}
 use native.Mathlib.Omega.{arith}
-use borrow.Author.Rules.{rules}
 use Rattle.placement.proofs.label_place.Goals as goal
 
 pub returns-then-v-ge200-clause-marked_2 : goal.returns-then-v-ge200-clause-marked_2

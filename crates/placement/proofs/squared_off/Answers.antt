@@ -1,9 +1,6 @@
 -- squared_off meets its contract.
 use Rattle.placement.proofs.Draw.{drawn-no, drawn-yes}
-use borrow.Author.Tests.{not-true, not-false}
 use mathlib.Core.Path.{refl, ◌∙◌}
-use native.Mathlib.Omega.{arith}
-use borrow.Author.Rules.{rules}
 use Rattle.placement.proofs.squared_off.Goals as goal
 
 pub returns-then-not-is_squared : goal.returns-then-not-is_squared

@@ -2,8 +2,6 @@
 use Rattle.placement.specs.Drawing.{drawn_of}
 use Rattle.lists.specs.Spans.{zeros}
 use mathlib.Core.Path.{refl}
-use native.Mathlib.Omega.{arith}
-use borrow.Author.Rules.{rules}
 use Rattle.placement.proofs.undrawn.Goals as goal
 
 pub returns : goal.returns

@@ -1,12 +1,8 @@
 -- fill meets its contract.
-use mathlib.Core.Path.{◌≡◌, refl, sym, ◌∙◌}
-use Prim.Native.Nat.{ℕ, ◌-◌, ◌*◌, ◌≤◌, min}
-use Rattle.model.specs.Plan.{ring}
-use Rattle.rings.specs.Tables.{rows}
+use mathlib.Core.Path.{refl, sym, ◌∙◌}
 use Rattle.rings.proofs.Rows.{ring-size, size_outside}
-use Rattle.places.proofs.Notes.{Notes, notes_start, notes_on, notes_next, notes_end}
+use Rattle.places.proofs.Notes.{notes_start, notes_on, notes_next, notes_end}
 use native.Mathlib.Omega.{arith}
-use borrow.Author.Rules.{rules}
 use Rattle.places.proofs.fill.Goals as goal
 
 pub loop-u-init : goal.loop-u-init

@@ -4,7 +4,6 @@ use Rattle.rings.specs.Tables.{rows}
 use Rattle.rings.proofs.Rows.{ring-size}
 use Rattle.places.proofs.Look.{index_high, index_wide, index_none, index_some}
 use native.Mathlib.Omega.{arith}
-use borrow.Author.Rules.{rules}
 use Rattle.places.proofs.index_by.Goals as goal
 
 pub returns-then-u-ge200-clause-value : goal.returns-then-u-ge200-clause-value

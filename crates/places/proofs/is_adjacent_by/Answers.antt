@@ -3,7 +3,6 @@ use mathlib.Core.Path.{◌∙◌}
 use Rattle.rings.specs.Tables.{rows}
 use Rattle.places.proofs.Look.{adjacent-high, adjacent_wide, adjacent-cell}
 use native.Mathlib.Omega.{arith}
-use borrow.Author.Rules.{rules}
 use Rattle.places.proofs.is_adjacent_by.Goals as goal
 
 pub returns-then-u-ge200 : goal.returns-then-u-ge200

@@ -1,10 +1,9 @@
 -- note meets its contract.
-use mathlib.Core.Path.{refl, sym, ◌∙◌}
+use mathlib.Core.Path.{sym, ◌∙◌}
 use lib.Seq.{set_out}
 use Rattle.places.specs.Places.{cell}
 use Rattle.places.proofs.Notes.{noted-high, noted_wide, noted_full, noted-put}
 use native.Mathlib.Omega.{arith}
-use borrow.Author.Rules.{rules}
 use Rattle.places.proofs.note.Goals as goal
 
 pub returns-then-u-ge200 : goal.returns-then-u-ge200

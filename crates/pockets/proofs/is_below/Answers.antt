@@ -1,16 +1,10 @@
 -- is_below meets its contract.
 use mathlib.Core.Path.{sym, ◌∙◌}
-use Prim.Native.Nat.{ℕ, ◌-◌}
-use lib.ListN.{get_or}
-use lib.Dec.{eqb}
 use borrow.Author.Tests.{eq-eqb, ne_eqb}
-use Rattle.lists.proofs.Folds.{Seeks, seeks_start, seeks_hit, seeks_on, seeks_end}
-use Rattle.model.specs.Plan.{ring}
+use Rattle.lists.proofs.Folds.{seeks_hit, seeks_on, seeks_end}
 use Rattle.rings.specs.Tables.{rows}
-use Rattle.frontier.specs.Run.{turned_at}
 use Rattle.pockets.proofs.Pocketed.{scanned}
 use native.Mathlib.Omega.{arith}
-use borrow.Author.Rules.{rules}
 use Rattle.pockets.proofs.is_below.Goals as goal
 
 pub returns-then-c-wide_word : goal.returns-then-c-wide_word

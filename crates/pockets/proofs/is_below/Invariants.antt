@@ -1,16 +1,11 @@
 -- What the loops of is_below keep.
-use mathlib.Core.Path.{sym, ◌∙◌}
 use Prim.Native.Nat.{ℕ, ◌-◌}
 use lib.ListN.{get_or}
 use lib.Dec.{eqb}
-use borrow.Author.Tests.{eq-eqb, ne_eqb}
-use Rattle.lists.proofs.Folds.{Seeks, seeks_start, seeks_hit, seeks_on, seeks_end}
+use Rattle.lists.proofs.Folds.{Seeks}
 use Rattle.model.specs.Plan.{ring}
 use Rattle.rings.specs.Tables.{rows}
 use Rattle.frontier.specs.Run.{turned_at}
-use Rattle.pockets.proofs.Pocketed.{scanned}
-use native.Mathlib.Omega.{arith}
-use borrow.Author.Rules.{rules}
 use Rattle.pockets.proofs.is_below.Given as goal
 
 abbrev pub invariant-loop-t : goal.invariant-loop-t

@@ -1,13 +1,12 @@
 -- is_pocketed meets its contract.
-use mathlib.Core.Path.{◌≡◌, sym, ap, ◌∙◌}
-use Prim.Native.Nat.{ℕ, ◌-◌}
+use mathlib.Core.Path.{sym, ap, ◌∙◌}
+use Prim.Native.Nat.{ℕ}
 use borrow.Author.Tests.{not-true, not-false}
 use Rattle.rings.specs.Tables.{rows}
 use Rattle.places.specs.Places.{adjacent_by}
 use Rattle.pockets.specs.Pockets.{pocket_by}
-use Rattle.pockets.proofs.Pocketed.{Passes, passes-start, passes_hit, passes_on, passes_end}
+use Rattle.pockets.proofs.Pocketed.{passes_hit, passes_on, passes_end}
 use native.Mathlib.Omega.{arith}
-use borrow.Author.Rules.{rules}
 use mathlib.Core.Bool.{not}
 use Rattle.pockets.proofs.is_pocketed.Goals as goal
 

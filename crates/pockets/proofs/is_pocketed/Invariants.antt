@@ -1,13 +1,8 @@
 -- What the loops of is_pocketed keep.
-use mathlib.Core.Path.{◌≡◌, sym, ap, ◌∙◌}
-use Prim.Native.Nat.{ℕ, ◌-◌}
-use borrow.Author.Tests.{not-true, not-false}
+use mathlib.Core.Path.{◌≡◌}
+use Prim.Native.Nat.{◌-◌}
 use Rattle.rings.specs.Tables.{rows}
-use Rattle.places.specs.Places.{adjacent_by}
-use Rattle.pockets.specs.Pockets.{pocket_by}
-use Rattle.pockets.proofs.Pocketed.{Passes, passes-start, passes_hit, passes_on, passes_end}
-use native.Mathlib.Omega.{arith}
-use borrow.Author.Rules.{rules}
+use Rattle.pockets.proofs.Pocketed.{Passes}
 use Rattle.pockets.proofs.is_pocketed.Given as goal
 
 abbrev pub invariant-loop-a : goal.invariant-loop-a

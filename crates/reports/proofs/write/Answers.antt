@@ -5,7 +5,6 @@ use Rattle.reports.specs.FileParts.{parts_of}
 use Rattle.sheet.proofs.Reading.{ranked}
 use Rattle.reports.proofs.Writes.{early_length, buffer_kept, length-written, short-written, buffer_written}
 use native.Mathlib.Omega.{arith}
-use borrow.Author.Rules.{rules}
 use Rattle.reports.proofs.write.Goals as goal
 
 pub returns-then-rank_of-lt1-clause-result_value : goal.returns-then-rank_of-lt1-clause-result_value

@@ -1,11 +1,10 @@
 -- neighbour_at meets its contract.
-use mathlib.Core.Path.{◌≡◌, sym, ap, ◌∙◌}
+use mathlib.Core.Path.{sym, ap, ◌∙◌}
 use Prim.Native.Nat.{ℕ, ◌+◌}
 use lib.ListN.{get_or}
 use Rattle.model.specs.Plan.{neighbour}
 use Rattle.rings.proofs.Rows.{ring-at, ring-past}
 use native.Mathlib.Omega.{arith}
-use borrow.Author.Rules.{rules}
 use Rattle.rings.proofs.neighbour_at.Goals as goal
 
 pub returns-then-i-size_of : goal.returns-then-i-size_of

@@ -1,6 +1,5 @@
 -- neighbour_of meets its contract.
 use Rattle.model.specs.Plan.{neighbour}
-use native.Mathlib.Omega.{arith}
 use borrow.Author.Rules.{rules}
 use Rattle.rings.proofs.neighbour_of.Goals as goal
 

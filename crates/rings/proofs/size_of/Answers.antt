@@ -2,7 +2,6 @@
 use mathlib.Core.Path.{sym, ◌∙◌}
 use Rattle.rings.proofs.Rows.{size-inside, size_outside}
 use native.Mathlib.Omega.{arith}
-use borrow.Author.Rules.{rules}
 use Rattle.rings.proofs.size_of.Goals as goal
 
 pub returns-then-u-n-clause-value : goal.returns-then-u-n-clause-value

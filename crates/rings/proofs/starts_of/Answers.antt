@@ -1,11 +1,10 @@
 -- starts_of meets its contract.
-use mathlib.Core.Path.{◌≡◌, refl, sym, ap, ◌∙◌}
-use Prim.Native.Nat.{ℕ, suc, ◌+◌, ◌-◌, ◌*◌, ◌≤◌}
-use Rattle.lists.proofs.Loops.{Fills, fills_start, fills_on, fills_end, fills_length}
-use Rattle.rings.specs.Tables.{start_of, starts_of}
+use mathlib.Core.Path.{refl}
+use Prim.Native.Nat.{◌+◌}
+use Rattle.lists.proofs.Loops.{fills_start, fills_on, fills_end}
+use Rattle.rings.specs.Tables.{starts_of}
 use Rattle.rings.proofs.Rows.{start_first, start-next}
 use native.Mathlib.Omega.{arith}
-use borrow.Author.Rules.{rules}
 use Rattle.rings.proofs.starts_of.Goals as goal
 
 pub loop-u-init : goal.loop-u-init

@@ -1,11 +1,8 @@
 -- What the loops of starts_of keep.
-use mathlib.Core.Path.{◌≡◌, refl, sym, ap, ◌∙◌}
-use Prim.Native.Nat.{ℕ, suc, ◌+◌, ◌-◌, ◌*◌, ◌≤◌}
-use Rattle.lists.proofs.Loops.{Fills, fills_start, fills_on, fills_end, fills_length}
-use Rattle.rings.specs.Tables.{start_of, starts_of}
-use Rattle.rings.proofs.Rows.{start_first, start-next}
-use native.Mathlib.Omega.{arith}
-use borrow.Author.Rules.{rules}
+use mathlib.Core.Path.{◌≡◌}
+use Prim.Native.Nat.{◌-◌, ◌*◌, ◌≤◌}
+use Rattle.lists.proofs.Loops.{Fills}
+use Rattle.rings.specs.Tables.{start_of}
 use Rattle.rings.proofs.starts_of.Given as goal
 
 abbrev pub invariant-loop-u : goal.invariant-loop-u

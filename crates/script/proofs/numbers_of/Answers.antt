@@ -1,11 +1,8 @@
 -- numbers_of meets its contract.
 use mathlib.Core.Path.{refl}
-use Prim.Native.Nat.{ℕ, ◌+◌, ◌-◌, ◌*◌, ◌≤◌}
-use Rattle.framing.specs.Offsets.{word_at}
-use Rattle.lists.proofs.Loops.{Fills, fills_start, fills_on}
+use Rattle.lists.proofs.Loops.{fills_start, fills_on}
 use Rattle.script.proofs.Turns.{numbers_copied}
 use native.Mathlib.Omega.{arith}
-use borrow.Author.Rules.{rules}
 use Rattle.script.proofs.numbers_of.Goals as goal
 
 pub loop-i-init : goal.loop-i-init

@@ -1,11 +1,7 @@
 -- What the loops of numbers_of keep.
-use mathlib.Core.Path.{refl}
 use Prim.Native.Nat.{ℕ, ◌+◌, ◌-◌, ◌*◌, ◌≤◌}
 use Rattle.framing.specs.Offsets.{word_at}
-use Rattle.lists.proofs.Loops.{Fills, fills_start, fills_on}
-use Rattle.script.proofs.Turns.{numbers_copied}
-use native.Mathlib.Omega.{arith}
-use borrow.Author.Rules.{rules}
+use Rattle.lists.proofs.Loops.{Fills}
 use Rattle.script.proofs.numbers_of.Given as goal
 
 abbrev pub invariant-loop-i : goal.invariant-loop-i

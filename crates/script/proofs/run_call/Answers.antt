@@ -2,7 +2,6 @@
 use mathlib.Core.Path.{refl, ◌∙◌}
 use Rattle.model.specs.CallLists.{open_file, offer_labels, sweep-labels, draw_chart, call}
 use Rattle.script.proofs.Items.{item_ran, item_malformed, item-same, kind_open, kind_offer, kind_turn, kind_sweep, kind_chart, kind_alone, kind_other}
-use borrow.Author.Rules.{rules}
 use Rattle.script.proofs.run_call.Goals as goal
 
 pub returns-then-kind-eq1-clause-sheet_value : goal.returns-then-kind-eq1-clause-sheet_value

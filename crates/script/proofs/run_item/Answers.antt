@@ -4,7 +4,6 @@ use Prim.Native.Nat.{◌+◌}
 use Rattle.script.specs.Scripts.{argument_size}
 use Rattle.script.proofs.Items.{item_malformed, item-same, item-short, item-past, item_whole}
 use native.Mathlib.Omega.{arith}
-use borrow.Author.Rules.{rules}
 use Rattle.script.proofs.run_item.Goals as goal
 
 pub returns-then-rest-lt4-clause-sheet_value : goal.returns-then-rest-lt4-clause-sheet_value

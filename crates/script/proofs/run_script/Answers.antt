@@ -1,12 +1,9 @@
 -- run_script meets its contract.
 use mathlib.Core.Path.{refl}
-use Prim.Native.Nat.{◌+◌, ◌-◌}
-use lib.ListN.{length}
 use Rattle.guarantee.proofs.Guarantee.{guarantee}
 use Rattle.script.specs.Scripts.{calls_of}
-use Rattle.script.proofs.Walk.{Runs, runs-start, runs_on, runs_malformed, rest_whole, runs_end}
+use Rattle.script.proofs.Walk.{runs-start, runs_on, runs_malformed, rest_whole, runs_end}
 use native.Mathlib.Omega.{arith}
-use borrow.Author.Rules.{rules}
 use Rattle.script.proofs.run_script.Goals as goal
 
 pub loop-at-init : goal.loop-at-init

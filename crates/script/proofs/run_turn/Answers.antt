@@ -1,7 +1,7 @@
 -- run_turn meets its contract.
 use mathlib.Core.Path.{◌∙◌}
 use Prim.Native.Nat.{◌/◌}
-use lib.ListN.{length, get_or, take, drop}
+use lib.ListN.{length, get_or, drop}
 use Rattle.lists.specs.Words.{words}
 use Rattle.model.specs.CallLists.{turn_edges, call}
 use Rattle.model.specs.Calls.{turn_call}
@@ -10,7 +10,6 @@ use Rattle.sheet.specs.Answers.{after}
 use Rattle.script.proofs.Turns.{numbers_front, turn_even, turn_many, turn_whole}
 use Rattle.script.proofs.Items.{item_ran, item_malformed}
 use native.Mathlib.Omega.{arith}
-use borrow.Author.Rules.{rules}
 use Rattle.script.proofs.run_turn.Goals as goal
 
 pub returns-then-long-ne1-clause-sheet_value : goal.returns-then-long-ne1-clause-sheet_value

@@ -1,10 +1,8 @@
 -- find meets its contract.
-use mathlib.Core.Path.{◌≡◌, refl, sym, ap, ◌∙◌}
-use Prim.Native.Nat.{◌-◌}
-use Rattle.lists.proofs.Loops.{Finds, finds_start, finds_hit, finds_on, finds_end}
+use mathlib.Core.Path.{refl, sym, ap, ◌∙◌}
+use Rattle.lists.proofs.Loops.{finds_hit, finds_on, finds_end}
 use Rattle.model.specs.Plan.{neighbour}
 use native.Mathlib.Omega.{arith}
-use borrow.Author.Rules.{rules}
 use Rattle.search.proofs.find.Goals as goal
 
 pub returns-then-v-neighbour_of : goal.returns-then-v-neighbour_of

@@ -1,10 +1,7 @@
 -- What the loops of find keep.
-use mathlib.Core.Path.{◌≡◌, refl, sym, ap, ◌∙◌}
 use Prim.Native.Nat.{◌-◌}
-use Rattle.lists.proofs.Loops.{Finds, finds_start, finds_hit, finds_on, finds_end}
+use Rattle.lists.proofs.Loops.{Finds}
 use Rattle.model.specs.Plan.{neighbour}
-use native.Mathlib.Omega.{arith}
-use borrow.Author.Rules.{rules}
 use Rattle.search.proofs.find.Given as goal
 
 abbrev pub invariant-loop-i : goal.invariant-loop-i

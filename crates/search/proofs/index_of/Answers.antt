@@ -1,14 +1,13 @@
 -- index_of meets its contract.
-use mathlib.Core.Path.{◌≡◌, sym, ap, ◌∙◌}
+use mathlib.Core.Path.{◌≡◌, ◌∙◌}
 use mathlib.Core.List.{map}
-use Prim.Native.Nat.{ℕ, ◌+◌}
+use Prim.Native.Nat.{◌+◌}
 use Rattle.lists.specs.Parts.{index_of}
 use Rattle.lists.specs.Spans.{span}
 use Rattle.model.specs.Plan.{neighbour, ring}
 use Rattle.rings.specs.Tables.{rows}
 use Rattle.rings.proofs.Rows.{ring_index, ring-size, index_le}
 use native.Mathlib.Omega.{arith}
-use borrow.Author.Rules.{rules}
 use Rattle.search.proofs.index_of.Goals as goal
 
 pub returns-clause-value : goal.returns-clause-value

@@ -4,8 +4,6 @@ use lib.Dec.{ltb}
 use Rattle.model.specs.Plan.{ring, adjacent}
 use Rattle.rings.specs.Tables.{rows}
 use Rattle.rings.proofs.Rows.{ring-size, member_index}
-use native.Mathlib.Omega.{arith}
-use borrow.Author.Rules.{rules}
 use Rattle.search.proofs.is_adjacent.Goals as goal
 
 pub returns : goal.returns

@@ -4,7 +4,6 @@ use Rattle.model.specs.Plan.{ring}
 use Rattle.rings.specs.Tables.{rows}
 use Rattle.rings.proofs.Rows.{ring-size, next-after, next_round, next-alone}
 use native.Mathlib.Omega.{arith}
-use borrow.Author.Rules.{rules}
 use Rattle.search.proofs.next_of.Goals as goal
 
 pub returns-then-i-size_of : goal.returns-then-i-size_of

@@ -1,7 +1,6 @@
 -- rank_of meets its contract.
 use mathlib.Core.Path.{ap, sym}
 use Rattle.sheet.specs.Sheets.{rank}
-use borrow.Author.Rules.{rules}
 use Rattle.sheet.proofs.rank_of.Goals as goal
 
 pub returns-in-Empty : goal.returns-in-Empty

@@ -1,7 +1,6 @@
 -- stage_of meets its contract.
 use mathlib.Core.Path.{sym, ap, ◌∙◌}
 use mathlib.Core.Bool.{Bool, cond}
-use borrow.Author.Rules.{rules}
 use Rattle.sheet.specs.declared.Stage.TheVariants.{Empty}
 use Rattle.sheet.specs.Sheets.{stage_read}
 use Rattle.sheet.proofs.Reading.{fits_flag}

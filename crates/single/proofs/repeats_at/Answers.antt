@@ -3,15 +3,12 @@ use Prim.Native.Nat.{◌+◌}
 use lib.ListN.{get_or}
 use Rattle.lists.specs.Tests.{member}
 use Rattle.lists.proofs.Spans.{span_more, span_end}
-use mathlib.Core.Path.{◌≡◌, refl, sym, ◌∙◌}
-use Prim.Native.Nat.{◌-◌}
-use Rattle.lists.specs.Tests.{repeats}
+use mathlib.Core.Path.{◌≡◌, sym, ◌∙◌}
 use Rattle.lists.specs.Spans.{span}
 use Rattle.model.specs.Plan.{ring}
 use Rattle.rings.specs.Lent.{lent}
 use Rattle.single.proofs.Entries.{whole_repeat}
 use native.Mathlib.Omega.{arith}
-use borrow.Author.Rules.{rules}
 use Rattle.single.proofs.repeats_at.Goals as goal
 
 pub returns-then-is_from : goal.returns-then-is_from

@@ -1,12 +1,8 @@
 -- rule4_at meets its contract.
 use mathlib.Core.Path.{refl, ◌∙◌}
-use Prim.Native.Nat.{◌-◌}
-use Rattle.lists.proofs.Loops.{Sees, sees_start, sees_hit, sees_on, sees_end}
-use Rattle.model.specs.Plan.{ring}
-use Rattle.rings.specs.Lent.{lent}
-use Rattle.single.proofs.Entries.{bad_in, bad_high, bad_self, bad_none, whole_entry}
+use Rattle.lists.proofs.Loops.{sees_hit, sees_on, sees_end}
+use Rattle.single.proofs.Entries.{bad_high, bad_self, bad_none, whole_entry}
 use native.Mathlib.Omega.{arith}
-use borrow.Author.Rules.{rules}
 use Rattle.single.proofs.rule4_at.Goals as goal
 
 pub returns-then-n-v : goal.returns-then-n-v

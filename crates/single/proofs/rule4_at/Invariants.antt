@@ -1,12 +1,9 @@
 -- What the loops of rule4_at keep.
-use mathlib.Core.Path.{refl, ◌∙◌}
 use Prim.Native.Nat.{◌-◌}
-use Rattle.lists.proofs.Loops.{Sees, sees_start, sees_hit, sees_on, sees_end}
+use Rattle.lists.proofs.Loops.{Sees}
 use Rattle.model.specs.Plan.{ring}
 use Rattle.rings.specs.Lent.{lent}
-use Rattle.single.proofs.Entries.{bad_in, bad_high, bad_self, bad_none, whole_entry}
-use native.Mathlib.Omega.{arith}
-use borrow.Author.Rules.{rules}
+use Rattle.single.proofs.Entries.{bad_in}
 use Rattle.single.proofs.rule4_at.Given as goal
 
 abbrev pub invariant-loop-i : goal.invariant-loop-i

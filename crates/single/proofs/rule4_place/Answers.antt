@@ -1,11 +1,7 @@
 -- rule4_place meets its contract.
 use mathlib.Core.Path.{sym, ◌∙◌}
-use Prim.Native.Nat.{◌-◌}
-use Rattle.lists.proofs.Loops.{Looks, looks_start, looks_hit, looks_on, looks_end}
-use Rattle.model.specs.Plan.{bad_entry}
-use Rattle.rings.specs.Lent.{lent}
+use Rattle.lists.proofs.Loops.{looks_hit, looks_on, looks_end}
 use native.Mathlib.Omega.{arith}
-use borrow.Author.Rules.{rules}
 use Rattle.single.proofs.rule4_place.Goals as goal
 
 pub returns-then-rule4_at : goal.returns-then-rule4_at

@@ -1,11 +1,8 @@
 -- What the loops of rule4_place keep.
-use mathlib.Core.Path.{sym, ◌∙◌}
 use Prim.Native.Nat.{◌-◌}
-use Rattle.lists.proofs.Loops.{Looks, looks_start, looks_hit, looks_on, looks_end}
+use Rattle.lists.proofs.Loops.{Looks}
 use Rattle.model.specs.Plan.{bad_entry}
 use Rattle.rings.specs.Lent.{lent}
-use native.Mathlib.Omega.{arith}
-use borrow.Author.Rules.{rules}
 use Rattle.single.proofs.rule4_place.Given as goal
 
 abbrev pub invariant-loop-u : goal.invariant-loop-u

@@ -1,12 +1,8 @@
 -- rule5_at meets its contract.
 use mathlib.Core.Path.{refl, ◌∙◌}
-use Prim.Native.Nat.{◌-◌}
-use Rattle.lists.proofs.Marks.{Marks, marks-start, marks_hit, marks-on, marks_end}
-use Rattle.model.specs.Plan.{ring}
-use Rattle.rings.specs.Lent.{lent}
+use Rattle.lists.proofs.Marks.{marks-start, marks_hit, marks-on, marks_end}
 use Rattle.single.proofs.Entries.{whole_repeat}
 use native.Mathlib.Omega.{arith}
-use borrow.Author.Rules.{rules}
 use Rattle.single.proofs.rule5_at.Goals as goal
 
 pub loop-i-init : goal.loop-i-init

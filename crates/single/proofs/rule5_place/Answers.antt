@@ -1,11 +1,7 @@
 -- rule5_place meets its contract.
 use mathlib.Core.Path.{sym, ◌∙◌}
-use Prim.Native.Nat.{◌-◌}
-use Rattle.lists.proofs.Loops.{Looks, looks_start, looks_hit, looks_on, looks_end}
-use Rattle.model.specs.Plan.{bad_repeat}
-use Rattle.rings.specs.Lent.{lent}
+use Rattle.lists.proofs.Loops.{looks_hit, looks_on, looks_end}
 use native.Mathlib.Omega.{arith}
-use borrow.Author.Rules.{rules}
 use Rattle.single.proofs.rule5_place.Goals as goal
 
 pub returns-then-rule5_at : goal.returns-then-rule5_at

@@ -1,8 +1,6 @@
 -- nothing meets its contract.
 use Rattle.lists.specs.Spans.{zeros}
 use mathlib.Core.Path.{refl}
-use native.Mathlib.Omega.{arith}
-use borrow.Author.Rules.{rules}
 use Rattle.solver.specs.Solved.{numbers_of}
 use Rattle.solver.proofs.nothing.Goals as goal
 

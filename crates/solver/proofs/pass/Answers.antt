@@ -1,10 +1,7 @@
 -- pass meets its contract.
-use mathlib.Core.Path.{refl, sym}
-use Rattle.solver.proofs.Relax.{passing_start, passing_on, passing_off, passing_met, passing_up, passing_over, passing_end}
-use Rattle.solver.specs.Relaxing.{Passing}
-use Prim.Native.Nat.{◌-◌, ◌≤◌}
+use mathlib.Core.Path.{refl}
+use Rattle.solver.proofs.Relax.{passing_met, passing_up, passing_over, passing_end}
 use native.Mathlib.Omega.{arith}
-use borrow.Author.Rules.{rules}
 use Rattle.solver.proofs.pass.Goals as goal
 
 pub returns-then-n-due : goal.returns-then-n-due

@@ -1,7 +1,5 @@
 -- place meets its contract.
 use Rattle.solver.specs.Relaxing.{place_of}
-use native.Mathlib.Omega.{arith}
-use borrow.Author.Rules.{rules}
 use Rattle.solver.proofs.place.Goals as goal
 
 pub returns-then-back : goal.returns-then-back

@@ -3,7 +3,6 @@ use mathlib.Core.Path.{sym, subst}
 use Rattle.solver.specs.Relaxing.{Raised}
 use Rattle.solver.proofs.Relax.{raised-up}
 use native.Mathlib.Omega.{arith}
-use borrow.Author.Rules.{rules}
 use Rattle.constraints.proofs.Listed.{mem-listed}
 use Rattle.constraints.specs.Constraints.{constraint_at, listed}
 use Rattle.solver.proofs.raise.Goals as goal

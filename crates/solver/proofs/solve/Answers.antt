@@ -1,13 +1,7 @@
 -- solve meets its contract.
 use Rattle.solver.proofs.Relax.{fewer, solved_large, solved-none, solved-found}
-use Rattle.solver.specs.Relaxing.{Raised}
-use Rattle.rings.specs.Tables.{sum_of}
-use Prim.Native.Nat.{◌-◌, ◌*◌}
 use mathlib.Core.Path.{◌∙◌}
 use borrow.Author.Tests.{not-true, not-false}
-use native.Mathlib.Omega.{arith}
-use borrow.Author.Rules.{rules}
-use Rattle.constraints.specs.Constraints.{listed}
 use Rattle.solver.proofs.solve.Goals as goal
 
 pub returns-then-n-gt200 : goal.returns-then-n-gt200

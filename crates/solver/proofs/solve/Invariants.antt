@@ -1,12 +1,7 @@
 -- What the loops of solve keep.
-use Rattle.solver.proofs.Relax.{fewer, solved_large, solved-none, solved-found}
 use Rattle.solver.specs.Relaxing.{Raised}
 use Rattle.rings.specs.Tables.{sum_of}
 use Prim.Native.Nat.{◌-◌, ◌*◌}
-use mathlib.Core.Path.{◌∙◌}
-use borrow.Author.Tests.{not-true, not-false}
-use native.Mathlib.Omega.{arith}
-use borrow.Author.Rules.{rules}
 use Rattle.constraints.specs.Constraints.{listed}
 use Rattle.solver.proofs.solve.Given as goal
 

@@ -1,11 +1,7 @@
 -- any_doubted meets its contract.
 use mathlib.Core.Path.{sym, ◌∙◌}
-use Prim.Native.Nat.{◌-◌, ◌≤◌}
-use Rattle.lists.proofs.Folds.{Seeks, seeks_start, seeks_hit, seeks_on, seeks_end}
-use Rattle.rings.specs.Tables.{rows}
-use Rattle.sound.specs.Sound.{doubted}
+use Rattle.lists.proofs.Folds.{seeks_hit, seeks_on, seeks_end}
 use native.Mathlib.Omega.{arith}
-use borrow.Author.Rules.{rules}
 use Rattle.sound.proofs.any_doubted.Goals as goal
 
 pub returns-then-is_doubted : goal.returns-then-is_doubted

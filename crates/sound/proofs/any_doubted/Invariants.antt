@@ -1,11 +1,8 @@
 -- What the loops of any_doubted keep.
-use mathlib.Core.Path.{sym, ◌∙◌}
 use Prim.Native.Nat.{◌-◌, ◌≤◌}
-use Rattle.lists.proofs.Folds.{Seeks, seeks_start, seeks_hit, seeks_on, seeks_end}
+use Rattle.lists.proofs.Folds.{Seeks}
 use Rattle.rings.specs.Tables.{rows}
 use Rattle.sound.specs.Sound.{doubted}
-use native.Mathlib.Omega.{arith}
-use borrow.Author.Rules.{rules}
 use Rattle.sound.proofs.any_doubted.Given as goal
 
 abbrev pub invariant-loop-u : goal.invariant-loop-u

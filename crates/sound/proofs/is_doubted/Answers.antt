@@ -1,12 +1,9 @@
 -- is_doubted meets its contract.
 use mathlib.Core.Path.{refl, ap, ◌∙◌}
-use Prim.Native.Nat.{ℕ, ◌-◌, ◌≤◌}
-use Rattle.lists.proofs.Loops.{Sees, sees_start, sees_hit, sees_on, sees_end}
+use Rattle.lists.proofs.Loops.{sees_hit, sees_on, sees_end}
 use Rattle.model.specs.Plan.{neighbour}
-use Rattle.sound.specs.Sound.{doubtful}
 use Rattle.sound.proofs.Doubts.{ring-doubted, entry-doubtful}
 use native.Mathlib.Omega.{arith}
-use borrow.Author.Rules.{rules}
 use Rattle.sound.proofs.is_doubted.Goals as goal
 
 pub returns-then-is_doubtful : goal.returns-then-is_doubtful

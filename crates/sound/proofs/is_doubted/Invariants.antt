@@ -1,12 +1,8 @@
 -- What the loops of is_doubted keep.
-use mathlib.Core.Path.{refl, ap, ◌∙◌}
 use Prim.Native.Nat.{ℕ, ◌-◌, ◌≤◌}
-use Rattle.lists.proofs.Loops.{Sees, sees_start, sees_hit, sees_on, sees_end}
+use Rattle.lists.proofs.Loops.{Sees}
 use Rattle.model.specs.Plan.{neighbour}
 use Rattle.sound.specs.Sound.{doubtful}
-use Rattle.sound.proofs.Doubts.{ring-doubted, entry-doubtful}
-use native.Mathlib.Omega.{arith}
-use borrow.Author.Rules.{rules}
 use Rattle.sound.proofs.is_doubted.Given as goal
 
 abbrev pub invariant-loop-i : goal.invariant-loop-i

@@ -1,6 +1,5 @@
 -- is_doubtful meets its contract.
 use Rattle.sound.proofs.Doubts.{doubt_self, doubt_closes, doubt_alone, doubt_outer}
-use borrow.Author.Rules.{rules}
 use Rattle.sound.proofs.is_doubtful.Goals as goal
 
 pub returns-then-u-v : goal.returns-then-u-v

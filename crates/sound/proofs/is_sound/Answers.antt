@@ -4,7 +4,6 @@ use mathlib.Core.List.{List}
 use Prim.Native.Nat.{ℕ}
 use Rattle.rings.specs.Tables.{rows, table}
 use Rattle.sound.specs.Sound.{sound}
-use borrow.Author.Rules.{rules}
 use Rattle.sound.proofs.is_sound.Goals as goal
 
 pub returns : goal.returns

@@ -4,7 +4,6 @@ use Rattle.rings.specs.Tables.{rows}
 use Rattle.rings.proofs.Rows.{count-rows}
 use Rattle.followers.proofs.Notes.{followers_made, apart-made}
 use Rattle.sound.proofs.Doubts.{sound_many, sound-side, sound_shared, sound-told}
-use borrow.Author.Rules.{rules}
 use mathlib.Core.Path.{ap}
 use mathlib.Core.Bool.{not}
 use Rattle.sound.proofs.is_sound_from.Goals as goal

@@ -1,6 +1,5 @@
 -- sweep_down meets its contract.
 use mathlib.Core.Path.{refl, sym, ap, ◌∙◌}
-use borrow.Author.Rules.{rules}
 use borrow.Author.Tests.{not-true, not-false}
 use Rattle.fit.specs.Fits.{fit}
 use Rattle.places.proofs.Notes.{filled-zeros}

@@ -1,7 +1,6 @@
 -- sweep_labels meets its contract.
 use mathlib.Core.Path.{refl}
 use native.Mathlib.Omega.{arith}
-use borrow.Author.Rules.{rules}
 use borrow.Author.Tests.{not-true, not-false}
 use Rattle.rings.specs.Tables.{table}
 use Rattle.steps.proofs.Steps.{swept_long}

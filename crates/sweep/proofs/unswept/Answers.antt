@@ -1,6 +1,5 @@
 -- unswept meets its contract.
 use mathlib.Core.Path.{sym, ap, ◌∙◌}
-use borrow.Author.Rules.{rules}
 use Rattle.sweep.specs.Swept.{unswept}
 use Rattle.sweep.proofs.unswept.Goals as goal
 

@@ -8,7 +8,6 @@ use Rattle.answers.proofs.Steps.{wrapped-off, wrapped-at}
 use Rattle.touchchart.specs.Interface.{same_value, compare_value}
 use Rattle.touchchart.proofs.Answers.{compared-off, compared_at}
 use native.Mathlib.Omega.{arith}
-use borrow.Author.Rules.{rules}
 use Rattle.touchchart.proofs.compare_held.Goals as goal
 
 pub returns-in-Refused : goal.returns-in-Refused

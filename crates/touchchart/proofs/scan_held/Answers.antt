@@ -8,7 +8,6 @@ use Rattle.answers.proofs.Steps.{wrapped-off, wrapped-at}
 use Rattle.touchchart.specs.Interface.{triple_value, scan_value}
 use Rattle.touchchart.proofs.Answers.{scanned_off, scanned_at, scanned_inside, triple_whole}
 use native.Mathlib.Omega.{arith}
-use borrow.Author.Rules.{rules}
 use Rattle.touchchart.proofs.scan_held.Goals as goal
 
 pub triple_value-requires-clause-a_bound : goal.triple_value-requires-clause-a_bound

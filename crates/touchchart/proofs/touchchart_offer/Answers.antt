@@ -2,17 +2,16 @@
 use Rattle.model.specs.CallLists.{offer_labels, call}
 use Rattle.exchange.proofs.Handing.{call_way}
 use Rattle.touchchart.specs.Interface.{offers_to}
-use borrow.Author.Rules.{rules}
 use Rattle.touchchart.proofs.touchchart_offer.Goals as goal
 
 pub returns-clause-value : goal.returns-clause-value
 unfolding call offers_to
 returns-clause-value c =
     let a = c.args in
-                    (call_way a.sheet.now (offer_labels a.labels.now) a.out.now _ c.hand_over-handed.result c.offer.result c.followed.result _ c.hand_over-handed.ensures c.offer.ensures.answer_value c.offer.ensures.sheet_value c.followed.ensures c.hand_back.ensures.value c.hand_back.ensures.out_after).0
+    (call_way a.sheet.now (offer_labels a.labels.now) a.out.now _ c.hand_over-handed.result c.offer.result c.followed.result _ c.hand_over-handed.ensures c.offer.ensures.answer_value c.offer.ensures.sheet_value c.followed.ensures c.hand_back.ensures.value c.hand_back.ensures.out_after).0
 
 pub returns-clause-out_after : goal.returns-clause-out_after
 unfolding call offers_to
 returns-clause-out_after c =
     let a = c.args in
-                    (call_way a.sheet.now (offer_labels a.labels.now) a.out.now _ c.hand_over-handed.result c.offer.result c.followed.result _ c.hand_over-handed.ensures c.offer.ensures.answer_value c.offer.ensures.sheet_value c.followed.ensures c.hand_back.ensures.value c.hand_back.ensures.out_after).1
+    (call_way a.sheet.now (offer_labels a.labels.now) a.out.now _ c.hand_over-handed.result c.offer.result c.followed.result _ c.hand_over-handed.ensures c.offer.ensures.answer_value c.offer.ensures.sheet_value c.followed.ensures c.hand_back.ensures.value c.hand_back.ensures.out_after).1

@@ -3,7 +3,6 @@ use mathlib.Core.Path.{sym, ap, ◌∙◌}
 use Rattle.sheet.specs.Answers.{ring_answer_as}
 use Rattle.touchchart.proofs.Answers.{part_inside, ring-off, ring-at}
 use native.Mathlib.Omega.{arith}
-use borrow.Author.Rules.{rules}
 use Rattle.touchchart.proofs.touchchart_ring.Goals as goal
 
 pub part_value-requires-clause-at_bound : goal.part_value-requires-clause-at_bound

@@ -2,7 +2,6 @@
 use mathlib.Core.Path.{ap}
 use Rattle.sheet.specs.Answers.{answer_as}
 use Rattle.touchchart.proofs.Answers.{scan-off, scan-at}
-use borrow.Author.Rules.{rules}
 use Rattle.touchchart.proofs.touchchart_scan.Goals as goal
 
 pub returns-in-Refused : goal.returns-in-Refused

@@ -1,8 +1,6 @@
 -- encloses meets its contract.
 use Rattle.rings.specs.Tables.{rows}
 use Rattle.triples.proofs.Scans.{apart_ac, apart_bc, apart_ab, face_abc, face_acb}
-use native.Mathlib.Omega.{arith}
-use borrow.Author.Rules.{rules}
 use mathlib.Core.Path.{ap}
 use mathlib.Core.Bool.{not}
 use Rattle.triples.proofs.encloses.Goals as goal

@@ -1,12 +1,8 @@
 -- first_for meets its contract.
 use Rattle.triples.proofs.Flags.{below-yes, below-no}
-use Rattle.rings.specs.Tables.{rows}
-use Prim.Native.Nat.{ℕ, ◌-◌}
-use lib.Dec.{ltb}
-use Rattle.triples.specs.Scanned.{second_for, first_for}
-use Rattle.lists.proofs.Loops.{Looks, looks_start, looks_hit, looks_on, looks_end}
+use Rattle.triples.specs.Scanned.{first_for}
+use Rattle.lists.proofs.Loops.{looks_hit, looks_on, looks_end}
 use native.Mathlib.Omega.{arith}
-use borrow.Author.Rules.{rules}
 use Rattle.triples.proofs.first_for.Goals as goal
 
 pub returns-then-second_for-n : goal.returns-then-second_for-n

@@ -1,12 +1,9 @@
 -- What the loops of first_for keep.
-use Rattle.triples.proofs.Flags.{below-yes, below-no}
 use Rattle.rings.specs.Tables.{rows}
 use Prim.Native.Nat.{ℕ, ◌-◌}
 use lib.Dec.{ltb}
-use Rattle.triples.specs.Scanned.{second_for, first_for}
-use Rattle.lists.proofs.Loops.{Looks, looks_start, looks_hit, looks_on, looks_end}
-use native.Mathlib.Omega.{arith}
-use borrow.Author.Rules.{rules}
+use Rattle.triples.specs.Scanned.{second_for}
+use Rattle.lists.proofs.Loops.{Looks}
 use Rattle.triples.proofs.first_for.Given as goal
 
 abbrev pub invariant-loop-a : goal.invariant-loop-a

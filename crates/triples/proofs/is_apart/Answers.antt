@@ -1,6 +1,5 @@
 -- is_apart meets its contract.
 use Rattle.triples.proofs.Scans.{apart-high, apart_wide, apart-cell}
-use borrow.Author.Rules.{rules}
 use Rattle.triples.proofs.is_apart.Goals as goal
 
 pub returns-then-a-ge200 : goal.returns-then-a-ge200

@@ -2,7 +2,6 @@
 use mathlib.Core.Path.{ap, ◌∙◌}
 use Prim.Native.Nat.{ℕ, ◌-◌}
 use Rattle.triples.proofs.Scans.{face_other, face_outer, face_closes}
-use borrow.Author.Rules.{rules}
 use Rattle.triples.proofs.is_face_by.Goals as goal
 
 pub returns-then-minus-c : goal.returns-then-minus-c

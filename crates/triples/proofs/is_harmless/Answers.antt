@@ -1,6 +1,5 @@
 -- is_harmless meets its contract.
 use Rattle.triples.proofs.Scans.{harmless-apart, harmless_face, harmless_back}
-use borrow.Author.Rules.{rules}
 use Rattle.triples.proofs.is_harmless.Goals as goal
 
 pub returns-then-is_apart : goal.returns-then-is_apart

@@ -1,8 +1,6 @@
 -- is_inner_face meets its contract.
 use Rattle.rings.specs.Tables.{rows}
 use Rattle.triples.proofs.Scans.{inner_third, inner_outer, inner_apart, inner_astray, inner_back}
-use native.Mathlib.Omega.{arith}
-use borrow.Author.Rules.{rules}
 use mathlib.Core.Path.{ap}
 use mathlib.Core.Bool.{not}
 use Rattle.triples.proofs.is_inner_face.Goals as goal

@@ -1,7 +1,6 @@
 -- nearer_third meets its contract.
 use Prim.Native.Nat.{ℕ}
 use native.Mathlib.Omega.{arith}
-use borrow.Author.Rules.{rules}
 use Rattle.rings.specs.Tables.{rows}
 use Rattle.model.specs.Scan.{enclosing}
 use Rattle.faces.proofs.Flags.{flag_yes, flag_no}

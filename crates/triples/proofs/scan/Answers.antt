@@ -2,7 +2,6 @@
 use mathlib.Core.Path.{refl}
 use Rattle.followers.proofs.Notes.{followers_made}
 use Rattle.rings.specs.Tables.{rows}
-use borrow.Author.Rules.{rules}
 use Rattle.triples.proofs.scan.Goals as goal
 
 pub scan_by-requires : goal.scan_by-requires

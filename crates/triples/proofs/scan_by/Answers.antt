@@ -4,7 +4,6 @@ use Rattle.triples.specs.Scanned.{scanned_as}
 use Rattle.rings.proofs.Rows.{count-rows}
 use Rattle.triples.proofs.Scans.{scan-none, scan-some, second_below}
 use native.Mathlib.Omega.{arith}
-use borrow.Author.Rules.{rules}
 use Rattle.triples.proofs.scan_by.Goals as goal
 
 pub returns-then-n-a : goal.returns-then-n-a

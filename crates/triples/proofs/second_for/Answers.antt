@@ -1,15 +1,11 @@
 -- second_for meets its contract.
 use mathlib.Core.Path.{sym, ◌∙◌}
-use Prim.Native.Nat.{ℕ, ◌-◌}
-use lib.Dec.{ltb}
-use Rattle.model.specs.Plan.{ring}
 use Rattle.rings.specs.Tables.{rows}
 use Rattle.rings.proofs.Rows.{ring-size}
-use Rattle.triples.specs.Scanned.{third_for, second_for}
+use Rattle.triples.specs.Scanned.{second_for}
 use Rattle.triples.proofs.Scans.{third_near}
-use Rattle.triples.proofs.Nearest.{ring-entry, Nearest, nearest_start, nearest_on, nearest_end}
+use Rattle.triples.proofs.Nearest.{ring-entry, nearest_on, nearest_end}
 use native.Mathlib.Omega.{arith}
-use borrow.Author.Rules.{rules}
 use Rattle.triples.proofs.second_for.Goals as goal
 
 pub loop-i-preserved : goal.loop-i-preserved

@@ -1,15 +1,10 @@
 -- What the loops of second_for keep.
-use mathlib.Core.Path.{sym, ◌∙◌}
 use Prim.Native.Nat.{ℕ, ◌-◌}
 use lib.Dec.{ltb}
 use Rattle.model.specs.Plan.{ring}
 use Rattle.rings.specs.Tables.{rows}
-use Rattle.rings.proofs.Rows.{ring-size}
-use Rattle.triples.specs.Scanned.{third_for, second_for}
-use Rattle.triples.proofs.Scans.{third_near}
-use Rattle.triples.proofs.Nearest.{ring-entry, Nearest, nearest_start, nearest_on, nearest_end}
-use native.Mathlib.Omega.{arith}
-use borrow.Author.Rules.{rules}
+use Rattle.triples.specs.Scanned.{third_for}
+use Rattle.triples.proofs.Nearest.{Nearest}
 use Rattle.triples.proofs.second_for.Given as goal
 
 abbrev pub invariant-loop-i : goal.invariant-loop-i

@@ -1,16 +1,9 @@
 -- What the loops of third_for keep.
-use mathlib.Core.Path.{sym, ◌∙◌}
 use Prim.Native.Nat.{ℕ, ◌-◌}
 use Rattle.model.specs.Plan.{ring}
 use Rattle.model.specs.Scan.{enclosing}
-use Rattle.model.proofs.Plans.{adjacent-mem}
 use Rattle.rings.specs.Tables.{rows}
-use Rattle.rings.proofs.Rows.{ring-size}
-use Rattle.triples.specs.Scanned.{third_for}
-use Rattle.triples.proofs.Scans.{enclosing-says}
-use Rattle.triples.proofs.Nearest.{ring-entry, Nearest, nearest_start, nearest_on, nearest_end}
-use native.Mathlib.Omega.{arith}
-use borrow.Author.Rules.{rules}
+use Rattle.triples.proofs.Nearest.{Nearest}
 use Rattle.triples.proofs.third_for.Given as goal
 
 abbrev pub invariant-loop-i : goal.invariant-loop-i

@@ -1,7 +1,6 @@
 -- is_bad meets its contract.
 use Rattle.turn.proofs.Turns.{bad_missing, bad_border_lem, bad_label}
 use native.Mathlib.Omega.{arith}
-use borrow.Author.Rules.{rules}
 use Rattle.turn.proofs.is_bad.Goals as goal
 
 pub returns-then-i-ge1186 : goal.returns-then-i-ge1186

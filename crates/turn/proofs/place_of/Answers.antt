@@ -4,7 +4,6 @@ use Rattle.rings.specs.Tables.{rows}
 use Rattle.places.proofs.Look.{index_told}
 use Rattle.turn.proofs.Turns.{place_found, place_missing}
 use native.Mathlib.Omega.{arith}
-use borrow.Author.Rules.{rules}
 use Rattle.turn.proofs.place_of.Goals as goal
 
 pub returns-then-i-size_of : goal.returns-then-i-size_of

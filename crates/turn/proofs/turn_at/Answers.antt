@@ -1,7 +1,6 @@
 -- turn_at meets its contract.
 use Rattle.turn.proofs.Turns.{turned-off, turned_on}
 use native.Mathlib.Omega.{arith}
-use borrow.Author.Rules.{rules}
 use Rattle.turn.proofs.turn_at.Goals as goal
 
 pub returns-then-i-labels : goal.returns-then-i-labels

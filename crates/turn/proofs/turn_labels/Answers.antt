@@ -7,7 +7,6 @@ use Rattle.fit.proofs.Fits.{bounds_say}
 use Rattle.turn.specs.Run.{kept}
 use Rattle.turn.proofs.Answers.{answer_unfit, answer_pair, answer_odd, answer_direction, answer_broken, answer_labelled}
 use native.Mathlib.Omega.{arith}
-use borrow.Author.Rules.{rules}
 use mathlib.Core.Path.{ap}
 use mathlib.Core.Bool.{not}
 use Rattle.turn.proofs.turn_labels.Goals as goal

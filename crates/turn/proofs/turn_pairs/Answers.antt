@@ -1,14 +1,13 @@
 -- turn_pairs meets its contract.
 use mathlib.Core.Path.{◌≡◌, refl, sym, ◌∙◌}
-use Prim.Native.Nat.{◌-◌, ◌/◌, ◌≤◌, ◌<◌, ◌^◌}
+use Prim.Native.Nat.{◌/◌, ◌≤◌}
 use lib.ListN.{length}
 use Rattle.lists.specs.Parts.{pairs}
 use Rattle.lists.proofs.Parts.{length_pairs}
 use Rattle.model.specs.Plan.{entry_count}
 use Rattle.rings.specs.Tables.{table}
-use Rattle.turn.proofs.Turns.{Turns, count-table, pair_is, turns-start, turns_long, turns_hit, turns-on, turns_end}
+use Rattle.turn.proofs.Turns.{count-table, pair_is, turns-start, turns_long, turns_hit, turns-on, turns_end}
 use native.Mathlib.Omega.{arith}
-use borrow.Author.Rules.{rules}
 use Rattle.turn.proofs.turn_pairs.Goals as goal
 
 pub loop-k-init : goal.loop-k-init

@@ -1,14 +1,10 @@
 -- What the loops of turn_pairs keep.
-use mathlib.Core.Path.{◌≡◌, refl, sym, ◌∙◌}
-use Prim.Native.Nat.{◌-◌, ◌/◌, ◌≤◌, ◌<◌, ◌^◌}
+use mathlib.Core.Path.{◌≡◌}
+use Prim.Native.Nat.{◌-◌, ◌<◌, ◌^◌}
 use lib.ListN.{length}
 use Rattle.lists.specs.Parts.{pairs}
-use Rattle.lists.proofs.Parts.{length_pairs}
-use Rattle.model.specs.Plan.{entry_count}
 use Rattle.rings.specs.Tables.{table}
-use Rattle.turn.proofs.Turns.{Turns, count-table, pair_is, turns-start, turns_long, turns_hit, turns-on, turns_end}
-use native.Mathlib.Omega.{arith}
-use borrow.Author.Rules.{rules}
+use Rattle.turn.proofs.Turns.{Turns}
 use Rattle.turn.proofs.turn_pairs.Given as goal
 
 abbrev pub invariant-loop-k : goal.invariant-loop-k

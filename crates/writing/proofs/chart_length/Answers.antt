@@ -1,7 +1,5 @@
 -- chart_length meets its contract.
 use Rattle.writing.proofs.Lengths.{length-chart}
-use native.Mathlib.Omega.{arith}
-use borrow.Author.Rules.{rules}
 use Rattle.writing.proofs.chart_length.Goals as goal
 
 pub returns-clause-by_index : goal.returns-clause-by_index

@@ -1,11 +1,10 @@
 -- darts_of meets its contract.
 use mathlib.Core.Path.{◌≡◌, ap, ◌∙◌}
-use Prim.Native.Nat.{◌+◌, ◌-◌, ◌*◌, ◌≤◌}
+use Prim.Native.Nat.{◌+◌}
 use Rattle.rings.specs.Tables.{start_of}
 use Rattle.rings.proofs.Rows.{start_first, start-next}
 use Rattle.writing.specs.Files.{kept, darts_held}
 use native.Mathlib.Omega.{arith}
-use borrow.Author.Rules.{rules}
 use Rattle.writing.proofs.darts_of.Goals as goal
 
 pub loop-u-init : goal.loop-u-init

@@ -1,11 +1,7 @@
 -- What the loops of darts_of keep.
-use mathlib.Core.Path.{◌≡◌, ap, ◌∙◌}
-use Prim.Native.Nat.{◌+◌, ◌-◌, ◌*◌, ◌≤◌}
+use mathlib.Core.Path.{◌≡◌}
+use Prim.Native.Nat.{◌-◌, ◌*◌, ◌≤◌}
 use Rattle.rings.specs.Tables.{start_of}
-use Rattle.rings.proofs.Rows.{start_first, start-next}
-use Rattle.writing.specs.Files.{kept, darts_held}
-use native.Mathlib.Omega.{arith}
-use borrow.Author.Rules.{rules}
 use Rattle.writing.proofs.darts_of.Given as goal
 
 abbrev pub invariant-loop-u : goal.invariant-loop-u

@@ -1,6 +1,5 @@
 -- file_length meets its contract.
 use Rattle.writing.proofs.Lengths.{length-opened, length-labelled, length-charted}
-use borrow.Author.Rules.{rules}
 use Rattle.writing.proofs.file_length.Goals as goal
 
 pub returns-in-PlanOnly : goal.returns-in-PlanOnly

@@ -1,7 +1,5 @@
 -- labels_length meets its contract.
 use Rattle.writing.proofs.Lengths.{length-labels}
-use native.Mathlib.Omega.{arith}
-use borrow.Author.Rules.{rules}
 use Rattle.writing.proofs.labels_length.Goals as goal
 
 pub returns-clause-by_index : goal.returns-clause-by_index

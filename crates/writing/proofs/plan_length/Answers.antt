@@ -1,7 +1,5 @@
 -- plan_length meets its contract.
 use Rattle.writing.proofs.Lengths.{length-plan}
-use native.Mathlib.Omega.{arith}
-use borrow.Author.Rules.{rules}
 use Rattle.writing.proofs.plan_length.Goals as goal
 
 pub returns-clause-by_index : goal.returns-clause-by_index

@@ -1,11 +1,9 @@
 -- put_bytes meets its contract.
 use mathlib.Core.Path.{refl}
-use Prim.Native.Nat.{◌+◌, ◌-◌, ◌≤◌}
+use Prim.Native.Nat.{◌+◌}
 use mathlib.Core.List.{[], ◌∷◌}
-use Rattle.lists.specs.Spans.{stretch}
-use Rattle.writing.proofs.Emits.{Emits, emits_start, emits_on, emits_end, emits_size, stretch-all, stretch-done, singles_more}
+use Rattle.writing.proofs.Emits.{emits_on, emits_end, stretch-done, singles_more}
 use native.Mathlib.Omega.{arith}
-use borrow.Author.Rules.{rules}
 use Rattle.writing.proofs.put_bytes.Goals as goal
 
 pub loop-i-preserved : goal.loop-i-preserved

@@ -1,11 +1,7 @@
 -- What the loops of put_bytes keep.
-use mathlib.Core.Path.{refl}
 use Prim.Native.Nat.{◌+◌, ◌-◌, ◌≤◌}
-use mathlib.Core.List.{[], ◌∷◌}
 use Rattle.lists.specs.Spans.{stretch}
-use Rattle.writing.proofs.Emits.{Emits, emits_start, emits_on, emits_end, emits_size, stretch-all, stretch-done, singles_more}
-use native.Mathlib.Omega.{arith}
-use borrow.Author.Rules.{rules}
+use Rattle.writing.proofs.Emits.{Emits}
 use Rattle.writing.proofs.put_bytes.Given as goal
 
 abbrev pub invariant-loop-i : goal.invariant-loop-i

@@ -1,6 +1,5 @@
 -- put_file meets its contract.
 use Rattle.writing.proofs.Pieces.{opened_join, labelled_join, charted_join}
-use borrow.Author.Rules.{rules}
 use Rattle.writing.proofs.put_file.Goals as goal
 
 pub returns-in-PlanOnly : goal.returns-in-PlanOnly

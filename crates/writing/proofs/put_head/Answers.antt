@@ -1,7 +1,6 @@
 -- put_head meets its contract.
 use Rattle.writing.proofs.Pieces.{words_join}
 use native.Mathlib.Omega.{arith}
-use borrow.Author.Rules.{rules}
 use Rattle.writing.proofs.put_head.Goals as goal
 
 pub returns : goal.returns

@@ -1,15 +1,12 @@
 -- put_points meets its contract.
 use mathlib.Core.Path.{refl}
-use Prim.Native.Nat.{◌+◌, ◌-◌, ◌*◌, ◌≤◌}
+use Prim.Native.Nat.{◌+◌, ◌*◌}
 use mathlib.Core.List.{[], ◌∷◌, ◌++◌}
-use Rattle.lists.specs.Spans.{stretch}
 use Rattle.lists.specs.Words.{bytes}
-use Rattle.model.specs.File.{points}
 use lib.ListN.{length-append}
-use Rattle.writing.proofs.Emits.{Emits, emits_start, emits_on, emits_end, emits_size, bytes_two, points_from, points-all, points-done, points-more}
+use Rattle.writing.proofs.Emits.{emits_on, emits_end, bytes_two, points-done, points-more}
 use Rattle.writing.proofs.Pieces.{sets_join}
 use native.Mathlib.Omega.{arith}
-use borrow.Author.Rules.{rules}
 use Rattle.writing.proofs.put_points.Goals as goal
 
 pub loop-j-preserved : goal.loop-j-preserved

@@ -1,7 +1,6 @@
 -- put_ring meets its contract.
 use Rattle.writing.proofs.Pieces.{ring_join}
 use native.Mathlib.Omega.{arith}
-use borrow.Author.Rules.{rules}
 use Rattle.writing.proofs.put_ring.Goals as goal
 
 pub returns : goal.returns

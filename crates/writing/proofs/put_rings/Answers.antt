@@ -1,6 +1,6 @@
 -- put_rings meets its contract.
 use mathlib.Core.Path.{◌≡◌, refl, ap, ◌∙◌}
-use Prim.Native.Nat.{ℕ, ◌+◌, ◌-◌, ◌*◌, ◌≤◌}
+use Prim.Native.Nat.{ℕ, ◌+◌, ◌-◌}
 use lib.Seq.{sets}
 use mathlib.Core.List.{map}
 use Rattle.lists.specs.Ranges.{from}
@@ -9,12 +9,10 @@ use Rattle.lists.proofs.Words.{length-bytes}
 use Rattle.lists.specs.Spans.{stretch}
 use Rattle.lists.specs.Words.{bytes}
 use Rattle.model.specs.File.{entry, rings_out}
-use Rattle.rings.specs.Tables.{start_of}
 use Rattle.rings.proofs.Rows.{start_first, start-next}
-use Rattle.writing.proofs.Emits.{Emits, emits_start, emits_on, emits_end, emits_size, rings-more, rings-done}
+use Rattle.writing.proofs.Emits.{emits_start, emits_on, emits_end, rings-more, rings-done}
 use Rattle.writing.proofs.Pieces.{table_row, table-rings, table-row}
 use native.Mathlib.Omega.{arith}
-use borrow.Author.Rules.{rules}
 use Rattle.model.proofs.FileWrite.{length-entry}
 use Rattle.writing.proofs.put_rings.Goals as goal
 

@@ -1,21 +1,12 @@
 -- What the loops of put_rings keep.
-use mathlib.Core.Path.{◌≡◌, refl, ap, ◌∙◌}
-use Prim.Native.Nat.{ℕ, ◌+◌, ◌-◌, ◌*◌, ◌≤◌}
-use lib.Seq.{sets}
+use mathlib.Core.Path.{◌≡◌}
+use Prim.Native.Nat.{◌+◌, ◌-◌, ◌*◌, ◌≤◌}
 use mathlib.Core.List.{map}
 use Rattle.lists.specs.Ranges.{from}
-use Rattle.lists.proofs.Spans.{length-stretch}
-use Rattle.lists.proofs.Words.{length-bytes}
-use Rattle.lists.specs.Spans.{stretch}
-use Rattle.lists.specs.Words.{bytes}
-use Rattle.model.specs.File.{entry, rings_out}
+use Rattle.model.specs.File.{rings_out}
 use Rattle.rings.specs.Tables.{start_of}
-use Rattle.rings.proofs.Rows.{start_first, start-next}
-use Rattle.writing.proofs.Emits.{Emits, emits_start, emits_on, emits_end, emits_size, rings-more, rings-done}
-use Rattle.writing.proofs.Pieces.{table_row, table-rings, table-row}
-use native.Mathlib.Omega.{arith}
-use borrow.Author.Rules.{rules}
-use Rattle.model.proofs.FileWrite.{length-entry}
+use Rattle.writing.proofs.Emits.{Emits}
+use Rattle.writing.proofs.Pieces.{table_row}
 use Rattle.writing.proofs.put_rings.Given as goal
 
 abbrev pub invariant-loop-u : goal.invariant-loop-u

@@ -4,7 +4,6 @@ use Prim.Native.Nat.{suc, ◌+◌, ◌/◌}
 use lib.ListN.{set}
 use Rattle.lists.specs.Words.{bytes}
 use native.Mathlib.Omega.{arith}
-use borrow.Author.Rules.{rules}
 use Rattle.writing.proofs.put_word.Goals as goal
 
 pub returns : goal.returns

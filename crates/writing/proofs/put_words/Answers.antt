@@ -1,12 +1,10 @@
 -- put_words meets its contract.
-use mathlib.Core.Path.{refl, ap}
-use Prim.Native.Nat.{◌+◌, ◌-◌, ◌*◌, ◌≤◌}
+use mathlib.Core.Path.{refl}
+use Prim.Native.Nat.{◌+◌}
 use mathlib.Core.List.{[], ◌∷◌}
-use Rattle.lists.specs.Spans.{stretch}
 use Rattle.lists.specs.Words.{bytes}
-use Rattle.writing.proofs.Emits.{Emits, emits_start, emits_on, emits_end, emits_size, bytes_two, stretch-all, words-done, words_more}
+use Rattle.writing.proofs.Emits.{emits_on, emits_end, bytes_two, words-done, words_more}
 use native.Mathlib.Omega.{arith}
-use borrow.Author.Rules.{rules}
 use Rattle.writing.proofs.put_words.Goals as goal
 
 pub loop-j-preserved : goal.loop-j-preserved

@@ -1,12 +1,8 @@
 -- What the loops of put_words keep.
-use mathlib.Core.Path.{refl, ap}
 use Prim.Native.Nat.{◌+◌, ◌-◌, ◌*◌, ◌≤◌}
-use mathlib.Core.List.{[], ◌∷◌}
 use Rattle.lists.specs.Spans.{stretch}
 use Rattle.lists.specs.Words.{bytes}
-use Rattle.writing.proofs.Emits.{Emits, emits_start, emits_on, emits_end, emits_size, bytes_two, stretch-all, words-done, words_more}
-use native.Mathlib.Omega.{arith}
-use borrow.Author.Rules.{rules}
+use Rattle.writing.proofs.Emits.{Emits}
 use Rattle.writing.proofs.put_words.Given as goal
 
 abbrev pub invariant-loop-j : goal.invariant-loop-j

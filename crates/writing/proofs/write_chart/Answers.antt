@@ -1,7 +1,6 @@
 -- write_chart meets its contract.
 use Rattle.writing.proofs.Pieces.{chart_join}
 use native.Mathlib.Omega.{arith}
-use borrow.Author.Rules.{rules}
 use Rattle.writing.proofs.write_chart.Goals as goal
 
 pub returns : goal.returns

@@ -1,7 +1,6 @@
 -- write_file meets its contract.
 use Rattle.writing.proofs.Pieces.{accepted_answer, refused_answer}
 use native.Mathlib.Omega.{arith}
-use borrow.Author.Rules.{rules}
 use Rattle.writing.proofs.write_file.Goals as goal
 
 pub returns-then-out-need-clause-out_after : goal.returns-then-out-need-clause-out_after

@@ -1,7 +1,6 @@
 -- write_labels meets its contract.
 use Rattle.writing.proofs.Pieces.{labels_join}
 use native.Mathlib.Omega.{arith}
-use borrow.Author.Rules.{rules}
 use Rattle.writing.proofs.write_labels.Goals as goal
 
 pub returns : goal.returns

@@ -1,7 +1,6 @@
 -- write_plan meets its contract.
 use Rattle.writing.proofs.Pieces.{plan_join}
 use native.Mathlib.Omega.{arith}
-use borrow.Author.Rules.{rules}
 use Rattle.writing.proofs.write_plan.Goals as goal
 
 pub returns : goal.returns

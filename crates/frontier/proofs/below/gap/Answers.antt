@@ -1,14 +1,11 @@
 -- gap meets its contract.
-use mathlib.Core.Path.{◌≡◌, refl, sym, ap, ◌∙◌}
-use Prim.Native.Nat.{ℕ, ◌-◌, ◌≤◌, ◌<◌}
+use mathlib.Core.Path.{sym, ap, ◌∙◌}
+use Prim.Native.Nat.{ℕ, ◌-◌}
 use native.Mathlib.Omega.{arith}
-use lib.ListN.{length}
-use borrow.Author.Rules.{rules}
 use Rattle.model.specs.Plan.{ring}
 use Rattle.rings.specs.Tables.{rows}
 use Rattle.rings.proofs.Rows.{ring-size}
-use Rattle.frontier.proofs.Moves.{turned_long, Gaps, gap-start, gap_hit, gap-on, gap_end}
-use Rattle.frontier.specs.Run.{turned_at}
+use Rattle.frontier.proofs.Moves.{turned_long, gap-start}
 use Rattle.frontier.proofs.below.gap.Goals as goal
 
 pub loop-t-init : goal.loop-t-init

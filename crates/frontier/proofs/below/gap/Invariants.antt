@@ -1,13 +1,10 @@
 -- What the loops of gap keep.
-use mathlib.Core.Path.{◌≡◌, refl, sym, ap, ◌∙◌}
-use Prim.Native.Nat.{ℕ, ◌-◌, ◌≤◌, ◌<◌}
-use native.Mathlib.Omega.{arith}
+use mathlib.Core.Path.{◌≡◌}
+use Prim.Native.Nat.{◌-◌, ◌≤◌, ◌<◌}
 use lib.ListN.{length}
-use borrow.Author.Rules.{rules}
 use Rattle.model.specs.Plan.{ring}
 use Rattle.rings.specs.Tables.{rows}
-use Rattle.rings.proofs.Rows.{ring-size}
-use Rattle.frontier.proofs.Moves.{turned_long, Gaps, gap-start, gap_hit, gap-on, gap_end}
+use Rattle.frontier.proofs.Moves.{Gaps}
 use Rattle.frontier.specs.Run.{turned_at}
 use Rattle.frontier.proofs.below.gap.Given as goal
 

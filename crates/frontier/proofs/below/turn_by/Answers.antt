@@ -1,6 +1,5 @@
 -- turn_by meets its contract.
 use mathlib.Core.Path.{◌∙◌}
-use borrow.Author.Rules.{rules}
 use Rattle.rings.specs.Tables.{rows}
 use Rattle.places.specs.Places.{index_by}
 use Rattle.frontier.specs.Run as run

@@ -2,7 +2,6 @@
 use mathlib.Core.Path.{sym}
 use Rattle.labels.proofs.Rounds.{weight_same, weight_high, weight_one, weight_other}
 use native.Mathlib.Omega.{arith}
-use borrow.Author.Rules.{rules}
 use Rattle.labels.proofs.runs.change_weight.Goals as goal
 
 pub returns-then-a-b-clause-value : goal.returns-then-a-b-clause-value

@@ -1,10 +1,8 @@
 -- four_runs meets its contract.
 use mathlib.Core.Path.{refl, ap, ◌∙◌}
-use Prim.Native.Nat.{◌-◌}
 use Rattle.model.specs.Labels.{four_runs}
-use Rattle.labels.proofs.Rounds.{Weighs, weighs_start, weighs_on, weighs_heavy, weighs_end, slice_end, runs_none}
+use Rattle.labels.proofs.Rounds.{weighs_start, weighs_on, weighs_heavy, weighs_end, slice_end, runs_none}
 use native.Mathlib.Omega.{arith}
-use borrow.Author.Rules.{rules}
 use Rattle.labels.proofs.runs.four_runs.Goals as goal
 
 pub returns-then-end-a : goal.returns-then-end-a

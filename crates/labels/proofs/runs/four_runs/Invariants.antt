@@ -1,10 +1,6 @@
 -- What the loops of four_runs keep.
-use mathlib.Core.Path.{refl, ap, ◌∙◌}
 use Prim.Native.Nat.{◌-◌}
-use Rattle.model.specs.Labels.{four_runs}
-use Rattle.labels.proofs.Rounds.{Weighs, weighs_start, weighs_on, weighs_heavy, weighs_end, slice_end, runs_none}
-use native.Mathlib.Omega.{arith}
-use borrow.Author.Rules.{rules}
+use Rattle.labels.proofs.Rounds.{Weighs}
 use Rattle.labels.proofs.runs.four_runs.Given as goal
 
 abbrev pub invariant-loop-i : goal.invariant-loop-i

@@ -2,7 +2,6 @@
 use mathlib.Core.Path.{sym, ap, ◌∙◌}
 use Prim.Native.Nat.{ℕ}
 use lib.ListN.{set}
-use borrow.Author.Rules.{rules}
 use Rattle.pairs.proofs.Moves.{push_noted}
 use Rattle.frontier.specs.Run as lines
 use Rattle.pairs.specs.Run as run

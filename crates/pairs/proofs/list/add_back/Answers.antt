@@ -1,10 +1,10 @@
 -- add_back meets its contract.
-use mathlib.Core.Path.{◌≡◌, refl, sym, ap, ◌∙◌}
-use Prim.Native.Nat.{ℕ, ◌-◌}
-use lib.ListN.{get_or, length}
+use mathlib.Core.Path.{◌≡◌, sym, ap, ◌∙◌}
+use Prim.Native.Nat.{◌-◌}
+use lib.ListN.{get_or}
 use borrow.Author.Tests.{eq-eqb, ne_eqb}
 use Rattle.rings.specs.Tables.{rows}
-use Rattle.lists.proofs.Folds.{Sinks, sinks_from, sinks_on, sinks_end}
+use Rattle.lists.proofs.Folds.{sinks_on, sinks_end}
 use Rattle.frontier.specs.Run as lines
 use Rattle.pairs.specs.Run as run
 use native.Mathlib.Omega.{arith}

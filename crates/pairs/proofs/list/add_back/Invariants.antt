@@ -1,16 +1,12 @@
 -- What the loops of add_back keep.
-use mathlib.Core.Path.{◌≡◌, refl, sym, ap, ◌∙◌}
-use Prim.Native.Nat.{ℕ, ◌-◌}
+use mathlib.Core.Path.{◌≡◌}
+use Prim.Native.Nat.{ℕ}
 use lib.ListN.{get_or, length}
-use borrow.Author.Tests.{eq-eqb, ne_eqb}
 use Rattle.rings.specs.Tables.{rows}
-use Rattle.lists.proofs.Folds.{Sinks, sinks_from, sinks_on, sinks_end}
+use Rattle.lists.proofs.Folds.{Sinks}
 use Rattle.frontier.specs.Run as lines
 use Rattle.pairs.specs.Run as run
-use native.Mathlib.Omega.{arith}
-use borrow.Author.Rules.{rules}
 use Rattle.model.specs.Plan.{ring}
-use Rattle.pairs.proofs.Moves.{depth_by}
 use Rattle.pairs.proofs.list.add_back.Given as goal
 
 abbrev pub invariant-loop-t : goal.invariant-loop-t

@@ -2,7 +2,6 @@
 use Rattle.rings.specs.Tables.{rows}
 use Rattle.pairs.proofs.Moves.{below_on, below-off}
 use Rattle.frontier.specs.Run as lines
-use borrow.Author.Rules.{rules}
 use Rattle.pairs.proofs.list.add_below.Goals as goal
 
 pub returns-then-list : goal.returns-then-list

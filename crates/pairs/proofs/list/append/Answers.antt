@@ -1,11 +1,8 @@
 -- append meets its contract.
-use mathlib.Core.Path.{◌≡◌, refl, ap, ◌∙◌}
-use mathlib.Core.List.{List}
-use Prim.Native.Nat.{ℕ, ◌-◌}
+use mathlib.Core.Path.{ap, ◌∙◌}
 use native.Mathlib.Omega.{arith}
-use lib.ListN.{length, get_or}
 use borrow.Author.Rules.{rules}
-use Rattle.lists.proofs.Folds.{Goes, goes_start, goes_on, goes_end}
+use Rattle.lists.proofs.Folds.{goes_on, goes_end}
 use Rattle.frontier.specs.Run as lines
 use Rattle.pairs.specs.Run as run
 use Rattle.pairs.proofs.list.append.Goals as goal

@@ -1,13 +1,10 @@
 -- What the loops of append keep.
-use mathlib.Core.Path.{◌≡◌, refl, ap, ◌∙◌}
+use mathlib.Core.Path.{◌≡◌}
 use mathlib.Core.List.{List}
 use Prim.Native.Nat.{ℕ, ◌-◌}
-use native.Mathlib.Omega.{arith}
 use lib.ListN.{length, get_or}
-use borrow.Author.Rules.{rules}
-use Rattle.lists.proofs.Folds.{Goes, goes_start, goes_on, goes_end}
+use Rattle.lists.proofs.Folds.{Goes}
 use Rattle.frontier.specs.Run as lines
-use Rattle.pairs.specs.Run as run
 use Rattle.pairs.proofs.list.append.Given as goal
 
 abbrev pub invariant-loop-k : goal.invariant-loop-k

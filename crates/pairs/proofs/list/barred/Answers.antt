@@ -1,6 +1,5 @@
 -- barred meets its contract.
 use native.Mathlib.Omega.{arith}
-use borrow.Author.Rules.{rules}
 use borrow.Author.Tests.{lt-ltb, le-ltb}
 use Rattle.pairs.specs.Run as run
 use Rattle.pairs.proofs.list.barred.Goals as goal

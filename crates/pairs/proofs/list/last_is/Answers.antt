@@ -1,6 +1,5 @@
 -- last_is meets its contract.
 use native.Mathlib.Omega.{arith}
-use borrow.Author.Rules.{rules}
 use borrow.Author.Tests.{eq-eqb, ne_eqb}
 use Rattle.pairs.specs.Run as run
 use Rattle.pairs.proofs.list.last_is.Goals as goal

@@ -1,10 +1,5 @@
 -- listed meets its contract.
-use mathlib.Core.Path.{◌≡◌, refl}
-use Prim.Native.Nat.{◌-◌}
-use lib.ListN.{length}
-use Rattle.rings.specs.Tables.{rows}
-use Rattle.lists.proofs.Folds.{Goes, goes_start, goes_on, goes_end}
-use Rattle.frontier.specs.Run as lines
+use Rattle.lists.proofs.Folds.{goes_on, goes_end}
 use Rattle.pairs.specs.Run as run
 use native.Mathlib.Omega.{arith}
 use borrow.Author.Rules.{rules}

@@ -1,13 +1,11 @@
 -- What the loops of listed keep.
-use mathlib.Core.Path.{◌≡◌, refl}
+use mathlib.Core.Path.{◌≡◌}
 use Prim.Native.Nat.{◌-◌}
 use lib.ListN.{length}
 use Rattle.rings.specs.Tables.{rows}
-use Rattle.lists.proofs.Folds.{Goes, goes_start, goes_on, goes_end}
+use Rattle.lists.proofs.Folds.{Goes}
 use Rattle.frontier.specs.Run as lines
 use Rattle.pairs.specs.Run as run
-use native.Mathlib.Omega.{arith}
-use borrow.Author.Rules.{rules}
 use Rattle.pairs.proofs.list.listed.Given as goal
 
 abbrev pub invariant-loop-k : goal.invariant-loop-k

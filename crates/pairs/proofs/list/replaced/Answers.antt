@@ -1,8 +1,6 @@
 -- replaced meets its contract.
 use mathlib.Core.Path.{ap, ◌∙◌}
-use Rattle.frontier.specs.Run as lines
 use Rattle.pairs.specs.Run as run
-use borrow.Author.Rules.{rules}
 use Rattle.pairs.proofs.list.replaced.Goals as goal
 
 pub returns : goal.returns

@@ -1,8 +1,6 @@
 -- What the loops of chain keep.
 use mathlib.Core.Path.{◌≡◌}
 use lib.ListN.{length}
-use native.Mathlib.Omega.{arith}
-use borrow.Author.Rules.{rules}
 use Rattle.solver.proofs.first.chain.Given as goal
 
 abbrev pub invariant-loop-k : goal.invariant-loop-k

@@ -1,8 +1,6 @@
 -- first_pass meets its contract.
 use mathlib.Core.Path.{refl}
 use Rattle.solver.proofs.Relax.{raised-start}
-use native.Mathlib.Omega.{arith}
-use borrow.Author.Rules.{rules}
 use Rattle.solver.proofs.first.first_pass.Goals as goal
 
 pub follow-requires-clause-raised : goal.follow-requires-clause-raised

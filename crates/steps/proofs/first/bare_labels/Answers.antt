@@ -1,13 +1,10 @@
 -- bare_labels meets its contract.
-use mathlib.Core.Path.{◌≡◌, refl, sym, ◌∙◌}
-use Prim.Native.Nat.{◌-◌, ◌≤◌}
+use mathlib.Core.Path.{refl, sym, ◌∙◌}
 use native.Mathlib.Omega.{arith}
-use lib.ListN.{length}
 use borrow.Author.Rules.{rules}
 use Rattle.lists.specs.Spans.{zeros}
-use Rattle.rings.specs.Tables.{rows}
 use Rattle.rings.proofs.Rows.{ring-size, count-rows}
-use Rattle.steps.proofs.Unlabelled.{Filled, filled-start, filled_on, filled_end, filled-room}
+use Rattle.steps.proofs.Unlabelled.{filled-start, filled_on, filled_end, filled-room}
 use Rattle.steps.proofs.first.bare_labels.Goals as goal
 
 pub loop-u-init : goal.loop-u-init

@@ -1,13 +1,9 @@
 -- What the loops of bare_labels keep.
-use mathlib.Core.Path.{◌≡◌, refl, sym, ◌∙◌}
+use mathlib.Core.Path.{◌≡◌}
 use Prim.Native.Nat.{◌-◌, ◌≤◌}
-use native.Mathlib.Omega.{arith}
 use lib.ListN.{length}
-use borrow.Author.Rules.{rules}
-use Rattle.lists.specs.Spans.{zeros}
 use Rattle.rings.specs.Tables.{rows}
-use Rattle.rings.proofs.Rows.{ring-size, count-rows}
-use Rattle.steps.proofs.Unlabelled.{Filled, filled-start, filled_on, filled_end, filled-room}
+use Rattle.steps.proofs.Unlabelled.{Filled}
 use Rattle.steps.proofs.first.bare_labels.Given as goal
 
 abbrev pub invariant-loop-u : goal.invariant-loop-u

@@ -1,12 +1,9 @@
 -- bare_ring meets its contract.
-use mathlib.Core.Path.{◌≡◌, refl, sym, ap, ◌∙◌}
-use Prim.Native.Nat.{◌-◌, ◌<◌}
+use mathlib.Core.Path.{refl, sym, ap, ◌∙◌}
 use native.Mathlib.Omega.{arith}
-use lib.ListN.{length}
 use borrow.Author.Rules.{rules}
-use Rattle.rings.specs.Tables.{rows}
 use Rattle.rings.proofs.Rows.{ring-size}
-use Rattle.steps.proofs.Unlabelled.{Adding, adding_start, adding_on, adding_end}
+use Rattle.steps.proofs.Unlabelled.{adding_on, adding_end}
 use Rattle.steps.specs.Run as run
 use Rattle.steps.proofs.first.bare_ring.Goals as goal
 

@@ -1,13 +1,9 @@
 -- What the loops of bare_ring keep.
-use mathlib.Core.Path.{◌≡◌, refl, sym, ap, ◌∙◌}
+use mathlib.Core.Path.{◌≡◌}
 use Prim.Native.Nat.{◌-◌, ◌<◌}
-use native.Mathlib.Omega.{arith}
 use lib.ListN.{length}
-use borrow.Author.Rules.{rules}
 use Rattle.rings.specs.Tables.{rows}
-use Rattle.rings.proofs.Rows.{ring-size}
-use Rattle.steps.proofs.Unlabelled.{Adding, adding_start, adding_on, adding_end}
-use Rattle.steps.specs.Run as run
+use Rattle.steps.proofs.Unlabelled.{Adding}
 use Rattle.steps.proofs.first.bare_ring.Given as goal
 
 abbrev pub invariant-loop-t : goal.invariant-loop-t

@@ -1,11 +1,6 @@
 -- descend meets its contract.
-use mathlib.Core.Path.{◌≡◌, refl}
-use mathlib.Core.Bool.{true}
-use lib.ListN.{length}
+use mathlib.Core.Path.{refl}
 use Rattle.lists.specs.Spans.{zeros}
-use Rattle.rings.specs.Tables.{rows}
-use Rattle.frontier.specs.Run as lines
-use Rattle.steps.specs.Run.{Running}
 use Rattle.steps.proofs.Steps.{running_done, running_stuck, found_inside, running_on, running_out}
 use native.Mathlib.Omega.{arith}
 use borrow.Author.Rules.{rules}
@@ -20,10 +15,10 @@ pub returns-in_default : goal.returns-in_default
 returns-in_default c = running_stuck c.requires.guide c.loop-k.invariant.0 c.choose-found.result _ (omega arith) c.is_unfinished.ensures (ap not c.if-not-is_unfinished.false) c.choose-found.ensures c.in_default.is
 
 pub take_step-m-requires-clause-i_bound : goal.take_step-m-requires-clause-i_bound
-take_step-m-requires-clause-i_bound c =  (found_inside c.requires.guide c.loop-k.invariant.0 c.choose-found.result c.choose-found.ensures c.in-At.is).0
+take_step-m-requires-clause-i_bound c = (found_inside c.requires.guide c.loop-k.invariant.0 c.choose-found.result c.choose-found.ensures c.in-At.is).0
 
 pub take_step-m-requires-clause-j_bound : goal.take_step-m-requires-clause-j_bound
-take_step-m-requires-clause-j_bound c =  (found_inside c.requires.guide c.loop-k.invariant.0 c.choose-found.result c.choose-found.ensures c.in-At.is).1
+take_step-m-requires-clause-j_bound c = (found_inside c.requires.guide c.loop-k.invariant.0 c.choose-found.result c.choose-found.ensures c.in-At.is).1
 
 pub loop-k-preserved : goal.loop-k-preserved
 unfolding zeros

@@ -1,14 +1,10 @@
 -- What the loops of descend keep.
-use mathlib.Core.Path.{◌≡◌, refl}
+use mathlib.Core.Path.{◌≡◌}
 use mathlib.Core.Bool.{true}
 use lib.ListN.{length}
-use Rattle.lists.specs.Spans.{zeros}
 use Rattle.rings.specs.Tables.{rows}
 use Rattle.frontier.specs.Run as lines
 use Rattle.steps.specs.Run.{Running}
-use Rattle.steps.proofs.Steps.{running_done, running_stuck, found_inside, running_on, running_out}
-use native.Mathlib.Omega.{arith}
-use borrow.Author.Rules.{rules}
 use Rattle.steps.proofs.step.descend.Given as goal
 
 abbrev pub invariant-loop-k : goal.invariant-loop-k

@@ -2,7 +2,6 @@
 use mathlib.Core.Path.{ap, ◌∙◌}
 use mathlib.Core.List.{[], ◌∷◌}
 use Prim.Native.Nat.{ℕ}
-use borrow.Author.Rules.{rules}
 use Rattle.lists.specs.Spans.{stretch, span}
 use Rattle.lists.specs.Parts.{steps}
 use Rattle.model.specs.Labels.{up, right}

@@ -12,7 +12,6 @@ use Rattle.edges.proofs.Guided.{edges_guided}
 use Rattle.steps.proofs.Arrays.{size-le}
 use Rattle.steps.proofs.Steps.{running_start}
 use native.Mathlib.Omega.{arith}
-use borrow.Author.Rules.{rules}
 use Rattle.steps.specs.Run as run
 use Rattle.steps.proofs.step.run.Goals as goal
 

@@ -7,7 +7,6 @@ use Rattle.model.specs.Labels.{up, right}
 use Rattle.model.specs.Sweep.{label_edges}
 use Rattle.edges.proofs.Guided.{edges_guided}
 use Rattle.steps.specs.Run as run
-use borrow.Author.Rules.{rules}
 use Rattle.steps.proofs.step.step_labels.Goals as goal
 
 pub returns : goal.returns

@@ -2,8 +2,6 @@
 use mathlib.Core.Path.{refl, ◌∙◌}
 use Rattle.lists.specs.Spans.{zeros}
 use Rattle.steps.proofs.Steps.{stepped}
-use native.Mathlib.Omega.{arith}
-use borrow.Author.Rules.{rules}
 use Rattle.pairs.proofs.Moves.{listing-own, replaced-own}
 use Rattle.steps.proofs.step.take_step.Goals as goal
 

@@ -1,0 +1,11 @@
+-- What the loops of numbers_of keep.
+use mathlib.Core.Path.{◌≡◌}
+use Prim.Native.Nat.{◌-◌, ◌≤◌}
+use lib.ListN.{length}
+use Rattle.trial_calls.proofs.numbers_of.Given as goal
+
+abbrev pub invariant-loop-i : goal.invariant-loop-i
+invariant-loop-i l = (4096 ≡ length l.numbers) × (l.i ≤ 4096)
+
+abbrev pub decreases-loop-i : goal.decreases-loop-i
+decreases-loop-i l = 4096 - l.i
