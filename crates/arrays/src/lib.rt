@@ -1,25 +1,74 @@
 // Total accessors of lent arrays, for the code of every crate above: what lies outside an array reads as 0, and nothing is put there.
 #![tactic(auto)]
 
-ghost use Rattle.std.specs.Prelude.{◌≡◌, ◌+◌, ◌*◌, ◌<◌, ◌^◌, get_or, set};
+ghost use Rattle.std.specs.Prelude.{◌≡◌, ℕ, ◌+◌, ◌*◌, ◌<◌, ◌^◌, get_or, set, refl};
+ghost use Rattle.std.proofs.Common.{rules};
 ghost use Rattle.arrays.specs.Parts.{part_at};
 
-use numbers::{wide_byte, wide_word};
+// What an array holds as a number: a byte, or a number of two bytes.
+pub trait Number: Copy {
+    // what is read outside an array
+    ghost nothing: { Self };
 
-// The byte at i.
-pub fn byte(a: &[u8], i: usize) -> usize
-    ensures value { result ≡ get_or a.now i 0 }
-    ensures upper_bound { result < 2 ^ 8 }
-{
-    if i < a.len() { wide_byte(a[i]) } else { 0 }
+    // the number that stands there
+    ghost value: { Self → ℕ };
+
+    // the power of two that it is below
+    ghost bound: { ℕ };
+
+    fn zero() -> Self
+        ensures { result ≡ nothing };
+
+    fn number(self) -> usize
+        ensures value { result ≡ value self }
+        ensures upper_bound { result < bound };
+
+    // outside an array stands 0, which is below the bound
+    ghost nothing_is_0: { (value nothing ≡ 0) × (0 < bound) };
+}
+
+impl Number for u8 {
+    ghost nothing = { 0 };
+
+    ghost value = { λ x. x };
+
+    ghost bound = { 2 ^ 8 };
+
+    ghost nothing_is_0 = { (refl, Prim.search rules) };
+
+    fn zero() -> Self {
+        0u8
+    }
+
+    fn number(self) -> usize {
+        usize::from(self)
+    }
+}
+
+impl Number for u16 {
+    ghost nothing = { 0 };
+
+    ghost value = { λ x. x };
+
+    ghost bound = { 2 ^ 16 };
+
+    ghost nothing_is_0 = { (refl, Prim.search rules) };
+
+    fn zero() -> Self {
+        0u16
+    }
+
+    fn number(self) -> usize {
+        usize::from(self)
+    }
 }
 
 // The number at i.
-pub fn num(a: &[u16], i: usize) -> usize
-    ensures value { result ≡ get_or a.now i 0 }
-    ensures upper_bound { result < 2 ^ 16 }
+pub fn num<T: Number>(a: &[T], i: usize) -> usize
+    ensures value { result ≡ T.value (get_or a.now i T.nothing) }
+    ensures upper_bound { result < T.bound }
 {
-    if i < a.len() { wide_word(a[i]) } else { 0 }
+    if i < a.len() { a[i].number() } else { 0 }
 }
 
 // The number of two bytes, little-endian, at i.
@@ -28,7 +77,7 @@ pub fn word_at(a: &[u8], i: usize) -> usize
     ensures upper_bound { result < 2 ^ 16 }
 {
     if i < a.len() {
-        byte(a, i) + 256 * byte(a, i + 1)
+        num(a, i) + 256 * num(a, i + 1)
     } else {
         0
     }
@@ -41,17 +90,8 @@ pub fn word(a: &[u16], i: usize) -> u16
     if i < a.len() { a[i] } else { 0 }
 }
 
-// Puts a byte at a place; past the end there is nothing to put.
-pub fn set_byte(a: &mut [u8], place: usize, x: u8)
-    ensures { a.new ≡ set a.old place x }
-{
-    if place < a.len() {
-        a[place] = x;
-    }
-}
-
-// Puts a number of two bytes at a place; past the end there is nothing to put.
-pub fn set_word(a: &mut [u16], at: usize, x: u16)
+// Puts a number at a place; past the end there is nothing to put.
+pub fn put<T: Number>(a: &mut [T], at: usize, x: T)
     ensures { a.new ≡ set a.old at x }
 {
     if at < a.len() {

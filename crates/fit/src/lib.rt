@@ -4,20 +4,20 @@
 ghost use Rattle.std.specs.Prelude.{◌≡◌, min, ◌<◌, ◌^◌, leb};
 ghost use Rattle.lists.specs.Tests.{any};
 ghost use Rattle.lists.specs.Spans.{span};
-ghost use Rattle.rings.specs.Tables.{start_of, table, in_bounds};
+ghost use Rattle.rings.specs.Tables.{start_of, table_of, in_bounds};
 ghost use Rattle.fit.specs.Fits.{strange, fit};
+
+use rings::Table;
 
 // How many entries the first n rings have; of more than 200 rings, the first 200.
 pub fn total_of(sizes: &[u8], n: usize) -> usize
     ensures value { result ≡ start_of sizes.now (min n 200) }
     ensures upper_bound { result < 2 ^ 16 }
 {
-    let m = numbers::lesser(n, 200);
+    let m = n.min(200);
     let mut sum = 0;
-    let mut u = 0;
-    while u < m {
-        sum += arrays::byte(sizes, u);
-        u += 1;
+    for u in 0..m {
+        sum += arrays::num(sizes, u);
     }
     sum
 }
@@ -33,26 +33,24 @@ pub fn is_in_bounds(sizes: &[u8], n: usize) -> bool
 fn any_strange(entries: &[u16], k: usize, n: usize) -> bool
     ensures { result ≡ any (strange n) (span entries.now 0 k) }
 {
-    let mut i = 0;
-    while i < k {
+    for i in 0..k {
         if n <= rings::neighbour_of(arrays::num(entries, i)) {
             return true;
         }
-        i += 1;
     }
     false
 }
 
 // Does the plan fit?
-pub fn is_fit<'a>(sizes: &'a [u8], entries: &'a [u16], n: usize) -> bool
-    ensures { result ≡ fit (table sizes.now entries.now n) }
+pub fn is_fit(plan: &Table) -> bool
+    ensures { result ≡ fit (table_of plan.now) }
 {
-    if 200 < n {
+    if 200 < plan.n {
         return false;
     }
-    let total = total_of(sizes, n);
+    let total = total_of(plan.sizes, plan.n);
     if 1186 < total {
         return false;
     }
-    !any_strange(entries, total, n)
+    !any_strange(plan.entries, total, plan.n)
 }

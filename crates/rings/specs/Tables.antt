@@ -3,6 +3,8 @@ use Rattle.std.specs.Prelude.{ℕ, ◌+◌, min, List, [], ◌∷◌, map, Bool,
 use Rattle.lists.specs.Ranges.{from}
 use Rattle.lists.specs.Spans.{stretch}
 use Rattle.model.specs.Plan.{Plan}
+use Rattle.rings.specs.declared.Table as tables
+use Rattle.rings.specs.declared.Rings as rings
 
 -- the sum of a list
 unfoldable pub sum_of : List ℕ → ℕ
@@ -36,3 +38,11 @@ held sizes es n = table sizes es (min n 200)
 -- the rings fit into the arrays: at most 200 of them, with at most 1186 entries, as many as an accepted plan can have
 unfoldable pub in_bounds : List ℕ → ℕ → Bool
 in_bounds sizes n = leb n 200 && leb (start_of sizes n) 1186
+
+-- the plan of a table
+abbrev pub table_of : tables.Table → Plan
+table_of t = table t.sizes.now t.entries.now t.n
+
+-- the plan of rings in flat arrays
+abbrev pub plan_of : rings.Rings → Plan
+plan_of r = rows r.starts.now r.sizes.now r.entries.now r.n

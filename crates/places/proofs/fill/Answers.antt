@@ -6,27 +6,23 @@ use native.Mathlib.Omega.{arith}
 use Rattle.places.proofs.fill.Goals as goal
 
 pub loop-u-init : goal.loop-u-init
-loop-u-init c = (omega arith, omega arith, notes_start)
+loop-u-init c = notes_start
 
-pub loop-u-preserved-then-i-size_of : goal.loop-u-preserved-then-i-size_of
-loop-u-preserved-then-i-size_of c =
+pub loop-i-preserved : goal.loop-i-preserved
+loop-i-preserved c =
     let a = c.args in
-    let l = c.loop-u in
-    let fit = c.lesser-m.ensures in
-    let size = c.size_of.ensures.value ∙ sym (ring-size a.starts.now a.sizes.now a.entries.now a.n l.u) in
-    let most = c.size_of.ensures.upper_bound in
-    (l.invariant.0, omega arith, notes_on l.invariant.2 (omega arith) (omega arith) c.neighbour_at-v.ensures (omega arith) refl c.note.ensures)
+    let fit = c.min-m.ensures in
+    let size = c.size_of-i-end.ensures.value ∙ sym (ring-size a.rings.now.starts.now a.rings.now.sizes.now a.rings.now.entries.now a.rings.now.n c.loop-u.u) in
+    notes_on c.loop-i.invariant (omega arith) (omega arith) c.neighbour_at.ensures (omega arith) refl c.note.ensures
 
 pub loop-u-preserved : goal.loop-u-preserved
 loop-u-preserved c =
     let a = c.args in
-    let l = c.loop-u in
-    let size = c.size_of.ensures.value ∙ sym (ring-size a.starts.now a.sizes.now a.entries.now a.n l.u) in
-    (omega arith, omega arith, notes_next l.invariant.2 (omega arith) (omega arith))
+    let size = c.size_of-i-end.ensures.value ∙ sym (ring-size a.rings.now.starts.now a.rings.now.sizes.now a.rings.now.entries.now a.rings.now.n c.loop-u.u) in
+    notes_next c.loop-i.invariant (omega arith) (omega arith)
 
 pub returns : goal.returns
 returns c =
     let a = c.args in
-    let l = c.loop-u in
-    let fit = c.lesser-m.ensures in
-    notes_end l.invariant.2 (λ k h b. ring-size a.starts.now a.sizes.now a.entries.now a.n k ∙ size_outside a.sizes.now a.n k (omega arith))
+    let fit = c.min-m.ensures in
+    notes_end c.loop-u.invariant (λ k h b. ring-size a.rings.now.starts.now a.rings.now.sizes.now a.rings.now.entries.now a.rings.now.n k ∙ size_outside a.rings.now.sizes.now a.rings.now.n k (omega arith))

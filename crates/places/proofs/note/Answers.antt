@@ -12,13 +12,13 @@ returns-then-u-ge200 c = let a = c.args in sym (noted-high a.table.now a.u a.v a
 pub returns-then-v-ge200 : goal.returns-then-v-ge200
 returns-then-v-ge200 c = let a = c.args in sym (noted_wide a.table.now a.u a.v a.x (omega arith) c.if-v-ge200.true)
 
-pub returns-then-byte-ne0 : goal.returns-then-byte-ne0
-returns-then-byte-ne0 c = let a = c.args in sym (noted_full a.table.now a.u a.v a.x (omega arith) (omega arith) (λ z. c.if-byte-ne0.true (c.byte.ensures.value ∙ z)))
+pub returns-then-num-ne0 : goal.returns-then-num-ne0
+returns-then-num-ne0 c = let a = c.args in sym (noted_full a.table.now a.u a.v a.x (omega arith) (omega arith) (λ z. c.if-num-ne0.true (c.num.ensures.value ∙ z)))
 
 pub returns-then-at-table : goal.returns-then-at-table
-returns-then-at-table c = let a = c.args in sym (noted-put a.table.now a.u a.v a.x (omega arith) (omega arith) (sym c.byte.ensures.value ∙ c.if-byte-ne0.false))
+returns-then-at-table c = let a = c.args in sym (noted-put a.table.now a.u a.v a.x (omega arith) (omega arith) (sym c.num.ensures.value ∙ c.if-num-ne0.false))
 
 pub returns-else-at-table : goal.returns-else-at-table
 returns-else-at-table c =
     let a = c.args in
-    sym (noted-put a.table.now a.u a.v a.x (omega arith) (omega arith) (sym c.byte.ensures.value ∙ c.if-byte-ne0.false) ∙ set_out a.table.now (cell a.u a.v) a.x (omega arith))
+    sym (noted-put a.table.now a.u a.v a.x (omega arith) (omega arith) (sym c.num.ensures.value ∙ c.if-num-ne0.false) ∙ set_out a.table.now (cell a.u a.v) a.x (omega arith))

@@ -14,8 +14,8 @@ pub loop-u-preserved : goal.loop-u-preserved
 loop-u-preserved c =
     let z = c.args.sizes.now in
     let l = c.loop-u in
-    let b = c.byte.ensures in
-    (omega arith, omega arith, start-next z l.u (l.u + 1) c.byte.result l.sum (omega arith) l.invariant.2 b.value, fills_on l.invariant.3 (omega arith) (omega arith) l.invariant.2 refl)
+    let b = c.num.ensures in
+    (omega arith, omega arith, start-next z l.u (l.u + 1) c.num.result l.sum (omega arith) l.invariant.2 b.value, fills_on l.invariant.3 (omega arith) (omega arith) l.invariant.2 refl)
 
 pub returns : goal.returns
 unfolding starts_of

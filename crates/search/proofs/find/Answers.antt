@@ -1,5 +1,6 @@
 -- find meets its contract.
-use mathlib.Core.Path.{refl, sym, ap, ◌∙◌}
+use mathlib.Core.Path.{◌≡◌, refl, sym, ap, ◌∙◌}
+use Prim.Native.Nat.{ℕ, ◌-◌}
 use Rattle.lists.proofs.Loops.{finds_hit, finds_on, finds_end}
 use Rattle.model.specs.Plan.{neighbour}
 use native.Mathlib.Omega.{arith}
@@ -12,4 +13,4 @@ pub loop-i-preserved : goal.loop-i-preserved
 loop-i-preserved c = finds_on c.loop-i.invariant refl (omega arith) (λ q. c.if-v-neighbour_of.false (q ∙ sym (c.neighbour_of.ensures ∙ ap neighbour c.num.ensures.value)))
 
 pub returns : goal.returns
-returns c = finds_end c.loop-i.invariant (omega arith)
+returns c = (let q : c.args.e ≡ c.loop-i.i = omega arith in ap (λ (k : ℕ). k - c.args.a) q) ∙ finds_end c.loop-i.invariant (omega arith)

@@ -15,10 +15,10 @@ returns-clause-value c =
     let a = c.args in
     let from = c.num-a.ensures.value in
     let size = c.size_of.ensures.value in
-    let is : c.find.result ≡ index_of a.v (ring (rows a.starts.now a.sizes.now a.entries.now a.n) a.u) =
-    c.find.ensures ∙ (λ i. index_of a.v (map neighbour (span a.entries.now (from i) (from i + size i)))) ∙ ring_index a.starts.now a.sizes.now a.entries.now a.n a.u a.v in
-    let most = index_le a.v (ring (rows a.starts.now a.sizes.now a.entries.now a.n) a.u) in
-    let long = ring-size a.starts.now a.sizes.now a.entries.now a.n a.u in
+    let is : c.find.result ≡ index_of a.v (ring (rows a.rings.now.starts.now a.rings.now.sizes.now a.rings.now.entries.now a.rings.now.n) a.u) =
+    c.find.ensures ∙ (λ i. index_of a.v (map neighbour (span a.rings.now.entries.now (from i) (from i + size i)))) ∙ ring_index a.rings.now.starts.now a.rings.now.sizes.now a.rings.now.entries.now a.rings.now.n a.u a.v in
+    let most = index_le a.v (ring (rows a.rings.now.starts.now a.rings.now.sizes.now a.rings.now.entries.now a.rings.now.n) a.u) in
+    let long = ring-size a.rings.now.starts.now a.rings.now.sizes.now a.rings.now.entries.now a.rings.now.n a.u in
     is
 
 pub returns-clause-upper_bound : goal.returns-clause-upper_bound
@@ -26,8 +26,8 @@ returns-clause-upper_bound c =
     let a = c.args in
     let from = c.num-a.ensures.value in
     let size = c.size_of.ensures.value in
-    let is : c.find.result ≡ index_of a.v (ring (rows a.starts.now a.sizes.now a.entries.now a.n) a.u) =
-    c.find.ensures ∙ (λ i. index_of a.v (map neighbour (span a.entries.now (from i) (from i + size i)))) ∙ ring_index a.starts.now a.sizes.now a.entries.now a.n a.u a.v in
-    let most = index_le a.v (ring (rows a.starts.now a.sizes.now a.entries.now a.n) a.u) in
-    let long = ring-size a.starts.now a.sizes.now a.entries.now a.n a.u in
+    let is : c.find.result ≡ index_of a.v (ring (rows a.rings.now.starts.now a.rings.now.sizes.now a.rings.now.entries.now a.rings.now.n) a.u) =
+    c.find.ensures ∙ (λ i. index_of a.v (map neighbour (span a.rings.now.entries.now (from i) (from i + size i)))) ∙ ring_index a.rings.now.starts.now a.rings.now.sizes.now a.rings.now.entries.now a.rings.now.n a.u a.v in
+    let most = index_le a.v (ring (rows a.rings.now.starts.now a.rings.now.sizes.now a.rings.now.entries.now a.rings.now.n) a.u) in
+    let long = ring-size a.rings.now.starts.now a.rings.now.sizes.now a.rings.now.entries.now a.rings.now.n a.u in
     omega arith

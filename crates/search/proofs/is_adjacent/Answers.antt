@@ -10,7 +10,7 @@ pub returns : goal.returns
 unfolding adjacent
 returns c =
     let a = c.args in
-    let p = rows a.starts.now a.sizes.now a.entries.now a.n in
+    let p = rows a.rings.now.starts.now a.rings.now.sizes.now a.rings.now.entries.now a.rings.now.n in
     let at = c.index_of.ensures.value in
-    let long = c.size_of.ensures.value ∙ sym (ring-size a.starts.now a.sizes.now a.entries.now a.n a.u) in
+    let long = c.size_of.ensures.value ∙ sym (ring-size a.rings.now.starts.now a.rings.now.sizes.now a.rings.now.entries.now a.rings.now.n a.u) in
     (λ i. ltb (at i) (long i)) ∙ sym (member_index a.v (ring p a.u))
