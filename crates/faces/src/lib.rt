@@ -4,7 +4,9 @@
 ghost use Rattle.std.specs.Prelude.{◌≡◌, not, ◌||◌, ◌<◌};
 ghost use Rattle.lists.specs.Ranges.{lowest};
 ghost use Rattle.model.specs.Plan.{step, outer, closes, bad_border, bad_face};
-ghost use Rattle.rings.specs.Tables.{rows};
+ghost use Rattle.rings.specs.Tables.{plan_of};
+
+use rings::Rings;
 
 // Is the dart from u to v one of the four outer darts?
 pub fn is_outer(u: usize, v: usize) -> bool
@@ -17,119 +19,85 @@ pub fn is_outer(u: usize, v: usize) -> bool
 }
 
 // The context after v on the face of the dart from u to v.
-fn third_of<'a>(
-    starts: &'a [u16],
-    sizes: &'a [u8],
-    entries: &'a [u16],
-    n: usize,
-    u: usize,
-    v: usize,
-) -> usize
-    ensures { result ≡ (step (rows starts.now sizes.now entries.now n) (u, v)).1 }
+fn third_of(rings: &Rings, u: usize, v: usize) -> usize
+    ensures { result ≡ (step (plan_of rings.now) (u, v)).1 }
 {
-    search::next_of(starts, sizes, entries, n, v, u)
+    search::next_of(rings, v, u)
 }
 
 // Does the dart from u to v come back to itself after three face steps?
-fn closes<'a>(
-    starts: &'a [u16],
-    sizes: &'a [u8],
-    entries: &'a [u16],
-    n: usize,
-    u: usize,
-    v: usize,
-) -> bool
-    ensures { result ≡ closes (rows starts.now sizes.now entries.now n) (u, v) }
+fn closes(rings: &Rings, u: usize, v: usize) -> bool
+    ensures { result ≡ closes (plan_of rings.now) (u, v) }
 {
-    let w = third_of(starts, sizes, entries, n, u, v);
-    let x = third_of(starts, sizes, entries, n, v, w);
+    let w = third_of(rings, u, v);
+    let x = third_of(rings, v, w);
     if x == u {
-        return third_of(starts, sizes, entries, n, w, x) == v;
+        return third_of(rings, w, x) == v;
     }
     false
 }
 
 // Does the border context u break rule 8?
-fn bad_border<'a>(
-    starts: &'a [u16],
-    sizes: &'a [u8],
-    entries: &'a [u16],
-    n: usize,
-    u: usize,
-) -> bool
+fn bad_border(rings: &Rings, u: usize) -> bool
     requires { u < 4 }
-    ensures { result ≡ bad_border (rows starts.now sizes.now entries.now n) u }
+    ensures { result ≡ bad_border (plan_of rings.now) u }
 {
-    let k = rings::size_of(sizes, n, u);
+    let k = rings.size_of(u);
     if k == 0 {
         return true;
     }
-    if rings::neighbour_at(starts, sizes, entries, n, u, 0) != (u + 1) % 4 {
+    if rings.neighbour_at(u, 0) != (u + 1) % 4 {
         return true;
     }
-    if rings::neighbour_at(starts, sizes, entries, n, u, k - 1) != (u + 3) % 4 {
+    if rings.neighbour_at(u, k - 1) != (u + 3) % 4 {
         return true;
     }
-    search::is_adjacent(starts, sizes, entries, n, u, (u + 2) % 4)
+    search::is_adjacent(rings, u, (u + 2) % 4)
 }
 
 // The lowest border context that breaks rule 8; 4 if none does.
-pub fn rule8_place<'a>(starts: &'a [u16], sizes: &'a [u8], entries: &'a [u16], n: usize) -> usize
-    ensures { result ≡ lowest (bad_border (rows starts.now sizes.now entries.now n)) 4 }
+pub fn rule8_place(rings: &Rings) -> usize
+    ensures { result ≡ lowest (bad_border (plan_of rings.now)) 4 }
 {
-    let mut side = 0;
-    while side < 4 {
-        if bad_border(starts, sizes, entries, n, side) {
+    for side in 0..4 {
+        if bad_border(rings, side) {
             return side;
         }
-        side += 1;
     }
-    side
+    4
 }
 
 // Does the dart from u to v break rule 9: it is not outer and does not come back to itself?
-fn bad_dart<'a>(
-    starts: &'a [u16],
-    sizes: &'a [u8],
-    entries: &'a [u16],
-    n: usize,
-    u: usize,
-    v: usize,
-) -> bool
-    ensures { result ≡ not (outer (u, v) || closes (rows starts.now sizes.now entries.now n) (u, v)) }
+fn bad_dart(rings: &Rings, u: usize, v: usize) -> bool
+    ensures { result ≡ not (outer (u, v) || closes (plan_of rings.now) (u, v)) }
 {
     if is_outer(u, v) {
         return false;
     }
-    !closes(starts, sizes, entries, n, u, v)
+    !closes(rings, u, v)
 }
 
 // Does a dart that leaves u break rule 9?
-fn bad_face<'a>(starts: &'a [u16], sizes: &'a [u8], entries: &'a [u16], n: usize, u: usize) -> bool
-    ensures { result ≡ bad_face (rows starts.now sizes.now entries.now n) u }
+fn bad_face(rings: &Rings, u: usize) -> bool
+    ensures { result ≡ bad_face (plan_of rings.now) u }
 {
-    let k = rings::size_of(sizes, n, u);
-    let mut i = 0;
-    while i < k {
-        let v = rings::neighbour_at(starts, sizes, entries, n, u, i);
-        if bad_dart(starts, sizes, entries, n, u, v) {
+    let k = rings.size_of(u);
+    for i in 0..k {
+        if bad_dart(rings, u, rings.neighbour_at(u, i)) {
             return true;
         }
-        i += 1;
     }
     false
 }
 
 // The lowest context that a dart breaking rule 9 leaves; n if there is none.
-pub fn rule9_place<'a>(starts: &'a [u16], sizes: &'a [u8], entries: &'a [u16], n: usize) -> usize
-    ensures { result ≡ lowest (bad_face (rows starts.now sizes.now entries.now n)) n }
+pub fn rule9_place(rings: &Rings) -> usize
+    ensures { result ≡ lowest (bad_face (plan_of rings.now)) rings.now.n }
 {
-    let mut u = 0;
-    while u < n {
-        if bad_face(starts, sizes, entries, n, u) {
+    for u in 0..rings.n {
+        if bad_face(rings, u) {
             return u;
         }
-        u += 1;
     }
-    u
+    rings.n
 }

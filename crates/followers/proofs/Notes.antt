@@ -1,11 +1,14 @@
 -- Entries noted one by one, as the code makes it: a note case by case, and what a pass over a ring keeps (Back).
 use Prim.Native.Nat.{ℕ, zero, suc, ◌+◌, ◌-◌, ◌≤◌, ◌<◌, min}
+use Rattle.std.specs.Prelude.{SomeIff, Option, Some, None, nat_eq}
+use Rattle.std.specs.Option.{option_eq}
 use mathlib.Core.Path.{◌≡◌, refl, sym, ap, ◌∙◌}
 use mathlib.Core.List.{List, [], ◌∷◌, map}
 use mathlib.Core.Bool.{Bool, true, false, cond, ◌&&◌}
+use native.Mathlib.Numerals.{add-one}
 use native.Mathlib.Omega.{arith}
 use lib.ListN.{length, get_or, set, replicate, length-set}
-use lib.Dec.{eqb, ltb}
+use lib.Dec.{eqb, ltb, eqb-suc-suc}
 use borrow.Author.Tests.{ltb-true, lt-ltb, le-ltb, eq-eqb, ne_eqb}
 use Rattle.lists.specs.Spans.{stretch, span, zeros}
 use Rattle.lists.specs.Folds.{through}
@@ -13,7 +16,7 @@ use Rattle.lists.proofs.Spans.{span_more, span_end}
 use Rattle.model.specs.Plan.{Plan, neighbour, ring}
 use Rattle.rings.specs.Tables.{size_of, rows}
 use Rattle.rings.proofs.Rows.{ring-rows, count-rows}
-use Rattle.followers.specs.Followers.{mark, cell, tabled, Noted, note_at, note_ring, note_rings, followers_of, apart, told, closes_at, closes_by}
+use Rattle.followers.specs.Followers.{mark, marked, cell, tabled, Noted, note_at, note_ring, note_rings, followers_of, apart, told, closes_at, closes_by}
 
 -- ---- a note: what it leaves, part by part
 abbrev pub Leaves : List ℕ → Bool → Noted → Type 0
@@ -109,6 +112,14 @@ row-noted starts sizes es n u {a} {e} s p q =
     ∙ heads u (neighbour (get_or es (get_or starts u 0) 0)) es (get_or starts u 0) (size_of sizes n u) s refl
     ∙ sym (ap (λ (r : List ℕ). note_ring u (get_or r 0 0) r s) (ring-rows starts sizes es n u))
 
+-- so u's ring is noted when the pass over it ends
+pub row-end : (starts sizes es : List ℕ) (n u : ℕ) {a e i after : ℕ} {s₀ s : Noted} → Back u (neighbour (get_or es a 0)) es e s₀ i s after
+    → i ≡ a → a ≡ get_or starts u 0 → e ≡ a + size_of sizes n u → Leaves s.0 s.1 (row (rows starts sizes es n) u s₀)
+row-end starts sizes es n u {s₀ = s₀} inv q p e =
+    let (x, y) = back_end inv q in
+    let same = row-noted starts sizes es n u s₀ p e in
+    (x ∙ ap (λ (t : Noted). t.0) same, y ∙ ap (λ (t : Noted). t.1) same)
+
 -- all rings of the plan
 pub rows-noted : (starts sizes es : List ℕ) (n : ℕ) (s₀ : Noted) {m : ℕ} {s : Noted} → m ≡ min n 200 → s ≡ through (row (rows starts sizes es n)) 0 m s₀ → Leaves s.0 s.1 (note_rings (rows starts sizes es n) s₀)
 unfolding note_rings
@@ -128,6 +139,17 @@ module _ (p : Plan) {t₀ : List ℕ} (none : t₀ ≡ replicate 40000 0) where
   pub apart-made : {b : Bool} → b ≡ (note_rings p (t₀, true)).1 → b ≡ apart p
   unfolding apart
   apart-made e = e ∙ ap (λ (s : Noted). (note_rings p s).1) from-zeros
+
+-- a look-up that is compared with a context
+pub named : (o : Option ℕ) (x : ℕ) → option_eq nat_eq o (Some x) ≡ eqb (marked o) (x + 1)
+named None x = sym (ne_eqb 0 (x + 1) (λ z. omega arith))
+named (Some w) x = sym (ap (eqb (suc w)) (add-one x) ∙ eqb-suc-suc w x)
+
+-- a number, less one where it is not 0
+less : (x : ℕ) (o : Option ℕ) → SomeIff o (1 ≤ x) (x - 1) → marked o ≡ x
+less zero None f = refl
+less (suc k) None f = absurd (f (omega arith))
+less x (Some w) e = let l = e.0 in let m = e.1 in omega arith
 
 -- ---- a look-up: no cell for the ring, none for the entry, a cell
 module _ (t : List ℕ) (u v : ℕ) where
@@ -153,30 +175,42 @@ module _ (t : List ℕ) (u v : ℕ) where
       go true false x y f = absurd (f refl)
       go false b x y f = absurd (f refl)
 
-  -- ---- three face steps from the dart u to v, test by test; w is the mark of the context after v
-  module _ {w : ℕ} (is : w ≡ told t v u) where
-    at : closes_at t u v w ≡ closes_by t u v
-    unfolding closes_by
-    at = ap (closes_at t u v) is
+  -- the cell's number, less one where it is not 0
+  pub told-less : {x : ℕ} (o : Option ℕ) → u < 200 → v < 200 → x ≡ get_or t (cell u v) 0 → SomeIff o (1 ≤ x) (x - 1) → marked o ≡ told t u v
+  told-less {x} o h k q e = less x o e ∙ q ∙ told-cell h k
 
-    -- there is none
-    pub closes-none : w ≡ 0 → false ≡ closes_by t u v
-    unfolding closes_at
-    closes-none z = sym (rw (eq-eqb w 0 z)) ∙ at
+  -- ---- three face steps from the dart u to v, test by test
+  -- no context comes after v
+  pub closes-none : 0 ≡ told t v u → false ≡ closes_by t u v
+  unfolding closes_by closes_at
+  closes-none z = sym (rw (eq-eqb (told t v u) 0 (sym z)))
 
-    module _ (some : w ≡ 0 → ⊥) where
-      -- a byte has no room for it
-      pub closes_wide : w ≡ 255 → false ≡ closes_by t u v
-      unfolding closes_at
-      closes_wide z = sym (rw (ne_eqb w 0 some, eq-eqb w 255 z)) ∙ at
+  -- w does
+  module _ {w : ℕ} (is : suc w ≡ told t v u) where
+    some : told t v u ≡ 0 → ⊥
+    some z = omega arith
 
-      module _ (room : w ≡ 255 → ⊥) {x : ℕ} (after : x ≡ told t (w - 1) v) where
+    -- a byte has no room for it
+    pub closes_wide : w ≡ 254 → false ≡ closes_by t u v
+    unfolding closes_by closes_at
+    closes_wide z = let e : told t v u ≡ 255 = omega arith in sym (rw (ne_eqb (told t v u) 0 some, eq-eqb (told t v u) 255 e))
+
+    module _ (room : w ≡ 254 → ⊥) where
+      rest : (eqb (told t w v) (u + 1) && eqb (told t u w) (v + 1)) ≡ closes_by t u v
+      unfolding closes_by closes_at
+      rest =
+          let e : told t v u - 1 ≡ w = omega arith in
+          let wide : told t v u ≡ 255 → ⊥ = λ q. room (omega arith) in
+          sym (rw (ne_eqb (told t v u) 0 some, ne_eqb (told t v u) 255 wide, e))
+
+      module _ (x : Option ℕ) (after : marked x ≡ told t w v) {b : Bool} (is-u : b ≡ option_eq nat_eq x (Some u)) where
+        second : eqb (told t w v) (u + 1) ≡ b
+        second = ap (λ (k : ℕ). eqb k (u + 1)) (sym after) ∙ sym (named x u) ∙ sym is-u
+
         -- the second step does not lead to u
-        pub closes_astray : (x ≡ u + 1 → ⊥) → false ≡ closes_by t u v
-        unfolding closes_at
-        closes_astray h = sym (rw (ne_eqb w 0 some, ne_eqb w 255 room, ne_eqb (told t (w - 1) v) (u + 1) (λ q. h (after ∙ q)))) ∙ at
+        pub closes_astray : b ≡ false → b ≡ closes_by t u v
+        closes_astray h = h ∙ ap (λ (a : Bool). a && eqb (told t u w) (v + 1)) (sym (second ∙ h)) ∙ rest
 
         -- it does: the third leads to v, or not
-        pub closes_last : {y : ℕ} → x ≡ u + 1 → y ≡ told t u (w - 1) → eqb y (v + 1) ≡ closes_by t u v
-        unfolding closes_at
-        closes_last h q = ap (λ (k : ℕ). eqb k (v + 1)) q ∙ sym (rw (ne_eqb w 0 some, ne_eqb w 255 room, eq-eqb (told t (w - 1) v) (u + 1) (sym after ∙ h))) ∙ at
+        pub closes_last : (y : Option ℕ) {a : Bool} → b ≡ true → marked y ≡ told t u w → a ≡ option_eq nat_eq y (Some v) → a ≡ closes_by t u v
+        closes_last y {a} h q e = e ∙ named y v ∙ ap (λ (k : ℕ). eqb k (v + 1)) q ∙ ap (λ (a : Bool). a && eqb (told t u w) (v + 1)) (sym (second ∙ h)) ∙ rest

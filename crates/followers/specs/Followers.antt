@@ -1,6 +1,6 @@
 -- The table of followers of a plan: which context comes after each entry of each ring, for rings and entries below 200; and look-ups in it.
 -- A ring is noted from its last entry to its first, so that of equal entries the first one counts.
-use Rattle.std.specs.Prelude.{ℕ, suc, ◌+◌, ◌-◌, ◌*◌, min, List, [], ◌∷◌, Bool, true, cond, not, ◌&&◌, get_or, set, eqb, ltb}
+use Rattle.std.specs.Prelude.{ℕ, suc, ◌+◌, ◌-◌, ◌*◌, min, List, [], ◌∷◌, Bool, true, Option, Some, None, cond, not, ◌&&◌, get_or, set, eqb, ltb}
 use Rattle.lists.specs.Folds.{through}
 use Rattle.lists.specs.Spans.{zeros}
 use Rattle.model.specs.Plan.{Plan, count, ring}
@@ -45,6 +45,11 @@ apart p = (note_rings p (zeros 40000, true)).1
 -- what a table says of v in u's ring: 0 where it says nothing
 unfoldable pub told : List ℕ → ℕ → ℕ → ℕ
 told t u v = cond (tabled u v) (get_or t (cell u v) 0) 0
+
+-- what a table says where this context is told
+abbrev pub marked : Option ℕ → ℕ
+marked None = 0
+marked (Some w) = suc w
 
 -- by a table, the dart from u to v comes back to itself after three face steps, where w is the mark of the context after v
 unfoldable pub closes_at : List ℕ → ℕ → ℕ → ℕ → Bool

@@ -1,6 +1,7 @@
 -- The quick test as the code makes it, test by test.
+use Rattle.std.specs.Prelude.{Option, Some, None, is_some}
 use Prim.Native.Nat.{ℕ, ◌+◌, ◌-◌, ◌≤◌, ◌<◌}
-use mathlib.Core.Path.{◌≡◌, sym, ap, ◌∙◌}
+use mathlib.Core.Path.{◌≡◌, refl, sym, ap, ◌∙◌}
 use mathlib.Core.List.{List, map}
 use mathlib.Core.Bool.{Bool, true, false, not}
 use native.Mathlib.Omega.{arith}
@@ -14,10 +15,19 @@ use Rattle.lists.proofs.Tests.{any-map}
 use Rattle.model.specs.Plan.{Plan, count, neighbour, outer, bad_border}
 use Rattle.rings.specs.Tables.{size_of, rows}
 use Rattle.rings.proofs.Rows.{ring-rows}
-use Rattle.followers.specs.Followers.{followers_of, apart, told, closes_by}
+use Rattle.followers.specs.Followers.{followers_of, apart, marked, told, closes_by}
 use Rattle.sound.specs.Sound.{doubtful, doubted, sound}
 
 -- ---- one dart
+-- nothing is told where 0 is, and something elsewhere
+none-marked : (o : Option ℕ) → is_some o ≡ false → marked o ≡ 0
+none-marked None e = refl
+none-marked (Some w) e = cc
+
+some-marked : (o : Option ℕ) → is_some o ≡ true → marked o ≡ 0 → ⊥
+some-marked None e z = cc
+some-marked (Some w) e z = omega arith
+
 module _ (t : List ℕ) (u v : ℕ) where
   pub doubt_self : u ≡ v → true ≡ doubtful t u v
   unfolding doubtful
@@ -28,14 +38,14 @@ module _ (t : List ℕ) (u v : ℕ) where
     unfolding doubtful
     doubt_closes h = sym (rw (ne_eqb u v other, ← back, h))
 
-    module _ (open' : b ≡ false) {x : ℕ} (lists : x ≡ told t v u) where
-      pub doubt_alone : x ≡ 0 → true ≡ doubtful t u v
+    module _ (open' : b ≡ false) (o : Option ℕ) (lists : marked o ≡ told t v u) where
+      pub doubt_alone : is_some o ≡ false → true ≡ doubtful t u v
       unfolding doubtful
-      doubt_alone z = sym (rw (ne_eqb u v other, ← back, open', eq-eqb (told t v u) 0 (sym lists ∙ z)))
+      doubt_alone z = sym (rw (ne_eqb u v other, ← back, open', eq-eqb (told t v u) 0 (sym lists ∙ none-marked o z)))
 
-      pub doubt_outer : {o : Bool} → (x ≡ 0 → ⊥) → o ≡ outer (u, v) → not o ≡ doubtful t u v
+      pub doubt_outer : {d : Bool} → is_some o ≡ true → d ≡ outer (u, v) → not d ≡ doubtful t u v
       unfolding doubtful
-      doubt_outer f e = ap not e ∙ sym (rw (ne_eqb u v other, ← back, open', ne_eqb (told t v u) 0 (λ z. f (lists ∙ z))))
+      doubt_outer f e = ap not e ∙ sym (rw (ne_eqb u v other, ← back, open', ne_eqb (told t v u) 0 (λ z. some-marked o f (lists ∙ z))))
 
 -- ---- the darts that leave u, by the entries of its ring
 module _ (t starts sizes es : List ℕ) (n u : ℕ) {a e : ℕ} (start : a ≡ get_or starts u 0) (end : e ≡ a + size_of sizes n u) where

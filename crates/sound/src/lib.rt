@@ -3,8 +3,10 @@
 
 ghost use Rattle.std.specs.Prelude.{◌≡◌};
 ghost use Rattle.lists.specs.Folds.{some};
-ghost use Rattle.rings.specs.Tables.{rows, table};
+ghost use Rattle.rings.specs.Tables.{plan_of, table_of};
 ghost use Rattle.sound.specs.Sound.{doubtful, doubted, sound};
+
+use rings::{Rings, Table};
 
 // By a table of followers, is the dart from u to v in doubt?
 fn is_doubtful(table: &[u8], u: usize, v: usize) -> bool
@@ -16,76 +18,64 @@ fn is_doubtful(table: &[u8], u: usize, v: usize) -> bool
     if followers::closes_by(table, u, v) {
         return false;
     }
-    if followers::told(table, v, u) == 0 {
+    if followers::told(table, v, u).is_none() {
         return true;
     }
     !faces::is_outer(u, v)
 }
 
 // By a table of followers, is some dart that leaves u in doubt?
-fn is_doubted<'a>(
-    table: &'a [u8],
-    starts: &'a [u16],
-    sizes: &'a [u8],
-    entries: &'a [u16],
-    n: usize,
-    u: usize,
-) -> bool
-    ensures { result ≡ doubted table.now (rows starts.now sizes.now entries.now n) u }
+fn is_doubted(table: &[u8], rings: &Rings, u: usize) -> bool
+    ensures { result ≡ doubted table.now (plan_of rings.now) u }
 {
-    let a = arrays::num(starts, u);
-    let e = a + rings::size_of(sizes, n, u);
-    let mut i = a;
-    while i < e {
-        if is_doubtful(table, u, rings::neighbour_of(arrays::num(entries, i))) {
+    let a = arrays::num(rings.starts, u);
+    let e = a + rings.size_of(u);
+    for i in a..e {
+        if is_doubtful(table, u, rings::neighbour_of(arrays::num(rings.entries, i))) {
             return true;
         }
-        i += 1;
     }
     false
 }
 
 // By a table of followers, is some dart in doubt?
-fn any_doubted<'a>(
-    table: &'a [u8],
-    starts: &'a [u16],
-    sizes: &'a [u8],
-    entries: &'a [u16],
-    n: usize,
-) -> bool
-    ensures { result ≡ some (doubted table.now (rows starts.now sizes.now entries.now n)) 0 n }
+fn any_doubted(table: &[u8], rings: &Rings) -> bool
+    ensures { result ≡ some (doubted table.now (plan_of rings.now)) 0 rings.now.n }
 {
-    let mut u = 0;
-    while u < n {
-        if is_doubted(table, starts, sizes, entries, n, u) {
+    for u in 0..rings.n {
+        if is_doubted(table, rings, u) {
             return true;
         }
-        u += 1;
     }
     false
 }
 
-// Is the plan of n contexts, whose rings begin at these starts, sound?
-fn is_sound_from<'a>(starts: &'a [u16], sizes: &'a [u8], entries: &'a [u16], n: usize) -> bool
-    ensures { result ≡ sound (rows starts.now sizes.now entries.now n) }
+// Is the plan that the rings hold sound?
+fn is_sound_from(rings: &Rings) -> bool
+    ensures { result ≡ sound (plan_of rings.now) }
 {
-    if 200 < n {
+    if 200 < rings.n {
         return false;
     }
-    if faces::rule8_place(starts, sizes, entries, n) < 4 {
+    if faces::rule8_place(rings) < 4 {
         return false;
     }
     let mut table = [0u8; 40000];
-    if !followers::fill(&mut table, starts, sizes, entries, n) {
+    if !followers::fill(&mut table, rings) {
         return false;
     }
-    !any_doubted(&table, starts, sizes, entries, n)
+    !any_doubted(&table, rings)
 }
 
-// Is the plan of n contexts that the arrays hold sound?
-pub fn is_sound<'a>(sizes: &'a [u8], entries: &'a [u16], n: usize) -> bool
-    ensures { result ≡ sound (table sizes.now entries.now n) }
+// Is the plan sound?
+pub fn is_sound(plan: &Table) -> bool
+    ensures { result ≡ sound (table_of plan.now) }
 {
-    let starts = rings::starts_of(sizes);
-    is_sound_from(&starts, sizes, entries, n)
+    let starts = rings::starts_of(plan.sizes);
+    is_sound_from(&Rings {
+        starts: &starts,
+        sizes: plan.sizes,
+        entries: plan.entries,
+        n: plan.n,
+    })
 }

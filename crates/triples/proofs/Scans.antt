@@ -1,12 +1,15 @@
 -- Scan as a search context by context: first a, then b, then c; and the tests that the code makes of one triple.
+use Rattle.std.specs.Prelude.{Some, None, is_some, nat_eq}
+use Rattle.std.specs.Prelude as std
+use Rattle.std.specs.Option.{option_eq}
 use Prim.Native.Nat.{ℕ, zero, suc, ◌+◌, ◌-◌, ◌≤◌, ◌<◌}
 use mathlib.Core.Path.{◌≡◌, refl, sym, ap, ◌∙◌}
 use mathlib.Core.List.{List, [], ◌∷◌, ◌++◌, map, Memᴰ}
-use mathlib.Core.Bool.{Bool, true, false, cond, not, ◌&&◌, ◌||◌, and-true, or-true, true≢false}
+use mathlib.Core.Bool.{Bool, true, false, cond, not, ◌&&◌, ◌||◌, and-true, and-false, or-true, true≢false}
 use mathlib.Core.Option.{Option, none, some}
 use native.Mathlib.Omega.{arith}
 use lib.Dec.{eqb, ltb}
-use borrow.Author.Tests.{ltb-true, ltb-false, lt-ltb, le-ltb, eqb-true, eq-eqb, ne_eqb, not-true}
+use borrow.Author.Tests.{ltb-true, ltb-false, lt-ltb, le-ltb, eqb-true, eqb-false, eq-eqb, ne_eqb, not-true, not-false}
 use Rattle.lists.proofs.Bools.{and_yes}
 use Rattle.lists.specs.Ranges.{from, first_from}
 use Rattle.lists.specs.Parts.{concat}
@@ -18,7 +21,8 @@ use Rattle.faces.proofs.FaceTests.{closes_last, closes_never}
 use Rattle.faces.proofs.Flags.{flag_yes, flag_no}
 use Rattle.triples.proofs.Flags.{not_flag_yes, not_flag_no}
 use Rattle.triples.specs.Scanned.{apart_by, face_by, harmless, third_for, second_for, first_for}
-use Rattle.followers.specs.Followers.{tabled, followers_of, told, closes_by}
+use Rattle.followers.specs.Followers.{tabled, followers_of, marked, told, closes_by}
+use Rattle.followers.proofs.Notes.{named, closes-none}
 use Rattle.followers.proofs.Tells.{told_none, told-next, told-closes, closes_byte}
 
 abbrev triple : ℕ → ℕ → ℕ → Triple
@@ -102,6 +106,13 @@ module _ (p : Plan) (a b c : ℕ) where
     face_acb e h f = rw (not_flag_no ab ab-yes, not_flag_no ac ac-yes, not_flag_no bc bc-yes, flag_no e h) (ap not f)
 
 -- ---- by a table of followers, test by test
+-- there is nothing where 0 is told
+none-zero : (o : std.Option ℕ) (d : Bool) → is_some o ≡ not d → d ≡ eqb (marked o) 0
+none-zero None true e = sym (eq-eqb 0 0 refl)
+none-zero None false e = cc
+none-zero (Some w) true e = cc
+none-zero (Some w) false e = sym (ne_eqb (suc w) 0 (λ z. omega arith))
+
 module _ (t : List ℕ) where
   -- there is no cell for the ring, none for the entry; the cell
   pub apart-high : (a c : ℕ) → 200 ≤ a → false ≡ apart_by t a c
@@ -112,23 +123,36 @@ module _ (t : List ℕ) where
   unfolding apart_by
   apart_wide a c h k = sym (rw (lt-ltb a 200 h, le-ltb c 200 k))
 
-  pub apart-cell : (a c : ℕ) {x : ℕ} → a < 200 → c < 200 → x ≡ told t a c → eqb x 0 ≡ apart_by t a c
+  pub apart-cell : (a c : ℕ) (o : std.Option ℕ) {d : Bool} → a < 200 → c < 200 → marked o ≡ told t a c → is_some o ≡ not d → d ≡ apart_by t a c
   unfolding apart_by
-  apart-cell a c h k e = ap (λ (x : ℕ). eqb x 0) e ∙ sym (rw (lt-ltb a 200 h, lt-ltb c 200 k))
+  apart-cell a c o {d} h k e f = none-zero o d f ∙ ap (λ (x : ℕ). eqb x 0) e ∙ sym (rw (lt-ltb a 200 h, lt-ltb c 200 k))
 
   -- the third context is another, the dart is outer, the dart comes back or not
-  module _ (a b c : ℕ) {x : ℕ} (third-is : x ≡ told t b a - 1) where
-    pub face_other : (x ≡ c → ⊥) → false ≡ face_by t a b c
-    unfolding face_by
-    face_other h = sym (rw (ne_eqb (told t b a - 1) c (λ q. h (third-is ∙ q))))
+  module _ (a b c : ℕ) (x : std.Option ℕ) (third-is : marked x ≡ told t b a) {d : Bool} (other : d ≡ not (option_eq nat_eq x (Some c))) where
+    asked : eqb (told t b a) (c + 1) ≡ option_eq nat_eq x (Some c)
+    asked = ap (λ (k : ℕ). eqb k (c + 1)) (sym third-is) ∙ sym (named x c)
 
-    pub face_outer : {o : Bool} → x ≡ c → o ≡ outer (a, b) → o ≡ true → false ≡ face_by t a b c
+    pub face_other : d ≡ true → false ≡ face_by t a b c
     unfolding face_by
-    face_outer h e q = sym (rw (eq-eqb (told t b a - 1) c (sym third-is ∙ h), flag_yes e q))
+    face_other h = go (told t b a) refl
+      where
+        go : (w : ℕ) → told t b a ≡ w → false ≡ (eqb (told t b a - 1) c && not (outer (a, b)) && closes_by t a b)
+        go zero e = sym (and-false (eqb (told t b a - 1) c && not (outer (a, b)))) ∙ ap (λ (k : Bool). eqb (told t b a - 1) c && not (outer (a, b)) && k) (closes-none t a b (sym e))
+        go (suc k) e =
+            let no = eqb-false (told t b a) (c + 1) (asked ∙ not-true (option_eq nat_eq x (Some c)) (sym other ∙ h)) in
+            sym (rw (ne_eqb (told t b a - 1) c (λ q. no (omega arith))))
 
-    pub face_closes : {o r : Bool} → x ≡ c → o ≡ outer (a, b) → o ≡ false → r ≡ closes_by t a b → r ≡ face_by t a b c
-    unfolding face_by
-    face_closes h e q f = f ∙ sym (rw (eq-eqb (told t b a - 1) c (sym third-is ∙ h), flag_no e q))
+    module _ (yes : d ≡ false) where
+      third-c : told t b a - 1 ≡ c
+      third-c = let e = eqb-true (told t b a) (c + 1) (asked ∙ not-false (option_eq nat_eq x (Some c)) (sym other ∙ yes)) in omega arith
+
+      pub face_outer : {o : Bool} → o ≡ outer (a, b) → o ≡ true → false ≡ face_by t a b c
+      unfolding face_by
+      face_outer e q = sym (rw (eq-eqb (told t b a - 1) c third-c, flag_yes e q))
+
+      pub face_closes : {o r : Bool} → o ≡ outer (a, b) → o ≡ false → r ≡ closes_by t a b → r ≡ face_by t a b c
+      unfolding face_by
+      face_closes e q f = f ∙ sym (rw (eq-eqb (told t b a - 1) c third-c, flag_no e q))
 
   -- the first of the three that holds, or the last
   module _ (a b c : ℕ) {x : Bool} (first : x ≡ apart_by t a c) where
@@ -299,6 +323,14 @@ module _ (p : Plan) where
         let f : ℕ → Bool = λ (k : ℕ). ltb (second_for p n k) n in
         let hit = first_found f 0 n (omega arith) in
         ltb-true (second_for p n a) n (ap f first ∙ hit.passes)
+
+    -- and so does the third
+    pub third_below : (b : ℕ) → b ≡ second_for p n a → b < n → third_for p n a b < n
+    unfolding second_for
+    third_below b second h =
+        let f : ℕ → Bool = λ (k : ℕ). ltb (third_for p n a k) n in
+        let hit = first_found f (suc a) (n - suc a) (omega arith) in
+        ltb-true (third_for p n a b) n (ap f second ∙ hit.passes)
 
     pub scan-some : (b c : ℕ) → b ≡ second_for p n a → c ≡ third_for p n a b → a < n → some (triple a b c) ≡ scan p
     scan-some b c second third h =

@@ -1,18 +1,18 @@
 -- What a scan says in 01's words, and the search for the smallest triple context by context.
-use Rattle.std.specs.Prelude.{ℕ, suc, ◌-◌, List, Bool, cond, not, ◌&&◌, ◌||◌, eqb, ltb}
-use Rattle.std.proofs.Math.Option.{Option, none, some}
+use Rattle.std.specs.Prelude.{ℕ, suc, ◌-◌, List, Option, Some, None, Bool, cond, not, ◌&&◌, ◌||◌, eqb, ltb}
+use Rattle.std.specs.Option.{unwrap_or}
+use Rattle.std.proofs.Math.Option.{none, some}
+use Rattle.std.proofs.Math.Option as maybe
 use Rattle.lists.specs.Ranges.{first_from, lowest}
 use Rattle.model.specs.Plan.{Plan, outer}
 use Rattle.model.specs.Scan.{enclosing}
 use Rattle.model.specs.Scan as model
 use Rattle.followers.specs.Followers.{tabled, told, closes_by}
-use Rattle.triples.specs.declared.Scanned.{Scanned}
-use Rattle.triples.specs.declared.Scanned.TheVariants.{Triple, Nothing}
 
 -- 01's value of each answer: the triple, or none
-unfoldable pub scanned_as : Scanned → Option model.Triple
-scanned_as (Triple a b c) = some (a, b, c)
-scanned_as Nothing = none
+unfoldable pub scanned_as : Option model.Triple → maybe.Option model.Triple
+scanned_as (Some x) = some x
+scanned_as None = none
 
 -- by a table of followers, a does not list c
 unfoldable pub apart_by : List ℕ → ℕ → ℕ → Bool
@@ -26,9 +26,13 @@ face_by t a b c = eqb (told t b a - 1) c && not (outer (a, b)) && closes_by t a 
 unfoldable pub harmless : List ℕ → ℕ → ℕ → ℕ → Bool
 harmless t a b c = apart_by t a c || face_by t a b c || face_by t a c b
 
--- c, if it lies above b and below the best so far and passes; else the best so far
-unfoldable pub nearer : (ℕ → Bool) → ℕ → ℕ → ℕ → ℕ
-nearer f b c best = cond (ltb b c && (ltb c best && f c)) c best
+-- the number, if it lies below n
+unfoldable pub below : ℕ → ℕ → Option ℕ
+below n x = cond (ltb x n) (Some x) None
+
+-- c, if it lies above b and below the best so far and passes; else the best so far. Without a best c may be any number below n
+unfoldable pub nearer : (ℕ → Bool) → ℕ → ℕ → ℕ → Option ℕ → Option ℕ
+nearer f n b c best = cond (ltb b c && (ltb c (unwrap_or best n) && f c)) (Some c) best
 
 -- the lowest c above b, below n, for which a, b, c enclose; n if there is none
 unfoldable pub third_for : Plan → ℕ → ℕ → ℕ → ℕ

@@ -1,4 +1,5 @@
 -- rule8_place meets its contract.
+use mathlib.Core.Path.{◌≡◌, ◌∙◌}
 use Rattle.faces.proofs.Flags.{flag_yes, flag_no}
 use Rattle.lists.proofs.Loops.{looks_hit, looks_on, looks_end}
 use native.Mathlib.Omega.{arith}
@@ -11,4 +12,4 @@ pub loop-side-preserved : goal.loop-side-preserved
 loop-side-preserved c = looks_on c.loop-side.invariant (omega arith) (omega arith) (flag_no c.bad_border.ensures c.if-bad_border.false)
 
 pub returns : goal.returns
-returns c = looks_end c.loop-side.invariant (omega arith)
+returns c = let e : 4 ≡ c.loop-side.side = omega arith in e ∙ looks_end c.loop-side.invariant (omega arith)

@@ -18,19 +18,19 @@ returns-then-v-ge200-clause-value c = (let a = c.args in note_wide a.u a.v a.x a
 pub returns-then-old-eq0-clause-table_after : goal.returns-then-old-eq0-clause-table_after
 returns-then-old-eq0-clause-table_after c =
     let a = c.args in
-    (note_bare a.u a.v a.x a.table.now a.clear (omega arith) (omega arith) c.byte-old.ensures.value c.set_byte.ensures c.if-old-eq0.true).0
+    (note_bare a.u a.v a.x a.table.now a.clear (omega arith) (omega arith) c.num-old.ensures.value c.put.ensures c.if-old-eq0.true).0
 
 pub returns-then-old-eq0-clause-value : goal.returns-then-old-eq0-clause-value
 returns-then-old-eq0-clause-value c =
     let a = c.args in
-    (note_bare a.u a.v a.x a.table.now a.clear (omega arith) (omega arith) c.byte-old.ensures.value c.set_byte.ensures c.if-old-eq0.true).1
+    (note_bare a.u a.v a.x a.table.now a.clear (omega arith) (omega arith) c.num-old.ensures.value c.put.ensures c.if-old-eq0.true).1
 
 pub returns-clause-table_after : goal.returns-clause-table_after
 returns-clause-table_after c =
     let a = c.args in
-    (note_full a.u a.v a.x a.table.now a.clear (omega arith) (omega arith) c.byte-old.ensures.value c.set_byte.ensures c.if-old-eq0.false).0
+    (note_full a.u a.v a.x a.table.now a.clear (omega arith) (omega arith) c.num-old.ensures.value c.put.ensures c.if-old-eq0.false).0
 
 pub returns-clause-value : goal.returns-clause-value
 returns-clause-value c =
     let a = c.args in
-    (note_full a.u a.v a.x a.table.now a.clear (omega arith) (omega arith) c.byte-old.ensures.value c.set_byte.ensures c.if-old-eq0.false).1
+    (note_full a.u a.v a.x a.table.now a.clear (omega arith) (omega arith) c.num-old.ensures.value c.put.ensures c.if-old-eq0.false).1

@@ -5,10 +5,10 @@ use native.Mathlib.Omega.{arith}
 use Rattle.sound.proofs.any_doubted.Goals as goal
 
 pub returns-then-is_doubted : goal.returns-then-is_doubted
-returns-then-is_doubted c = seeks_hit c.loop-u.invariant.1 (omega arith) (sym c.is_doubted.ensures ∙ c.if-is_doubted.true)
+returns-then-is_doubted c = seeks_hit c.loop-u.invariant (omega arith) (sym c.is_doubted.ensures ∙ c.if-is_doubted.true)
 
 pub loop-u-preserved : goal.loop-u-preserved
-loop-u-preserved c = (omega arith, seeks_on c.loop-u.invariant.1 (omega arith) (sym c.is_doubted.ensures ∙ c.if-is_doubted.false))
+loop-u-preserved c = seeks_on c.loop-u.invariant (omega arith) (sym c.is_doubted.ensures ∙ c.if-is_doubted.false)
 
 pub returns : goal.returns
-returns c = seeks_end c.loop-u.invariant.1 (omega arith)
+returns c = seeks_end c.loop-u.invariant (omega arith)

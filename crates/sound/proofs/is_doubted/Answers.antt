@@ -11,16 +11,16 @@ returns-then-is_doubtful c =
     let a = c.args in
     let size = c.size_of.ensures.value in
     let there = c.neighbour_of.ensures ∙ ap neighbour c.num.ensures.value in
-    sees_hit c.loop-i.invariant.1 (omega arith) (entry-doubtful a.table.now a.u there c.is_doubtful.ensures c.if-is_doubtful.true) ∙ ring-doubted a.table.now a.starts.now a.sizes.now a.entries.now a.n a.u c.num-a.ensures.value (omega arith)
+    sees_hit c.loop-i.invariant (omega arith) (entry-doubtful a.table.now a.u there c.is_doubtful.ensures c.if-is_doubtful.true) ∙ ring-doubted a.table.now a.rings.now.starts.now a.rings.now.sizes.now a.rings.now.entries.now a.rings.now.n a.u c.num-a.ensures.value (omega arith)
 
 pub loop-i-preserved : goal.loop-i-preserved
 loop-i-preserved c =
     let a = c.args in
     let there = c.neighbour_of.ensures ∙ ap neighbour c.num.ensures.value in
-    (omega arith, sees_on c.loop-i.invariant.1 refl (omega arith) (entry-doubtful a.table.now a.u there c.is_doubtful.ensures c.if-is_doubtful.false))
+    sees_on c.loop-i.invariant refl (omega arith) (entry-doubtful a.table.now a.u there c.is_doubtful.ensures c.if-is_doubtful.false)
 
 pub returns : goal.returns
 returns c =
     let a = c.args in
     let size = c.size_of.ensures.value in
-    sees_end c.loop-i.invariant.1 (omega arith) ∙ ring-doubted a.table.now a.starts.now a.sizes.now a.entries.now a.n a.u c.num-a.ensures.value (omega arith)
+    sees_end c.loop-i.invariant (omega arith) ∙ ring-doubted a.table.now a.rings.now.starts.now a.rings.now.sizes.now a.rings.now.entries.now a.rings.now.n a.u c.num-a.ensures.value (omega arith)

@@ -1,4 +1,6 @@
 -- is_doubtful meets its contract.
+use mathlib.Core.Path.{ap, ◌∙◌}
+use mathlib.Core.Bool.{not}
 use Rattle.sound.proofs.Doubts.{doubt_self, doubt_closes, doubt_alone, doubt_outer}
 use Rattle.sound.proofs.is_doubtful.Goals as goal
 
@@ -8,8 +10,12 @@ returns-then-u-v c = let a = c.args in doubt_self a.table.now a.u a.v c.if-u-v.t
 pub returns-then-closes_by : goal.returns-then-closes_by
 returns-then-closes_by c = let a = c.args in doubt_closes a.table.now a.u a.v c.if-u-v.false c.closes_by.ensures c.if-closes_by.true
 
-pub returns-then-told-eq0 : goal.returns-then-told-eq0
-returns-then-told-eq0 c = let a = c.args in doubt_alone a.table.now a.u a.v c.if-u-v.false c.closes_by.ensures c.if-closes_by.false c.told.ensures.value c.if-told-eq0.true
+pub returns-then-is_none : goal.returns-then-is_none
+returns-then-is_none c =
+    let a = c.args in
+    doubt_alone a.table.now a.u a.v c.if-u-v.false c.closes_by.ensures c.if-closes_by.false c.told.result c.told.ensures.value (c.is_none.ensures ∙ ap not c.if-is_none.true)
 
 pub returns : goal.returns
-returns c = let a = c.args in doubt_outer a.table.now a.u a.v c.if-u-v.false c.closes_by.ensures c.if-closes_by.false c.told.ensures.value c.if-told-eq0.false c.is_outer.ensures
+returns c =
+    let a = c.args in
+    doubt_outer a.table.now a.u a.v c.if-u-v.false c.closes_by.ensures c.if-closes_by.false c.told.result c.told.ensures.value (c.is_none.ensures ∙ ap not c.if-is_none.false) c.is_outer.ensures

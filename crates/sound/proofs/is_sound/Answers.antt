@@ -8,4 +8,4 @@ use Rattle.sound.proofs.is_sound.Goals as goal
 
 pub returns : goal.returns
 unfolding table
-returns c = let a = c.args in c.is_sound_from.ensures ∙ ap (λ (l : List ℕ). sound (rows l a.sizes.now a.entries.now a.n)) c.starts_of-starts.ensures
+returns c = let p = c.args.plan.now in c.is_sound_from.ensures ∙ ap (λ (l : List ℕ). sound (rows l p.sizes.now p.entries.now p.n)) c.starts_of-starts.ensures

@@ -1,6 +1,6 @@
 -- is_sound_from meets its contract.
 use mathlib.Core.Path.{refl}
-use Rattle.rings.specs.Tables.{rows}
+use Rattle.rings.specs.Tables.{plan_of}
 use Rattle.rings.proofs.Rows.{count-rows}
 use Rattle.followers.proofs.Notes.{followers_made, apart-made}
 use Rattle.sound.proofs.Doubts.{sound_many, sound-side, sound_shared, sound-told}
@@ -8,30 +8,30 @@ use mathlib.Core.Path.{ap}
 use mathlib.Core.Bool.{not}
 use Rattle.sound.proofs.is_sound_from.Goals as goal
 
-pub returns-then-n-gt200 : goal.returns-then-n-gt200
-returns-then-n-gt200 c =
+pub returns-then-rings-gt200 : goal.returns-then-rings-gt200
+returns-then-rings-gt200 c =
     let a = c.args in
-    let p = rows a.starts.now a.sizes.now a.entries.now a.n in
-    let size = count-rows a.starts.now a.sizes.now a.entries.now a.n in
-    sound_many p size c.if-n-gt200.true
+    let p = plan_of a.rings.now in
+    let size = count-rows a.rings.now.starts.now a.rings.now.sizes.now a.rings.now.entries.now a.rings.now.n in
+    sound_many p size c.if-rings-gt200.true
 
 pub returns-then-rule8_place-lt4 : goal.returns-then-rule8_place-lt4
 returns-then-rule8_place-lt4 c =
     let a = c.args in
-    let p = rows a.starts.now a.sizes.now a.entries.now a.n in
-    let size = count-rows a.starts.now a.sizes.now a.entries.now a.n in
-    sound-side p size c.if-n-gt200.false c.rule8_place.ensures c.if-rule8_place-lt4.true
+    let p = plan_of a.rings.now in
+    let size = count-rows a.rings.now.starts.now a.rings.now.sizes.now a.rings.now.entries.now a.rings.now.n in
+    sound-side p size c.if-rings-gt200.false c.rule8_place.ensures c.if-rule8_place-lt4.true
 
 pub returns-then-not-fill : goal.returns-then-not-fill
 returns-then-not-fill c =
     let a = c.args in
-    let p = rows a.starts.now a.sizes.now a.entries.now a.n in
-    let size = count-rows a.starts.now a.sizes.now a.entries.now a.n in
-    sound_shared p size c.if-n-gt200.false c.rule8_place.ensures c.if-rule8_place-lt4.false (apart-made p refl c.fill.ensures.value) (ap not c.if-not-fill.true)
+    let p = plan_of a.rings.now in
+    let size = count-rows a.rings.now.starts.now a.rings.now.sizes.now a.rings.now.entries.now a.rings.now.n in
+    sound_shared p size c.if-rings-gt200.false c.rule8_place.ensures c.if-rule8_place-lt4.false (apart-made p refl c.fill.ensures.value) (ap not c.if-not-fill.true)
 
 pub returns : goal.returns
 returns c =
     let a = c.args in
-    let p = rows a.starts.now a.sizes.now a.entries.now a.n in
-    let size = count-rows a.starts.now a.sizes.now a.entries.now a.n in
-    sound-told p size c.if-n-gt200.false c.rule8_place.ensures c.if-rule8_place-lt4.false (apart-made p refl c.fill.ensures.value) (ap not c.if-not-fill.false) (followers_made p refl c.fill.ensures.table_after) c.any_doubted.ensures
+    let p = plan_of a.rings.now in
+    let size = count-rows a.rings.now.starts.now a.rings.now.sizes.now a.rings.now.entries.now a.rings.now.n in
+    sound-told p size c.if-rings-gt200.false c.rule8_place.ensures c.if-rule8_place-lt4.false (apart-made p refl c.fill.ensures.value) (ap not c.if-not-fill.false) (followers_made p refl c.fill.ensures.table_after) c.any_doubted.ensures

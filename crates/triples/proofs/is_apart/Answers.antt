@@ -9,4 +9,4 @@ pub returns-then-c-ge200 : goal.returns-then-c-ge200
 returns-then-c-ge200 c = let a = c.args in apart_wide a.table.now a.a a.c c.if-a-ge200.false c.if-c-ge200.true
 
 pub returns : goal.returns
-returns c = let a = c.args in apart-cell a.table.now a.a a.c c.if-a-ge200.false c.if-c-ge200.false c.told.ensures.value
+returns c = let a = c.args in apart-cell a.table.now a.a a.c c.told.result c.if-a-ge200.false c.if-c-ge200.false c.told.ensures.value c.is_none.ensures
