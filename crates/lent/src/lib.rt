@@ -6,56 +6,60 @@ ghost use Rattle.lists.specs.Tests.{member};
 ghost use Rattle.lists.specs.Spans.{span};
 ghost use Rattle.model.specs.Plan.{ring};
 ghost use Rattle.rings.specs.Tables.{size_of};
-ghost use Rattle.rings.specs.Lent.{body_at, lent};
+ghost use Rattle.rings.specs.Lent.{body_at};
+ghost use Rattle.lent.specs.Plans.{lent_of};
 
-// The number of two bytes that is entry i of u's ring; 0 past the file's end.
-fn entry_in<'a>(file: &'a [u8], starts: &'a [u16], u: usize, i: usize) -> usize
-    requires { i < 2 ^ 8 }
-    ensures { result ≡ get_or file.now (body_at starts.now u + 2 * i) 0 + 256 * get_or file.now (body_at starts.now u + 2 * i + 1) 0 }
-{
-    if file.len() / 4 < u {
-        return 0;
-    }
-    arrays::word_at(file, 10 + 4 * u + 2 * arrays::num(starts, u) + 2 * i)
+// Rings in a lent file: the file, where each ring begins among the entries of all, the size of each, and how many contexts there are.
+#[derive(Clone, Copy)]
+pub struct LentRings<'a> {
+    pub file: &'a [u8],
+    pub starts: &'a [u16],
+    pub sizes: &'a [u8],
+    pub n: usize,
 }
 
-// The i-th neighbour in u's ring; 0 past its end.
-pub fn neighbour_in<'a>(
-    file: &'a [u8],
-    starts: &'a [u16],
-    sizes: &'a [u8],
-    n: usize,
-    u: usize,
-    i: usize,
-) -> usize
-    ensures { result ≡ get_or (ring (lent starts.now sizes.now file.now n) u) i 0 }
-{
-    if i < rings::size_of(sizes, n, u) {
-        rings::neighbour_of(entry_in(file, starts, u, i))
-    } else {
-        0
+impl<'a> LentRings<'a> {
+    // The size of u's ring.
+    pub fn size_of(&self, u: usize) -> usize
+        ensures value { result ≡ size_of self.now.sizes.now self.now.n u }
+        ensures upper_bound { result < 2 ^ 8 }
+    {
+        rings::size_of(self.sizes, self.n, u)
     }
-}
 
-// Is v in u's ring, at a or later?
-pub fn is_from<'a>(
-    file: &'a [u8],
-    starts: &'a [u16],
-    sizes: &'a [u8],
-    n: usize,
-    u: usize,
-    v: usize,
-    a: usize,
-) -> bool
-    ensures { result ≡ member v (span (ring (lent starts.now sizes.now file.now n) u) a (size_of sizes.now n u)) }
-{
-    let e = rings::size_of(sizes, n, u);
-    let mut i = a;
-    while i < e {
-        if v == neighbour_in(file, starts, sizes, n, u, i) {
-            return true;
+    // The number of two bytes that is entry i of u's ring; 0 past the file's end.
+    fn entry_at(&self, u: usize, i: usize) -> usize
+        requires { i < 2 ^ 8 }
+        ensures { result ≡ get_or self.now.file.now (body_at self.now.starts.now u + 2 * i) 0 + 256 * get_or self.now.file.now (body_at self.now.starts.now u + 2 * i + 1) 0 }
+    {
+        if self.file.len() / 4 < u {
+            return 0;
         }
-        i += 1;
+        let at = 10 + 4 * u + 2 * arrays::num(self.starts, u) + 2 * i;
+        arrays::word_at(self.file, at)
     }
-    false
+
+    // The i-th neighbour in u's ring; 0 past its end.
+    pub fn neighbour_at(&self, u: usize, i: usize) -> usize
+        ensures { result ≡ get_or (ring (lent_of self.now) u) i 0 }
+    {
+        if i < self.size_of(u) {
+            rings::neighbour_of(self.entry_at(u, i))
+        } else {
+            0
+        }
+    }
+
+    // Is v in u's ring, at a or later?
+    pub fn is_from(&self, u: usize, v: usize, a: usize) -> bool
+        ensures { result ≡ member v (span (ring (lent_of self.now) u) a (size_of self.now.sizes.now self.now.n u)) }
+    {
+        let e = self.size_of(u);
+        for i in a..e {
+            if v == self.neighbour_at(u, i) {
+                return true;
+            }
+        }
+        false
+    }
 }

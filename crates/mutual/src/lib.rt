@@ -4,101 +4,73 @@
 ghost use Rattle.std.specs.Prelude.{◌≡◌};
 ghost use Rattle.lists.specs.Ranges.{lowest};
 ghost use Rattle.model.specs.Plan.{adjacent, unreturned};
-ghost use Rattle.rings.specs.Lent.{lent};
+ghost use Rattle.lent.specs.Plans.{lent_of};
 ghost use Rattle.places.specs.Places.{places_of, filled};
 
-// Is v in u's ring?
-fn is_listed<'a>(
-    file: &'a [u8],
-    starts: &'a [u16],
-    sizes: &'a [u8],
-    n: usize,
-    u: usize,
-    v: usize,
-) -> bool
-    ensures { result ≡ adjacent (lent starts.now sizes.now file.now n) u v }
-{
-    lent::is_from(file, starts, sizes, n, u, v, 0)
+use lent::LentRings;
+
+// Rings in a lent file, with the table of their positions.
+#[derive(Clone, Copy)]
+struct Located<'a> {
+    rings: LentRings<'a>,
+    places: &'a [u8],
+    ghost placed: { places.now ≡ places_of (lent_of rings) },
 }
 
 // The positions of the rings in the file, in the cells of a table that are 0.
-fn fill_in<'a>(table: &mut [u8], file: &'a [u8], starts: &'a [u16], sizes: &'a [u8], n: usize)
-    ensures { table.new ≡ filled (lent starts.now sizes.now file.now n) table.old }
+fn fill_in(table: &mut [u8], rings: &LentRings)
+    ensures { table.new ≡ filled (lent_of rings.now) table.old }
 {
-    let m = numbers::lesser(n, 200);
-    let mut u = 0;
-    let mut i = 0;
-    while u < m {
-        let e = rings::size_of(sizes, n, u);
-        if i < e {
-            let v = lent::neighbour_in(file, starts, sizes, n, u, i);
-            i += 1;
-            places::note(table, u, v, i as u8);
-        } else {
-            u += 1;
-            i = 0;
+    let m = rings.n.min(200);
+    for u in 0..m {
+        let e = rings.size_of(u);
+        for i in 0..e {
+            let v = rings.neighbour_at(u, i);
+            places::note(table, u, v, (i + 1) as u8);
         }
     }
 }
 
-// Is v in u's ring, by the table of positions? What the table has no room for is looked for in the ring.
-fn is_listed_by<'a>(
-    places: &'a [u8],
-    file: &'a [u8],
-    starts: &'a [u16],
-    sizes: &'a [u8],
-    n: usize,
-    u: usize,
-    v: usize,
-) -> bool
-    requires { places.now ≡ places_of (lent starts.now sizes.now file.now n) }
-    ensures { result ≡ adjacent (lent starts.now sizes.now file.now n) u v }
-{
-    if u >= 200 {
-        return is_listed(file, starts, sizes, n, u, v);
-    }
-    if v >= 200 {
-        return is_listed(file, starts, sizes, n, u, v);
-    }
-    arrays::byte(places, 200 * u + v) != 0
-}
-
-// 6: does u list some context that does not list u?
-fn rule6_at<'a>(
-    places: &'a [u8],
-    file: &'a [u8],
-    starts: &'a [u16],
-    sizes: &'a [u8],
-    n: usize,
-    u: usize,
-) -> bool
-    requires { places.now ≡ places_of (lent starts.now sizes.now file.now n) }
-    ensures { result ≡ unreturned (lent starts.now sizes.now file.now n) u }
-{
-    let e = rings::size_of(sizes, n, u);
-    let mut i = 0;
-    while i < e {
-        let v = lent::neighbour_in(file, starts, sizes, n, u, i);
-        if !is_listed_by(places, file, starts, sizes, n, v, u) {
-            return true;
+impl<'a> Located<'a> {
+    // Is v in u's ring? What the table has no room for is looked for in the ring.
+    fn is_listed(&self, u: usize, v: usize) -> bool
+        ensures { result ≡ adjacent (lent_of self.now.rings) u v }
+    {
+        if u >= 200 {
+            return self.rings.is_from(u, v, 0);
         }
-        i += 1;
+        if v >= 200 {
+            return self.rings.is_from(u, v, 0);
+        }
+        arrays::num(self.places, 200 * u + v) != 0
     }
-    false
+
+    // 6: does u list some context that does not list u?
+    fn rule6_at(&self, u: usize) -> bool
+        ensures { result ≡ unreturned (lent_of self.now.rings) u }
+    {
+        let e = self.rings.size_of(u);
+        for i in 0..e {
+            let v = self.rings.neighbour_at(u, i);
+            if !self.is_listed(v, u) {
+                return true;
+            }
+        }
+        false
+    }
 }
 
 // The lowest context with an unreturned entry; n if there is none.
-pub fn rule6_place<'a>(file: &'a [u8], starts: &'a [u16], sizes: &'a [u8], n: usize) -> usize
-    ensures { result ≡ lowest (unreturned (lent starts.now sizes.now file.now n)) n }
+pub fn rule6_place(rings: &LentRings) -> usize
+    ensures { result ≡ lowest (unreturned (lent_of rings.now)) rings.now.n }
 {
     let mut places = [0u8; 40000];
-    fill_in(&mut places, file, starts, sizes, n);
-    let mut u = 0;
-    while u < n {
-        if rule6_at(&places, file, starts, sizes, n, u) {
-            return u;
-        }
-        u += 1;
-    }
-    u
+    fill_in(&mut places, rings);
+    let located = Located {
+        rings: *rings,
+        places: &places,
+    };
+    (0..rings.n)
+        .find(|u| located.rule6_at(*u))
+        .unwrap_or(rings.n)
 }

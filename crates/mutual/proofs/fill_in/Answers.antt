@@ -7,27 +7,24 @@ use native.Mathlib.Omega.{arith}
 use Rattle.mutual.proofs.fill_in.Goals as goal
 
 pub loop-u-init : goal.loop-u-init
-loop-u-init c = (omega arith, omega arith, notes_start)
+loop-u-init c = notes_start
 
-pub loop-u-preserved-then-i-e : goal.loop-u-preserved-then-i-e
-loop-u-preserved-then-i-e c =
-    let a = c.args in
-    let l = c.loop-u in
-    let fit = c.lesser-m.ensures in
-    let size = c.size_of-e.ensures.value ∙ sym (lent-size a.starts.now a.sizes.now a.file.now a.n l.u) in
-    let most = c.size_of-e.ensures.upper_bound in
-    (l.invariant.0, omega arith, notes_on l.invariant.2 (omega arith) (omega arith) c.neighbour_in-v.ensures (omega arith) refl c.note.ensures)
+pub loop-i-preserved : goal.loop-i-preserved
+loop-i-preserved c =
+    let r = c.args.rings.now in
+    let fit = c.min-m.ensures in
+    let size = c.size_of-e.ensures.value ∙ sym (lent-size r.starts.now r.sizes.now r.file.now r.n c.loop-u.u) in
+    notes_on c.loop-i.invariant (omega arith) (omega arith) c.neighbour_at-v.ensures (omega arith) refl c.note.ensures
 
 pub loop-u-preserved : goal.loop-u-preserved
 loop-u-preserved c =
-    let a = c.args in
-    let l = c.loop-u in
-    let size = c.size_of-e.ensures.value ∙ sym (lent-size a.starts.now a.sizes.now a.file.now a.n l.u) in
-    (omega arith, omega arith, notes_next l.invariant.2 (omega arith) (omega arith))
+    let r = c.args.rings.now in
+    let size = c.size_of-e.ensures.value ∙ sym (lent-size r.starts.now r.sizes.now r.file.now r.n c.loop-u.u) in
+    notes_next c.loop-i.invariant (omega arith) (omega arith)
 
 pub returns : goal.returns
 returns c =
-    let a = c.args in
+    let r = c.args.rings.now in
     let l = c.loop-u in
-    let fit = c.lesser-m.ensures in
-    notes_end l.invariant.2 (λ k h b. lent-size a.starts.now a.sizes.now a.file.now a.n k ∙ size_outside a.sizes.now a.n k (omega arith))
+    let fit = c.min-m.ensures in
+    notes_end l.invariant (λ k h b. lent-size r.starts.now r.sizes.now r.file.now r.n k ∙ size_outside r.sizes.now r.n k (omega arith))

@@ -1,14 +1,17 @@
 -- rule4_place meets its contract.
-use mathlib.Core.Path.{sym, ◌∙◌}
-use Rattle.lists.proofs.Loops.{looks_hit, looks_on, looks_end}
-use native.Mathlib.Omega.{arith}
+use mathlib.Core.Path.{◌≡◌, ◌∙◌}
+use mathlib.Core.Bool.{true, false}
+use borrow.Author.Tests.{tests}
+use borrow.Author.Rules.{rules}
+use Prim.Native.Nat.{ℕ}
+use Rattle.std.proofs.lemmas.Iterator.{first_from_Range}
+use Rattle.model.specs.Plan.{bad_entry}
+use Rattle.lent.specs.Plans.{lent_of}
+use Rattle.lent.proofs.Lowest.{lowest_found}
 use Rattle.single.proofs.rule4_place.Goals as goal
 
-pub returns-then-rule4_at : goal.returns-then-rule4_at
-returns-then-rule4_at c = looks_hit c.loop-u.invariant (omega arith) (sym c.rule4_at.ensures ∙ c.if-rule4_at.true)
-
-pub loop-u-preserved : goal.loop-u-preserved
-loop-u-preserved c = looks_on c.loop-u.invariant (omega arith) (omega arith) (sym c.rule4_at.ensures ∙ c.if-rule4_at.false)
-
 pub returns : goal.returns
-returns c = looks_end c.loop-u.invariant (omega arith)
+returns c =
+    let r = c.args.rings.now in
+    c.unwrap_or.ensures ∙ lowest_found (bad_entry (lent_of r)) r.n c.find.result
+    (first_from_Range _ _ _ c.find.result (λ (u : ℕ). bad_entry (lent_of r) u ≡ true) (λ (u : ℕ). bad_entry (lent_of r) u ≡ false) c.find.ensures.ran (λ x q k. search (rules, tests)) (λ x q k. search (rules, tests)))
