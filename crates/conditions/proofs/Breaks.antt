@@ -20,71 +20,22 @@ use Rattle.conditions.proofs.ByTable.{label_own, label_outside, around_own}
 
 -- ---- what the code tests, case by case
 module _ (t starts ls : List ℕ) (u : ℕ) where
-  -- a ring from 200 on has no labels
-  pub label_high : (v : ℕ) → 200 ≤ u → unlabelled ≡ label_by t starts ls u v
+  -- an entry from 200 on has no label
+  label_wide : (v : ℕ) → u < 200 → 200 ≤ v → unlabelled ≡ label_by t starts ls u v
   unfolding label_by
-  label_high v h = sym (rw (le-ltb u 200 h))
+  label_wide v low h = sym (rw (lt-ltb u 200 low, le-ltb v 200 h))
 
-  module _ (v : ℕ) (low : u < 200) where
-    -- nor has an entry from 200 on
-    pub label_wide : 200 ≤ v → unlabelled ≡ label_by t starts ls u v
-    unfolding label_by
-    label_wide h = sym (rw (lt-ltb u 200 low, le-ltb v 200 h))
+  -- the label at its place, which the table has
+  pub label_place_lem : (v : ℕ) → u < 200 → v < 200 → {x : ℕ} → x ≡ get_or t (cell u v) 0 → (x ≡ 0 → ⊥) → {i : ℕ} → i ≡ get_or starts u 0 + (x - 1) → get_or ls i unlabelled ≡ label_by t starts ls u v
+  unfolding label_by label_at
+  label_place_lem v low h {x} at f {i} q =
+      ap (λ (j : ℕ). get_or ls j unlabelled) (q ∙ ap (λ (y : ℕ). get_or starts u 0 + (y - 1)) at)
+      ∙ sym (rw (lt-ltb u 200 low, lt-ltb v 200 h, ne_eqb (get_or t (cell u v) 0) 0 (λ z. f (at ∙ z))))
 
-    module _ (h : v < 200) {x : ℕ} (at : x ≡ get_or t (cell u v) 0) where
-      -- the table has no place for the entry
-      pub label_zero : x ≡ 0 → unlabelled ≡ label_by t starts ls u v
-      unfolding label_by label_at
-      label_zero z = sym (rw (lt-ltb u 200 low, lt-ltb v 200 h, sym at ∙ z))
-
-      -- the label at its place
-      pub label_place_lem : (x ≡ 0 → ⊥) → {i : ℕ} → i ≡ get_or starts u 0 + (x - 1) → get_or ls i unlabelled ≡ label_by t starts ls u v
-      unfolding label_by label_at
-      label_place_lem f {i} q =
-          ap (λ (j : ℕ). get_or ls j unlabelled) (q ∙ ap (λ (y : ℕ). get_or starts u 0 + (y - 1)) at)
-          ∙ sym (rw (lt-ltb u 200 low, lt-ltb v 200 h, ne_eqb (get_or t (cell u v) 0) 0 (λ z. f (at ∙ z))))
-
-  module _ (v : ℕ) {b : Bool} {l : ℕ} (ends : b ≡ (border u && border v)) (label : l ≡ label_by t starts ls u v) where
-    -- between border contexts stands 4
-    pub dart-border : b ≡ true → not (eqb l 4) ≡ bad_dart_by t starts ls u v
-    unfolding bad_dart_by
-    dart-border q = ap (λ (k : ℕ). not (eqb k 4)) label ∙ sym (rw (sym ends ∙ q))
-
-    -- elsewhere a label below 4
-    pub dart-high : b ≡ false → 4 ≤ l → true ≡ bad_dart_by t starts ls u v
-    unfolding bad_dart_by
-    dart-high q h = sym (rw (sym ends ∙ q, ap (λ (k : ℕ). ltb k 4) (sym label) ∙ le-ltb l 4 h))
-
-    -- and on the reverse dart the label two quarters on
-    pub dart_inner : {m : ℕ} → m ≡ label_by t starts ls v u → b ≡ false → l < 4 → not (eqb m ((l + 2) % 4)) ≡ bad_dart_by t starts ls u v
-    unfolding bad_dart_by
-    dart_inner {m} reverse q h = (λ i. not (eqb (reverse i) ((label i + 2) % 4))) ∙ sym (rw (sym ends ∙ q, ap (λ (k : ℕ). ltb k 4) (sym label) ∙ lt-ltb l 4 h))
-
-  -- nothing is due on a border dart
-  pub due-border : (v : ℕ) → v < 4 → false ≡ not_due_by t starts ls u v
-  unfolding not_due_by
-  due-border v h = sym (rw (lt-ltb v 4 h))
-
-  -- on an inner dart one label is
-  pub due_inner : (v : ℕ) {l d : ℕ} → l ≡ label_by t starts ls u v → d ≡ due u → 4 ≤ v → not (eqb l d) ≡ not_due_by t starts ls u v
-  unfolding not_due_by
-  due_inner v label lead h = (λ i. not (eqb (label i) (lead i))) ∙ sym (rw (le-ltb v 4 h))
-
-  module _ (v : ℕ) {b : Bool} (dart : b ≡ bad_dart_by t starts ls u v) where
-    -- a dart that breaks the rules is wrong
-    pub wrong_bad : b ≡ true → true ≡ wrong_dart_by t starts ls u v
-    unfolding wrong_dart_by
-    wrong_bad e = sym (rw (sym dart ∙ e))
-
-    -- of an inner context it is the only kind
-    pub wrong_inner : b ≡ false → 4 ≤ u → false ≡ wrong_dart_by t starts ls u v
-    unfolding wrong_dart_by
-    wrong_inner e h = sym (rw (sym dart ∙ e, le-ltb u 4 h))
-
-    -- of a border context one with a label that is not due is another
-    pub wrong_due : b ≡ false → u < 4 → {d : Bool} → d ≡ not_due_by t starts ls u v → d ≡ wrong_dart_by t starts ls u v
-    unfolding wrong_dart_by
-    wrong_due e h q = q ∙ sym (rw (sym dart ∙ e, lt-ltb u 4 h))
+  -- elsewhere than between border contexts stands a label below 4
+  dart-high : (v : ℕ) {b : Bool} {l : ℕ} → b ≡ (border u && border v) → l ≡ label_by t starts ls u v → b ≡ false → 4 ≤ l → true ≡ bad_dart_by t starts ls u v
+  unfolding bad_dart_by
+  dart-high v {b} {l} ends label q h = sym (rw (sym ends ∙ q, ap (λ (k : ℕ). ltb k 4) (sym label) ∙ le-ltb l 4 h))
 
   module _ (p : Plan) {r : List ℕ} (round : r ≡ ring p u) {b : Bool} (darts : b ≡ any (wrong_dart_by t starts ls u) r) where
     there : b ≡ any (wrong_dart_by t starts ls u) (ring p u)

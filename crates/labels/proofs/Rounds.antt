@@ -6,14 +6,16 @@ use mathlib.Core.Logic.{◌⊎◌, inl, inr}
 use mathlib.Core.Bool.{Bool, true, false, cond}
 use native.Mathlib.Omega.{arith}
 use lib.ListN.{length, get_or, take, drop, take-append-drop, length-append, length-take, drop_of_length-le}
-use lib.Seq.{slice, slice-cons, length-slice, take_all, drop-append_seam, take-append_seam, get_or-take, get_or-drop}
+use lib.Seq.{slice, drop-cons, take_all, drop-append_seam, take-append_seam}
 use lib.Dec.{eqb, ltb}
 use borrow.Author.Tests.{eqb-true, eq-eqb, ne_eqb, ltb-true, ltb-false, lt-ltb, le-ltb}
+use Rattle.std.proofs.lemmas.List.{drop-take}
 use Rattle.lists.specs.Tests.{same_list}
 use Rattle.lists.specs.Ranges.{from}
 use Rattle.lists.specs.Parts.{squeeze_after, squeeze}
 use Rattle.lists.proofs.Tests.{some_of_lem, of_some, any-map, same-eq, eq-same}
 use Rattle.lists.proofs.Ranges.{from-mem}
+use Rattle.lists.proofs.Spans.{get_or-inside}
 use Rattle.model.specs.Labels.{unlabelled, four_runs}
 use Rattle.labels.specs.Changes.{change_weight}
 
@@ -32,7 +34,7 @@ pub round_sum : List ℕ → ℕ
 round_sum r = change_sum (last_of unlabelled r) r
 
 -- ---- what a change weighs
-pub weight_same : (a b : ℕ) → a ≡ b → change_weight a b ≡ 0
+weight_same : (a b : ℕ) → a ≡ b → change_weight a b ≡ 0
 unfolding change_weight
 weight_same a b e = rw (eq-eqb a b e)
 
@@ -231,11 +233,10 @@ same_bool false false f g = refl
 pub runs_exactly : (r : List ℕ) → four_runs r ≡ eqb (round_sum r) 4
 runs_exactly r = same_bool (four_runs r) (eqb (round_sum r) 4) (λ e. eq-eqb (round_sum r) 4 (runs_weigh r e)) (λ e. weigh_runs r (eqb-true (round_sum r) 4 e))
 
--- ---- let mut last = l[e - 1]; while i < e { weight += weight_of(last, l[i]); if weight > 4 { return false; } last = l[i]; i += 1; } weight == 4
-pub record Weighs (l : List ℕ) (a e i last weight : ℕ) : Type 0 where
-  pub inside : e ≤ length l
+-- ---- let mut last = r[r.len() - 1]; for label in r { weight += weight_of(last, label); if weight > 4 { return false; } last = label; } weight == 4
+pub record Weighs (r : List ℕ) (i last weight : ℕ) : Type 0 where
   pub light : weight ≤ 4
-  pub same : round_sum (slice a e l) ≡ weight + change_sum last (slice i e l)
+  pub same : round_sum r ≡ weight + change_sum last (drop i r)
 
 last_at : (a : ℕ) (l : List ℕ) → 0 < length l → last_of a l ≡ get_or l (length l - 1) a
 unfolding last_of
@@ -245,59 +246,52 @@ last_at a (b ∷ c ∷ l) h =
     let z : suc (suc (length l)) - 1 ≡ suc (suc (length l) - 1) = omega arith in
     last_at a (c ∷ l) (omega arith) ∙ sym (rw z)
 
-last_slice : (l : List ℕ) (a e : ℕ) → a < e → e ≤ length l → last_of unlabelled (slice a e l) ≡ get_or l (e - 1) unlabelled
-last_slice l a e h k =
-    let long = length-slice a e l k in
-    last_at 5 (slice a e l) (omega arith)
-    ∙ ap (λ (j : ℕ). get_or (slice a e l) j 5) (let z : length (slice a e l) - 1 ≡ e - a - 1 = omega arith in z)
-    ∙ get_or-drop a (take e l) (e - a - 1) 5
-    ∙ get_or-take e l (a + (e - a - 1)) 5 (omega arith)
-    ∙ ap (λ (j : ℕ). get_or l j 5) (let z : a + (e - a - 1) ≡ e - 1 = omega arith in z)
-
-pub weighs_start : {l : List ℕ} {a e last : ℕ} → a < e → e ≤ length l → last ≡ get_or l (e - 1) unlabelled → Weighs l a e a last 0
+pub weighs_start : {r : List ℕ} {last : ℕ} → 0 < length r → last ≡ get_or r (length r - 1) 0 → Weighs r 0 last 0
 unfolding round_sum
-weighs_start {l} {a} {e} {last} h k q = record {
-  inside = k;
-  light = omega arith;
-  same = ap (λ (b : ℕ). change_sum b (slice a e l)) (last_slice l a e h k ∙ sym q) ∙ omega arith;
-}
+weighs_start {r} {last} h q =
+    record { light = omega arith; same = ap (λ (b : ℕ). change_sum b r) (last_at 5 r h ∙ get_or-inside r (length r - 1) 5 0 (omega arith) ∙ sym q) ∙ omega arith }
 
-module _ {l : List ℕ} {a e i last weight : ℕ} (inv : Weighs l a e i last weight) where
+module _ {r : List ℕ} {i last weight : ℕ} (inv : Weighs r i last weight) where
   -- one label more
-  weighs_more : {label w : ℕ} → i < e → label ≡ get_or l i unlabelled → w ≡ change_weight last label → round_sum (slice a e l) ≡ weight + w + change_sum label (slice (i + 1) e l)
+  weighs_more : {label w : ℕ} → i < length r → label ≡ get_or r i 0 → w ≡ change_weight last label → round_sum r ≡ weight + w + change_sum label (drop (i + 1) r)
   unfolding change_sum
   weighs_more {label} {w} h q p =
       let z : suc i ≡ i + 1 = omega arith in
-      let cut : slice i e l ≡ label ∷ slice (i + 1) e l = slice-cons i e l 5 h inv.inside ∙ (λ j. sym q j ∷ slice (z j) e l) in
+      let cut : drop i r ≡ label ∷ drop (i + 1) r = drop-cons r i 0 h ∙ (λ j. sym q j ∷ drop (z j) r) in
       let s = inv.same ∙ ap (λ (m : List ℕ). weight + change_sum last m) cut in
       omega arith
 
-  pub weighs_on : {label w i' : ℕ} → i' ≡ i + 1 → i < e → label ≡ get_or l i unlabelled → w ≡ change_weight last label → weight + w ≤ 4 → Weighs l a e i' label (weight + w)
-  weighs_on {label} {w} {i'} r h q p k = record {
-    inside = inv.inside;
-    light = k;
-    same = weighs_more h q p ∙ ap (λ (j : ℕ). weight + w + change_sum label (slice j e l)) (sym r);
-  }
+  pub weighs_on : {label w i' : ℕ} → i' ≡ i + 1 → i < length r → label ≡ get_or r i 0 → w ≡ change_weight last label → weight + w ≤ 4 → Weighs r i' label (weight + w)
+  weighs_on {label} {w} {i'} e h q p k =
+      record { light = k; same = weighs_more h q p ∙ ap (λ (j : ℕ). weight + w + change_sum label (drop j r)) (sym e) }
 
-  pub weighs_heavy : {label w : ℕ} → i < e → label ≡ get_or l i unlabelled → w ≡ change_weight last label → 4 < weight + w → false ≡ four_runs (slice a e l)
-  weighs_heavy h q p k = let s = weighs_more h q p in sym (runs_exactly (slice a e l) ∙ ne_eqb (round_sum (slice a e l)) 4 (λ z. omega arith))
+  pub weighs_heavy : {label w : ℕ} → i < length r → label ≡ get_or r i 0 → w ≡ change_weight last label → 4 < weight + w → false ≡ four_runs r
+  weighs_heavy h q p k = let s = weighs_more h q p in sym (runs_exactly r ∙ ne_eqb (round_sum r) 4 (λ z. omega arith))
 
-  pub weighs_end : e ≤ i → eqb weight 4 ≡ four_runs (slice a e l)
+  pub weighs_end : length r ≤ i → eqb weight 4 ≡ four_runs r
   unfolding change_sum
   weighs_end h =
-      let gone : slice i e l ≡ [] = drop_of_length-le (take e l) {i = i} (let k = length-take e l in omega arith) in
-      let s : round_sum (slice a e l) ≡ weight = inv.same ∙ ap (λ (m : List ℕ). weight + change_sum last m) gone ∙ omega arith in
-      ap (λ (k : ℕ). eqb k 4) (sym s) ∙ sym (runs_exactly (slice a e l))
+      let gone : drop i r ≡ [] = drop_of_length-le r {i = i} h in
+      let s : round_sum r ≡ weight = inv.same ∙ ap (λ (m : List ℕ). weight + change_sum last m) gone ∙ omega arith in
+      ap (λ (k : ℕ). eqb k 4) (sym s) ∙ sym (runs_exactly r)
 
 -- ---- the labels up to the last
-pub slice_end : (l : List ℕ) (a e end : ℕ) → end ≡ min e (length l) → slice a end l ≡ slice a e l
+slice_end : (l : List ℕ) (a e end : ℕ) → end ≡ min e (length l) → slice a end l ≡ slice a e l
 slice_end l a e end q = ap (drop a) (go (ltb e (length l)) refl)
   where
     go : (t : Bool) → ltb e (length l) ≡ t → take end l ≡ take e l
     go true p = let h = ltb-true e (length l) p in ap (λ (j : ℕ). take j l) (let z : end ≡ e = omega arith in z)
     go false p = let h = ltb-false e (length l) p in take_all end l (omega arith) ∙ sym (take_all e l (omega arith))
 
+-- a round that the code cuts out
+pub round_is : (l : List ℕ) (a e end : ℕ) → end ≡ min e (length l) → a < end → take (end - a) (drop a l) ≡ slice a e l
+round_is l a e end q h =
+    let z : a + (end - a) ≡ end = omega arith in
+    sym (drop-take a (end - a) l) ∙ ap (λ (j : ℕ). drop a (take j l)) z ∙ slice_end l a e end q
+
 -- no label, no run
-pub runs_none : (l : List ℕ) (a e : ℕ) → e ≤ a → false ≡ four_runs (slice a e l)
+pub runs_none : (l : List ℕ) (a e end : ℕ) → end ≡ min e (length l) → end ≤ a → false ≡ four_runs (slice a e l)
 unfolding four_runs
-runs_none l a e h = let gone : slice a e l ≡ [] = drop_of_length-le (take e l) {i = a} (let k = length-take e l in omega arith) in sym (rw gone)
+runs_none l a e end q h =
+    let gone : slice a e l ≡ [] = sym (slice_end l a e end q) ∙ drop_of_length-le (take end l) {i = a} (let k = length-take end l in omega arith) in
+    sym (rw gone)

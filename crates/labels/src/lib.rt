@@ -1,4 +1,5 @@
 // Labels of darts in a flat array: the label at a place, the label due at a context, and four runs, each equal to a definition of the model.
+// A label is a number: files and calls bring any byte, and labels are turned by adding quarters.
 #![tactic(auto)]
 
 ghost use Rattle.std.specs.Prelude.{◌≡◌, ◌&&◌, ◌<◌, ◌^◌, get_or};
@@ -7,28 +8,47 @@ ghost use Rattle.model.specs.Labels.{unlabelled, due};
 
 pub mod runs;
 
-// The label at i; past the last there is none, which is 5.
+// The label up.
+pub const UP: usize = 0;
+
+// The label right, a quarter clockwise from up.
+pub const RIGHT: usize = 1;
+
+// The label down.
+pub const DOWN: usize = 2;
+
+// The label left.
+pub const LEFT: usize = 3;
+
+// The label between border contexts.
+pub const BORDER: usize = 4;
+
+// What stands where there is no label.
+pub const NONE: usize = 5;
+
+// The label at i; past the last there is none.
 pub fn label_at(labels: &[u8], i: usize) -> usize
     ensures value { result ≡ get_or labels.now i unlabelled }
     ensures upper_bound { result < 2 ^ 8 }
 {
-    if i >= labels.len() {
-        return 5;
+    match labels.get(i) {
+        Some(label) => usize::from(*label),
+        None => NONE,
     }
-    numbers::wide_byte(labels[i])
 }
 
 // The label due on the inner darts that leave a context: North's are down, East's left, South's up, West's right; no one label is due at an inner context.
+#[tactic(auto, unfolding(model::specs::Labels::due))]
 pub fn due_label(u: usize) -> usize
     ensures { result ≡ due u }
 {
     match u {
-        0 => 2,
-        1 => 3,
-        2 => 0,
-        3 => 1,
-        4..=199 => 5,
-        _ => 5,
+        0 => DOWN,
+        1 => LEFT,
+        2 => UP,
+        3 => RIGHT,
+        4..=199 => NONE,
+        _ => NONE,
     }
 }
 
@@ -36,5 +56,5 @@ pub fn due_label(u: usize) -> usize
 pub fn both_border(u: usize, v: usize) -> bool
     ensures { result ≡ (border u && border v) }
 {
-    if u < 4 { v < 4 } else { false }
+    u < 4 && v < 4
 }

@@ -5,6 +5,7 @@ ghost use Rattle.model.specs.Labels.{four_runs};
 ghost use Rattle.labels.specs.Changes.{change_weight};
 
 // What a change from label a to label b weighs: 0 where there is none, 1 to the next label clockwise, 5 otherwise.
+#[tactic(auto, unfolding(crate::specs::Changes::change_weight))]
 fn change_weight(a: usize, b: usize) -> usize
     ensures value { result ≡ change_weight a b }
     ensures upper_bound { result ≤ 5 }
@@ -22,21 +23,20 @@ fn change_weight(a: usize, b: usize) -> usize
 pub fn four_runs(labels: &[u8], a: usize, e: usize) -> bool
     ensures { result ≡ four_runs (slice a e labels.now) }
 {
-    let end = numbers::lesser(e, labels.len());
+    let end = e.min(labels.len());
     if end <= a {
         return false;
     }
-    let mut last = crate::label_at(labels, end - 1);
+    let round = &labels[a..end];
+    let mut last = usize::from(round[round.len() - 1]);
     let mut weight = 0;
-    let mut i = a;
-    while i < end {
-        let label = crate::label_at(labels, i);
+    for label in round {
+        let label = usize::from(*label);
         weight += change_weight(last, label);
         if weight > 4 {
             return false;
         }
         last = label;
-        i += 1;
     }
     weight == 4
 }

@@ -1,20 +1,20 @@
 -- The engine's answer is the model's: each case of the answer, and the labels beside it.
 use Prim.Native.Nat.{ℕ, ◌/◌, ◌%◌, ◌≤◌, ◌<◌}
-use mathlib.Core.Path.{◌≡◌, refl, sym, ap, ◌∙◌, subst}
+use mathlib.Core.Path.{◌≡◌, refl, sym, ap, ◌∙◌}
 use mathlib.Core.Logic.{◌≢◌}
 use mathlib.Core.List.{List, [], ◌∷◌, ◌++◌}
-use mathlib.Core.Bool.{Bool, false, cond}
+use mathlib.Core.Bool.{Bool, true, false, cond}
 use native.Mathlib.Omega.{arith}
-use lib.ListN.{length, take, drop, take-append-drop}
-use lib.Seq.{take_all}
-use borrow.Author.Tests.{le-leb, lt-leb, lt-ltb, le-ltb, eq-eqb, ne_eqb}
+use lib.ListN.{length, drop, take-append-drop}
+use lib.Dec.{leb}
+use borrow.Author.Tests.{leb-true, leb-false, le-leb, lt-leb, lt-ltb, le-ltb, eq-eqb, ne_eqb}
 use Rattle.lists.specs.Ranges.{lowest}
 use Rattle.lists.specs.Parts.{pairs}
 use Rattle.lists.specs.Spans.{stretch}
 use Rattle.lists.proofs.Parts.{length_pairs}
 use Rattle.lists.proofs.Spans.{length-stretch, stretch-first}
 use Rattle.lists.proofs.Stretches.{stretch-front}
-use Rattle.model.specs.Outcome.{accepted, refused, ◌>>◌, require}
+use Rattle.model.specs.Outcome.{Outcome, accepted, refused, ◌>>◌, require, taken}
 use Rattle.model.specs.Plan.{Plan, Dart, count, entry_count}
 use Rattle.model.specs.Labels.{label_of, turned, put, breaks, label_rules}
 use Rattle.model.specs.Turn.{bad_pair, quarters, turn_dart, turned_edges, turn}
@@ -22,11 +22,8 @@ use Rattle.rings.specs.Tables.{start_of, starts_of, table, in_bounds}
 use Rattle.rings.proofs.Rows.{count-rows}
 use Rattle.labels.proofs.Darts.{label_behind, put-behind, rules_behind}
 use Rattle.model.proofs.LabelCounts.{turns_long}
-use Rattle.turn.specs.declared.TurnAnswer.{TurnAnswer}
-use Rattle.turn.specs.declared.TurnAnswer.TheVariants.{Labelled, BadList, Broken, Unfit}
-use Rattle.turn.specs.declared.Turned.{Turned}
-use Rattle.turn.specs.Run.{kept}
-use Rattle.turn.specs.Turned.{labels_in, turn_of, outcome_of, array_after}
+use Rattle.turn.specs.Run.{pairs_turned}
+use Rattle.turn.specs.Turned.{labels_in, turn_of, held_labels, in_array}
 use Rattle.turn.proofs.Named.{turn_long}
 use Rattle.turn.proofs.Turns.{count-table}
 
@@ -101,23 +98,51 @@ rules_kept : (p : Plan) (ms : List ℕ) {place : ℕ} → place ≡ lowest (brea
 unfolding label_rules
 rules_kept p ms e h = ap (λ (t : Bool). require t 10 (lowest (breaks p ms) (count p)) >> accepted ms) (le-leb (count p) (lowest (breaks p ms) (count p)) (omega arith))
 
--- ---- the answer, and the labels beside it
+-- ---- the pass over the pairs
+module _ (p : Plan) (q : ℕ) (es : List Dart) (old : List ℕ) where
+  -- what it answers, by whether the pairs are good
+  abbrev Passed : Bool → Outcome (List ℕ)
+  Passed t = require t 15 (lowest (bad_pair p es) (length es)) >> accepted (turned_edges p q es old)
+
+  -- labels: no pair was bad, and all edges are turned
+  pub pairs_good : {new : List ℕ} → accepted new ≡ pairs_turned p q es old → (length es ≤ lowest (bad_pair p es) (length es)) × (new ≡ turned_edges p q es old)
+  unfolding pairs_turned taken
+  pairs_good {new} e = go (leb (length es) (lowest (bad_pair p es) (length es))) refl e
+    where
+      go : (t : Bool) → leb (length es) (lowest (bad_pair p es) (length es)) ≡ t → accepted new ≡ Passed t → (length es ≤ lowest (bad_pair p es) (length es)) × (new ≡ turned_edges p q es old)
+      go true h e = (leb-true _ _ h, ap (taken []) e)
+      go false h e = absurd (cc)
+
+  -- the refusal of the first bad pair
+  abbrev First_bad : Outcome (List ℕ)
+  First_bad = refused 15 (lowest (bad_pair p es) (length es))
+
+  -- a refusal: of the first bad pair
+  pub pairs_bad : {k at : ℕ} → refused k at ≡ pairs_turned p q es old → (lowest (bad_pair p es) (length es) < length es) × (refused k at ≡ First_bad)
+  unfolding pairs_turned
+  pairs_bad {k} {at} e = go (leb (length es) (lowest (bad_pair p es) (length es))) refl e
+    where
+      go : (t : Bool) → leb (length es) (lowest (bad_pair p es) (length es)) ≡ t → refused k at ≡ Passed t → (lowest (bad_pair p es) (length es) < length es) × (refused k at ≡ First_bad)
+      go true h e = absurd (cc)
+      go false h e = (leb-false _ _ h, e)
+
+-- ---- the answer
 module _ (sizes es : List ℕ) (n : ℕ) (labels items : List ℕ) (direction : ℕ) where
   -- what the contract says of an answer
-  abbrev pub Answers : Turned → Type 0
-  Answers r =
-      (outcome_of r.answer (labels_in sizes n r.labels) ≡ turn_of sizes es n labels items direction)
-      × (r.labels ≡ array_after labels (turn_of sizes es n labels items direction))
+  abbrev pub Answers : Outcome (List ℕ) → Type 0
+  Answers r = record {
+    answer : held_labels sizes n r ≡ turn_of sizes es n labels items direction;
+    labels : r ≡ in_array labels (turn_of sizes es n labels items direction);
+  }
 
-  -- a refusal, with the array as it was
-  refusal : (a : TurnAnswer) (k at : ℕ) {r : Turned} → turn_of sizes es n labels items direction ≡ refused k at → outcome_of a (labels_in sizes n labels) ≡ refused k at → r ≡ kept a labels → Answers r
-  unfolding array_after kept
-  refusal a k at e q is = subst Answers (sym is) (q ∙ sym e, ap (array_after labels) (sym e))
+  -- a refusal
+  refusal : {k at : ℕ} → turn_of sizes es n labels items direction ≡ refused k at → Answers (refused k at)
+  refusal e = record { answer = sym e; labels = sym (ap (in_array labels) e) }
 
   -- rings that do not fit
-  pub answer_unfit : {r : Turned} → in_bounds sizes n ≡ false → r ≡ kept Unfit labels → Answers r
-  unfolding turn_of outcome_of
-  answer_unfit e = refusal Unfit 13 0 (ap (λ (t : Bool). cond t (turn (table sizes es n) (labels_in sizes n labels) items direction) (refused 13 0)) e) refl
+  pub answer_unfit : in_bounds sizes n ≡ false → Answers (refused 13 0)
+  unfolding turn_of
+  answer_unfit e = refusal (ap (λ (t : Bool). cond t (turn (table sizes es n) (labels_in sizes n labels) items direction) (refused 13 0)) e)
 
   module _ (small : n ≤ 200) (few : start_of sizes n ≤ 1186) (full : length labels ≡ 1186) where
     -- the plan
@@ -156,66 +181,63 @@ module _ (sizes es : List ℕ) (n : ℕ) (labels items : List ℕ) (direction : 
     unfolding table
     many = count-rows (starts_of sizes) sizes es n
 
-    module _ {at m : ℕ} (found : at ≡ First P Old items direction) (halves : m ≡ length items / 2) where
-      -- half of the items are pairs
-      half : m ≡ length (pairs items)
-      half = halves ∙ sym (length_pairs items)
+    -- 15 at the first bad pair
+    pub answer_pair : (q : ℕ) {k at : ℕ} → refused k at ≡ pairs_turned P q (pairs items) labels → Answers (refused k at)
+    answer_pair q e =
+        let (h, same) = pairs_bad P q (pairs items) labels e in
+        refusal (fits ∙ turn-pair P Old items direction h ∙ sym same)
 
-      -- 15 at the first bad pair
-      pub answer_pair : {r : Turned} → at < m → r ≡ kept (BadList at) labels → Answers r
-      unfolding outcome_of
-      answer_pair h = refusal (BadList at) 15 at (fits ∙ turn-pair P Old items direction (let e = half in omega arith) ∙ (λ i. refused 15 (sym found i))) refl
+    module _ (q : ℕ) {new : List ℕ} (passed : accepted new ≡ pairs_turned P q (pairs items) labels) where
+      good : Many P Old items direction ≤ First P Old items direction
+      good = (pairs_good P q (pairs items) labels passed).0
 
-      module _ (good : m ≤ at) where
-        -- 15 at the number of pairs, for an item over
-        pub answer_odd : {r : Turned} → length items % 2 ≢ 0 → r ≡ kept (BadList m) labels → Answers r
-        unfolding outcome_of
-        answer_odd odd = refusal (BadList m) 15 m (fits ∙ turn_odd P Old items direction (let e = half in omega arith) odd ∙ (λ i. refused 15 (sym half i))) refl
+      -- 15 at the number of pairs, for an item over
+      pub answer_odd : {m : ℕ} → m ≡ length items / 2 → length items % 2 ≢ 0 → Answers (refused 15 m)
+      answer_odd halves odd = refusal (fits ∙ turn_odd P Old items direction good odd ∙ ap (refused 15) (length_pairs items ∙ sym halves))
 
-        module _ (even : length items % 2 ≡ 0) where
-          -- 15 at the number of pairs, for a direction above 1
-          pub answer_direction : {r : Turned} → 1 < direction → r ≡ kept (BadList m) labels → Answers r
-          unfolding outcome_of
-          answer_direction far = refusal (BadList m) 15 m (fits ∙ turn_direction P Old items direction (let e = half in omega arith) even (omega arith) ∙ (λ i. refused 15 (sym half i))) refl
+      module _ (even : length items % 2 ≡ 0) where
+        -- 15 at the number of pairs, for a direction above 1
+        pub answer_direction : {m : ℕ} → m ≡ length items / 2 → 1 < direction → Answers (refused 15 m)
+        answer_direction halves far = refusal (fits ∙ turn_direction P Old items direction good even (omega arith) ∙ ap (refused 15) (length_pairs items ∙ sym halves))
 
-          module _ (near : direction ≤ 1) {q : ℕ} {new : List ℕ} (by : q ≡ quarters direction) (turned-all : new ≡ turned_edges P q (take at (pairs items)) labels) {place : ℕ} (tested : place ≡ lowest (breaks P new) n) where
-            -- the labels after all edges are turned
-            abbrev New : List ℕ
-            New = After P Old items direction
+        module _ (near : direction ≤ 1) (by : q ≡ quarters direction) {place : ℕ} (tested : place ≡ lowest (breaks P new) n) where
+          -- the labels after all edges are turned
+          abbrev New : List ℕ
+          New = After P Old items direction
 
-            -- the array begins with them, and what was behind is there still
-            new_front : new ≡ New ++ Rest
-            new_front =
-                turned-all
-                ∙ (λ i. turned_edges P (by i) (take_all at (pairs items) (let e = half in omega arith) i) (old-front i))
-                ∙ edges_behind P (quarters direction) (pairs items) Old Rest old-each
+          -- the array begins with them, and what was behind is there still
+          new_front : new ≡ New ++ Rest
+          new_front =
+              (pairs_good P q (pairs items) labels passed).1
+              ∙ (λ i. turned_edges P (by i) (pairs items) (old-front i))
+              ∙ edges_behind P (quarters direction) (pairs items) Old Rest old-each
 
-            -- they are as many as before
-            new_long : length New ≡ length Old
-            new_long = turns_long P (quarters direction) (pairs items) Old
+          -- they are as many as before
+          new_long : length New ≡ length Old
+          new_long = turns_long P (quarters direction) (pairs items) Old
 
-            -- the context that the code found
-            place_is : place ≡ lowest (breaks P New) (count P)
-            place_is =
-                tested
-                ∙ (λ i. lowest (breaks P (new_front i)) (sym many i))
-                ∙ rules_behind P New Rest (new_long ∙ old-each) (count P)
+          -- the context that the code found
+          place_is : place ≡ lowest (breaks P New) (count P)
+          place_is =
+              tested
+              ∙ (λ i. lowest (breaks P (new_front i)) (sym many i))
+              ∙ rules_behind P New Rest (new_long ∙ old-each) (count P)
 
-            -- only the label rules are left
-            answered : turn_of sizes es n labels items direction ≡ (label_rules P New >> accepted New)
-            answered = fits ∙ turn_rules P Old items direction (let e = half in omega arith) even (omega arith)
+          -- only the label rules are left
+          answered : turn_of sizes es n labels items direction ≡ (label_rules P New >> accepted New)
+          answered = fits ∙ turn_rules P Old items direction good even (omega arith)
 
-            -- 10 at the lowest context that breaks them
-            pub answer_broken : {r : Turned} → place < n → r ≡ kept (Broken place) labels → Answers r
-            unfolding outcome_of
-            answer_broken h = refusal (Broken place) 10 place (answered ∙ rules_broken P New place_is (let c = many in omega arith)) refl
+          -- 10 at the lowest context that breaks them
+          pub answer_broken : place < n → Answers (refused 10 place)
+          answer_broken h = refusal (answered ∙ rules_broken P New place_is (let c = many in omega arith))
 
-            -- none breaks them
-            pub answer_labelled : n ≤ place → Answers (kept Labelled new)
-            unfolding kept outcome_of labels_in array_after
-            answer_labelled h =
-                let done : turn_of sizes es n labels items direction ≡ accepted New = answered ∙ rules_kept P New place_is (let c = many in omega arith) in
-                let size : length New ≡ start_of sizes n = new_long ∙ old_long in (
-                  (λ i. accepted (stretch (new_front i) 0 (sym size i))) ∙ ap accepted (stretch-front New Rest) ∙ sym done,
-                  new_front ∙ ap (λ (k : ℕ). New ++ drop k labels) (sym size) ∙ ap (array_after labels) (sym done),
-                )
+          -- none breaks them
+          pub answer_labelled : n ≤ place → Answers (accepted new)
+          unfolding labels_in
+          answer_labelled h =
+              let done : turn_of sizes es n labels items direction ≡ accepted New = answered ∙ rules_kept P New place_is (let c = many in omega arith) in
+              let size : length New ≡ start_of sizes n = new_long ∙ old_long in
+              record {
+                answer = (λ i. accepted (stretch (new_front i) 0 (sym size i))) ∙ ap accepted (stretch-front New Rest) ∙ sym done;
+                labels = ap accepted (new_front ∙ ap (λ (k : ℕ). New ++ drop k labels) (sym size)) ∙ ap (in_array labels) (sym done);
+              }

@@ -1,44 +1,40 @@
 -- What the pass over the named edges keeps, with a law for its start, its steps and its end.
-use Prim.Native.Nat.{ℕ, zero, suc, ◌+◌, ◌*◌, ◌/◌, ◌%◌, ◌≤◌, ◌<◌}
+use Prim.Native.Nat.{ℕ, zero, suc, ◌+◌, ◌/◌, ◌%◌, ◌≤◌, ◌<◌}
 use mathlib.Core.Path.{◌≡◌, refl, sym, ap, ◌∙◌, subst}
 use mathlib.Core.List.{List, [], ◌∷◌, ◌++◌}
 use mathlib.Core.Bool.{Bool, true, false, cond, not, ◌&&◌, ◌||◌}
 use native.Mathlib.Omega.{arith}
 use lib.ListN.{length, get_or, set, take}
-use lib.Seq.{set_out, take-suc}
+use lib.Seq.{set_out, take-suc, take_all}
 use lib.Dec.{eqb}
+use Rattle.std.specs.Simd.{first_chunks}
+use Rattle.std.proofs.Common.{Some, None}
 use borrow.Author.Tests.{le-leb, lt-leb, lt-ltb, le-ltb}
 use Rattle.lists.specs.Tests.{any}
 use Rattle.lists.specs.Ranges.{lowest}
 use Rattle.lists.specs.Parts.{index_of, pairs}
 use Rattle.lists.proofs.Bools.{or_no}
-use Rattle.lists.proofs.Parts.{length_pairs}
 use Rattle.lists.proofs.Loops.{Looks, looks_start, looks_hit, looks_on, looks_end}
 use Rattle.lists.proofs.Spans.{get_or-inside}
+use Rattle.model.specs.Outcome.{accepted, refused, ◌>>◌, require}
 use Rattle.model.specs.Plan.{Plan, Dart, ring, adjacent, border, inner_edge, entry_count}
-use Rattle.model.specs.Labels.{unlabelled, start, label_of, turned, put}
+use Rattle.model.specs.Labels.{unlabelled, start, label_of, turned}
 use Rattle.model.specs.Turn.{same_edge, bad_pair, turn_dart, turned_edges}
 use Rattle.rings.specs.Tables.{start_of, starts_of, size_of, rows, table}
 use Rattle.rings.proofs.Rows.{count-rows}
 use Rattle.labels.proofs.Places.{start-table, dart_test, place_there}
-use Rattle.labels.proofs.Darts.{Place, start_last, place_inside, label_at-place, put-at-place, put_nowhere}
-use Rattle.turn.specs.Run.{place_of, turn_at, bad_at}
-use Rattle.turn.proofs.Named.{dart, turn_long, Marks, marks-start, marks-on}
+use Rattle.labels.proofs.Darts.{Place, start_last, label_at-place, put-at-place, put_nowhere}
+use Rattle.turn.specs.Run.{place_of, turn_at, bad_at, unturned, pairs_turned}
+use Rattle.turn.proofs.Named.{dart, Marks, marks-start, marks-on}
 
 -- ---- the k-th pair of a list
--- items 2k and 2k + 1
-pub pair-at : (l : List ℕ) (k : ℕ) → k < length (pairs l) → get_or (pairs l) k (0, 0) ≡ dart (get_or l (2 * k) 0) (get_or l (2 * k + 1) 0)
-pair-at [] k h = absurd (omega arith)
-pair-at (a ∷ []) k h = absurd (omega arith)
-pair-at (a ∷ b ∷ l) zero h = refl
-pair-at (a ∷ b ∷ l) (suc k) h =
-    let x : 2 * suc k ≡ suc (suc (2 * k)) = omega arith in
-    let y : 2 * suc k + 1 ≡ suc (suc (2 * k + 1)) = omega arith in
-    pair-at l k (omega arith) ∙ (λ i. dart (get_or (a ∷ b ∷ l) (sym x i) 0) (get_or (a ∷ b ∷ l) (sym y i) 0))
-
--- the same, with the two numbers that the code has read
-pub pair_is : (l : List ℕ) (k : ℕ) {u v : ℕ} → k < length l / 2 → u ≡ get_or l (2 * k) 0 → v ≡ get_or l (2 * k + 1) 0 → get_or (pairs l) k (0, 0) ≡ dart u v
-pair_is l k h e f = pair-at l k (let z = length_pairs l in omega arith) ∙ (λ i. dart (sym e i) (sym f i))
+-- the two numbers of the k-th chunk of two
+pub chunk_is : (l : List ℕ) (m k : ℕ) {u v : ℕ} → k < m → m ≤ length l / 2 → u ≡ get_or (get_or (first_chunks 2 m l) k []) 0 0 → v ≡ get_or (get_or (first_chunks 2 m l) k []) 1 0 → get_or (pairs l) k (0, 0) ≡ dart u v
+chunk_is l zero k h w e f = absurd (omega arith)
+chunk_is [] (suc m) k h w e f = absurd (omega arith)
+chunk_is (a ∷ []) (suc m) k h w e f = absurd (omega arith)
+chunk_is (a ∷ b ∷ l) (suc m) zero h w e f = λ i. dart (sym e i) (sym f i)
+chunk_is (a ∷ b ∷ l) (suc m) (suc k) h w e f = chunk_is l m k (omega arith) (omega arith) e f
 
 -- ---- the place of a dart's label in an array
 module _ (starts sizes es : List ℕ) (n : ℕ) (same : starts ≡ starts_of sizes) (small : n ≤ 200) where
@@ -51,32 +47,14 @@ module _ (starts sizes es : List ℕ) (n : ℕ) (same : starts ≡ starts_of siz
 
   module _ (u v : ℕ) {s i k : ℕ} (from-s : s ≡ get_or starts u 0) (at : i ≡ index_of v (ring (rows starts sizes es n) u)) (size : k ≡ size_of sizes n u) where
     -- the index is below the size: the start and the index
-    pub place_found : i < k → s + i ≡ place_of (table sizes es n) u v
+    pub place_found : i < k → Some (s + i) ≡ place_of (table sizes es n) u v
     unfolding place_of
-    place_found h = place_there starts sizes es n same small u v from-s at size h ∙ sym (rw (dart_test starts sizes es n same small u v from-s at size ∙ lt-ltb i k h))
+    place_found h = ap Some (place_there starts sizes es n same small u v from-s at size h) ∙ sym (rw (dart_test starts sizes es n same small u v from-s at size ∙ lt-ltb i k h))
 
     -- it is not: there is no dart
-    pub place_missing : k ≤ i → 1186 ≡ place_of (table sizes es n) u v
+    pub place_missing : k ≤ i → None ≡ place_of (table sizes es n) u v
     unfolding place_of
     place_missing h = sym (rw (dart_test starts sizes es n same small u v from-s at size ∙ le-ltb i k h))
-
--- ---- the tests of one pair, in each case that the code tells apart
-module _ (old new : List ℕ) (i u v : ℕ) where
-  -- there is no dart
-  pub bad_missing : 1186 ≤ i → true ≡ bad_at old new i u v
-  unfolding bad_at
-  bad_missing h = sym (rw (le-leb 1186 i h))
-
-  module _ (h : i < 1186) {b : Bool} (ends : b ≡ (border u && border v)) where
-    -- both its ends are border contexts
-    pub bad_border_lem : b ≡ true → true ≡ bad_at old new i u v
-    unfolding bad_at
-    bad_border_lem t = sym (rw (lt-leb 1186 i h, sym ends ∙ t))
-
-    -- its label has changed, or has not
-    pub bad_label : {x y : ℕ} → b ≡ false → x ≡ get_or old i unlabelled → y ≡ get_or new i unlabelled → not (eqb y x) ≡ bad_at old new i u v
-    unfolding bad_at
-    bad_label t e f = (λ j. not (eqb (f j) (e j))) ∙ sym (rw (lt-leb 1186 i h, sym ends ∙ t))
 
 -- ---- a label turned at a place
 -- past the last label nothing changes
@@ -91,17 +69,47 @@ turned_on q i ls h =
     let x : (get_or ls i 0 % 4 + q) % 4 ≡ (get_or ls i 0 + q) % 4 = omega arith in
     ap (set ls i) (x ∙ ap (λ (l : ℕ). (l + q) % 4) (get_or-inside ls i 0 unlabelled h))
 
--- ---- a dart turned at its place
--- also where there is no dart
-pub turned-at : (p : Plan) (q u v : ℕ) (ls : List ℕ) → length ls ≤ 1186 → turn_at q (place_of p u v) ls ≡ turn_dart p q (dart u v) ls
-unfolding turn_at place_of turn_dart
-turned-at p q u v ls h = go (adjacent p u v) refl
-  where
-    go : (t : Bool) → adjacent p u v ≡ t → set ls (cond t (start p u + index_of v (ring p u)) 1186) (turned (get_or ls (cond t (start p u + index_of v (ring p u)) 1186) unlabelled) q) ≡ put p u v (turned (label_of p ls u v) q) ls
-    go true e = ap (λ (l : ℕ). set ls (Place p u v) (turned l q)) (sym (label_at-place p u v e ls)) ∙ sym (put-at-place p u v e ls (turned (label_of p ls u v) q))
-    go false e = set_out ls 1186 (turned (get_or ls 1186 unlabelled) q) h ∙ sym (put_nowhere p u v e ls (turned (label_of p ls u v) q))
+-- ---- a dart that may not be turned
+-- both its ends are border contexts
+pub bad_border_lem : (old new : List ℕ) (i u v : ℕ) {b : Bool} → b ≡ (border u && border v) → b ≡ true → true ≡ bad_at old new i u v
+unfolding bad_at
+bad_border_lem old new i u v ends t = sym (rw (sym ends ∙ t))
 
--- ---- while k < m { if is_bad(pair k) { return k; } turn the edge; k += 1; }
+-- ---- a dart turned at its place
+module _ (p : Plan) (u v : ℕ) where
+  -- a place that was found is that of a dart
+  place_is : {i : ℕ} → Some i ≡ place_of p u v → (adjacent p u v ≡ true) × (i ≡ Place p u v)
+  unfolding place_of
+  place_is {i} e = go (adjacent p u v) refl e
+    where
+      go : (t : Bool) → adjacent p u v ≡ t → Some i ≡ cond t (Some (start p u + index_of v (ring p u))) None → (adjacent p u v ≡ true) × (i ≡ Place p u v)
+      go true d e = (d, cc)
+      go false d e = absurd (cc)
+
+  -- where none was found there is no dart
+  place_none : None ≡ place_of p u v → adjacent p u v ≡ false
+  unfolding place_of
+  place_none e = go (adjacent p u v) refl e
+    where
+      go : (t : Bool) → adjacent p u v ≡ t → None ≡ cond t (Some (start p u + index_of v (ring p u))) None → adjacent p u v ≡ false
+      go true d e = absurd (cc)
+      go false d e = d
+
+  -- the label at the place is the dart's
+  pub turned-at : (q : ℕ) (ls : List ℕ) {i : ℕ} → Some i ≡ place_of p u v → turn_at q i ls ≡ turn_dart p q (dart u v) ls
+  unfolding turn_at turn_dart
+  turned-at q ls {i} e =
+      let (d, at) = place_is e in
+      ap (λ (j : ℕ). set ls j (turned (get_or ls j unlabelled) q)) at
+      ∙ ap (λ (l : ℕ). set ls (Place p u v) (turned l q)) (sym (label_at-place p u v d ls))
+      ∙ sym (put-at-place p u v d ls (turned (label_of p ls u v) q))
+
+  -- where there is no dart nothing is turned
+  pub turned_none : (q : ℕ) (ls : List ℕ) → None ≡ place_of p u v → ls ≡ turn_dart p q (dart u v) ls
+  unfolding turn_dart
+  turned_none q ls e = sym (put_nowhere p u v (place_none e) ls (turned (label_of p ls u v) q))
+
+-- ---- for k in 0..m { find the place of pair k, or return k; turn the edge; }
 pub record Turns (p : Plan) (q : ℕ) (es : List Dart) (old : List ℕ) (k : ℕ) (new : List ℕ) : Type 0 where
   pub looks : Looks (bad_pair p es) (length es) k
   pub same : new ≡ turned_edges p q (take k es) old
@@ -123,59 +131,83 @@ module _ {p : Plan} {q : ℕ} {es : List Dart} {old : List ℕ} {k : ℕ} {new :
   pub turns_long : length new ≡ length old
   turns_long = inv.marks.long
 
-  -- past the last pair none was bad
-  pub turns_end : {m : ℕ} → m ≡ length es → m ≤ k → k ≡ lowest (bad_pair p es) (length es)
-  turns_end e h = looks_end inv.looks (omega arith)
+  -- past the last pair none was bad, and all edges are turned
+  pub turns_end : {m : ℕ} → m ≡ length es → m ≤ k → accepted new ≡ pairs_turned p q es old
+  unfolding pairs_turned
+  turns_end e h =
+      let last : k ≡ lowest (bad_pair p es) (length es) = looks_end inv.looks (omega arith) in
+      ap accepted (inv.same ∙ ap (λ (x : List Dart). turned_edges p q x old) (take_all k es (omega arith)))
+      ∙ sym (ap (λ (t : Bool). require t 15 (lowest (bad_pair p es) (length es)) >> accepted (turned_edges p q es old)) (le-leb (length es) (lowest (bad_pair p es) (length es)) (omega arith)))
 
-  module _ (room : entry_count p ≤ 1186) (full : length old ≡ 1186) (u v : ℕ) (pair : get_or es k (0, 0) ≡ dart u v) {i : ℕ} (place : i ≡ place_of p u v) {t : Bool} (test : t ≡ bad_at old new i u v) where
-    -- the test in code is the model's
-    judged : t ≡ bad_pair p es k
-    unfolding bad_pair inner_edge bad_at place_of
-    judged = test ∙ ap (λ (j : ℕ). bad_at old new j u v) place ∙ go (adjacent p u v) refl ∙ sym (ap (λ (e : Dart). not (inner_edge p e.0 e.1) || any (same_edge e) (take k es)) pair)
+  module _ (room : entry_count p ≤ 1186) (full : length old ≡ 1186) (u v : ℕ) (pair : get_or es k (0, 0) ≡ dart u v) where
+    -- the place that the code finds, by the model's test
+    judged : unturned old new u v (place_of p u v) ≡ cond (bad_pair p es k) None (place_of p u v)
+    unfolding bad_pair inner_edge bad_at place_of unturned
+    judged = go (adjacent p u v) refl ∙ ap (λ (e : Dart). cond (not (inner_edge p e.0 e.1) || any (same_edge e) (take k es)) None (cond (adjacent p u v) (Some (start p u + index_of v (ring p u))) None)) (sym pair)
       where
-        go : (t : Bool) → adjacent p u v ≡ t → bad_at old new (cond t (start p u + index_of v (ring p u)) 1186) u v ≡ (not (t && not (border u && border v)) || any (same_edge (dart u v)) (take k es))
+        -- not not is nothing
+        twice : (b : Bool) → b ≡ not (not b)
+        twice true = refl
+        twice false = refl
+
+        go : (t : Bool) → adjacent p u v ≡ t → unturned old new u v (cond t (Some (start p u + index_of v (ring p u))) None) ≡ cond (not (t && not (border u && border v)) || any (same_edge (dart u v)) (take k es)) None (cond t (Some (start p u + index_of v (ring p u))) None)
         go true e =
-            let h = place_inside p u v e in
-            ap (λ (b : Bool). b || (border u && border v || not (eqb (get_or new (Place p u v) unlabelled) (get_or old (Place p u v) unlabelled)))) (lt-leb 1186 (Place p u v) (omega arith))
-            ∙ (λ j. border u && border v || not (eqb (sym (label_at-place p u v e new) j) (sym (label_at-place p u v e old) j)))
+            ap (λ (b : Bool). cond b None (Some (Place p u v)))
+            ((λ j. border u && border v || not (eqb (sym (label_at-place p u v e new) j) (sym (label_at-place p u v e old) j)))
             ∙ (λ j. border u && border v || sym (inv.marks.same u v e) j)
-            ∙ ap (λ (b : Bool). b || any (same_edge (dart u v)) (take k es)) (twice (border u && border v))
-          where
-            -- not not is nothing
-            twice : (b : Bool) → b ≡ not (not b)
-            twice true = refl
-            twice false = refl
-        go false e = ap (λ (b : Bool). b || (border u && border v || not (eqb (get_or new 1186 unlabelled) (get_or old 1186 unlabelled)))) (le-leb 1186 1186 (omega arith))
+            ∙ ap (λ (b : Bool). b || any (same_edge (dart u v)) (take k es)) (twice (border u && border v)))
+        go false e = refl
+
+    -- no dart, no good pair
+    bad_missing : None ≡ place_of p u v → bad_pair p es k ≡ true
+    unfolding bad_pair inner_edge
+    bad_missing none =
+        ap (λ (d : Dart). not (inner_edge p d.0 d.1) || any (same_edge d) (take k es)) pair
+        ∙ ap (λ (t : Bool). not (t && not (border u && border v)) || any (same_edge (dart u v)) (take k es)) (place_none p u v none)
+
+    -- where it finds none the pair is bad
+    bad_none : None ≡ unturned old new u v (place_of p u v) → bad_pair p es k ≡ true
+    bad_none e = go (bad_pair p es k) refl (e ∙ judged)
+      where
+        go : (t : Bool) → bad_pair p es k ≡ t → None ≡ cond t None (place_of p u v) → bad_pair p es k ≡ true
+        go true b none = b
+        go false b none = bad_missing none
+
+    -- where it finds one it is the dart's, and the pair is not bad
+    good_some : {i : ℕ} → Some i ≡ unturned old new u v (place_of p u v) → (Some i ≡ place_of p u v) × (bad_pair p es k ≡ false)
+    good_some {i} e = go (bad_pair p es k) refl (e ∙ judged)
+      where
+        go : (t : Bool) → bad_pair p es k ≡ t → Some i ≡ cond t None (place_of p u v) → (Some i ≡ place_of p u v) × (bad_pair p es k ≡ false)
+        go true b e = absurd (cc)
+        go false b e = (e, b)
 
     -- a bad pair is the first
-    pub turns_hit : {m : ℕ} → m ≡ length es → k < m → t ≡ true → k ≡ lowest (bad_pair p es) (length es)
-    turns_hit e h b = looks_hit inv.looks (omega arith) (sym judged ∙ b)
+    pub turns_hit : {m : ℕ} → m ≡ length es → k < m → None ≡ unturned old new u v (place_of p u v) → refused 15 k ≡ pairs_turned p q es old
+    unfolding pairs_turned
+    turns_hit e h none =
+        let first : k ≡ lowest (bad_pair p es) (length es) = looks_hit inv.looks (omega arith) (bad_none none) in
+        ap (refused 15) first
+        ∙ sym (ap (λ (t : Bool). require t 15 (lowest (bad_pair p es) (length es)) >> accepted (turned_edges p q es old)) (lt-leb (length es) (lowest (bad_pair p es) (length es)) (omega arith)))
 
     -- the edge was not named before
-    unnamed : t ≡ false → any (same_edge (dart u v)) (take k es) ≡ false
+    unnamed : bad_pair p es k ≡ false → any (same_edge (dart u v)) (take k es) ≡ false
     unfolding bad_pair
     unnamed b =
         ap (λ (e : Dart). any (same_edge e) (take k es)) (sym pair)
-        ∙ (or_no (not (inner_edge p (get_or es k (0, 0)).0 (get_or es k (0, 0)).1)) (any (same_edge (get_or es k (0, 0))) (take k es)) (sym judged ∙ b)).1
+        ∙ (or_no (not (inner_edge p (get_or es k (0, 0)).0 (get_or es k (0, 0)).1)) (any (same_edge (get_or es k (0, 0))) (take k es)) b).1
 
     -- the edge of a pair that is not bad is turned
-    pub turns-on : {m k' j : ℕ} {back new' : List ℕ} → m ≡ length es → k < m → q % 2 ≡ 1 → t ≡ false → j ≡ place_of p v u → back ≡ turn_at q j new → new' ≡ turn_at q i back → k' ≡ k + 1 → Turns p q es old k' new'
+    pub turns-on : {m i : ℕ} {back new' : List ℕ} → m ≡ length es → k < m → q % 2 ≡ 1 → Some i ≡ unturned old new u v (place_of p u v) → back ≡ turn_dart p q (dart v u) new → new' ≡ turn_at q i back → Turns p q es old (k + 1) new'
     unfolding turned_edges
-    turns-on {m} {k'} {j} {back} {new'} e h odd b back-place back-turned turned-too next =
-        let s : k' ≡ suc k = omega arith in
-        let more : take k' es ≡ take k es ++ (dart u v ∷ []) = ap (λ (x : ℕ). take x es) s ∙ take-suc es k (0, 0) (omega arith) ∙ ap (λ (x : Dart). take k es ++ (x ∷ [])) pair in
-        let long : length new ≡ 1186 = turns_long ∙ full in
-        let one : back ≡ turn_dart p q (dart v u) new = back-turned ∙ ap (λ (x : ℕ). turn_at q x new) back-place ∙ turned-at p q v u new (omega arith) in
+    turns-on {m} {i} {back} {new'} e h odd found one turned-too =
+        let s : k + 1 ≡ suc k = omega arith in
+        let (place, b) = good_some found in
+        let more : take (k + 1) es ≡ take k es ++ (dart u v ∷ []) = ap (λ (x : ℕ). take x es) s ∙ take-suc es k (0, 0) (omega arith) ∙ ap (λ (x : Dart). take k es ++ (x ∷ [])) pair in
         let marked = marks-on inv.marks q odd (omega arith) u v (unnamed b) in
-        let long-back : length back ≡ 1186 = ap length one ∙ back_long ∙ long in
         let two : new' ≡ turn_dart p q (dart u v) (turn_dart p q (dart v u) new) =
-        turned-too ∙ ap (λ (x : ℕ). turn_at q x back) place ∙ turned-at p q u v back (omega arith) ∙ ap (turn_dart p q (dart u v)) one in
+        turned-too ∙ turned-at p u v q back place ∙ ap (turn_dart p q (dart u v)) one in
         record {
-          looks = looks_on inv.looks s (omega arith) (sym judged ∙ b);
+          looks = looks_on inv.looks s (omega arith) b;
           same = two ∙ ap (λ (x : List ℕ). turn_dart p q (dart u v) (turn_dart p q (dart v u) x)) inv.same ∙ sym (ap (λ (x : List Dart). turned_edges p q x old) more ∙ edges_append p q (take k es) (dart u v ∷ []) old);
           marks = subst (λ (x : List Dart). Marks p old x new') (sym more) (subst (Marks p old (take k es ++ (dart u v ∷ []))) (sym two) marked);
         }
-      where
-        -- after the reverse dart the labels are as many
-        back_long : length (turn_dart p q (dart v u) new) ≡ length new
-        back_long = turn_long p q (dart v u) new

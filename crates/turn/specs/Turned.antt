@@ -4,8 +4,6 @@ use Rattle.lists.specs.Spans.{stretch}
 use Rattle.model.specs.Outcome.{Outcome, accepted, refused}
 use Rattle.model.specs.Turn.{turn}
 use Rattle.rings.specs.Tables.{start_of, table, in_bounds}
-use Rattle.turn.specs.declared.TurnAnswer.{TurnAnswer}
-use Rattle.turn.specs.declared.TurnAnswer.TheVariants.{Labelled, BadList, Broken, Unfit}
 
 -- the labels that an array holds: one for each entry of the first n rings
 unfoldable pub labels_in : List ℕ → ℕ → List ℕ → List ℕ
@@ -15,14 +13,12 @@ labels_in sizes n labels = stretch labels 0 (start_of sizes n)
 unfoldable pub turn_of : List ℕ → List ℕ → ℕ → List ℕ → List ℕ → ℕ → Outcome (List ℕ)
 turn_of sizes entries n labels items direction = cond (in_bounds sizes n) (turn (table sizes entries n) (labels_in sizes n labels) items direction) (refused 13 0)
 
--- 01's number and values for each answer
-unfoldable pub outcome_of : TurnAnswer → List ℕ → Outcome (List ℕ)
-outcome_of Labelled ls = accepted ls
-outcome_of (BadList k) ls = refused 15 k
-outcome_of (Broken u) ls = refused 10 u
-outcome_of Unfit ls = refused 13 0
+-- an outcome with the labels that its array holds
+abbrev pub held_labels : List ℕ → ℕ → Outcome (List ℕ) → Outcome (List ℕ)
+held_labels sizes n (accepted array) = accepted (labels_in sizes n array)
+held_labels sizes n (refused k at) = refused k at
 
--- the array afterwards: the new labels, and what stood behind the old; after a refusal the very array
-unfoldable pub array_after : List ℕ → Outcome (List ℕ) → List ℕ
-array_after old (accepted new) = new ++ drop (length new) old
-array_after old (refused k at) = old
+-- an outcome with its labels in an array: behind them stands what stood behind the old
+abbrev pub in_array : List ℕ → Outcome (List ℕ) → Outcome (List ℕ)
+in_array old (accepted new) = accepted (new ++ drop (length new) old)
+in_array old (refused k at) = refused k at

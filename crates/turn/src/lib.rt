@@ -2,40 +2,22 @@
 // One pass tests and turns the named edges. An edge named before is known by its label, which is not the old one any more.
 #![tactic(auto)]
 
-ghost use Rattle.std.specs.Prelude.{◌≡◌, ◌≤◌, ◌<◌, ◌%◌, length, take};
-ghost use Rattle.lists.specs.Ranges.{lowest};
+ghost use Rattle.std.specs.Prelude.{◌≡◌, ◌≤◌, ◌<◌, ◌%◌};
 ghost use Rattle.lists.specs.Parts.{pairs};
-ghost use Rattle.model.specs.Turn.{quarters, bad_pair, turned_edges};
-ghost use Rattle.rings.specs.Tables.{start_of, starts_of, rows, table};
+ghost use Rattle.model.specs.Turn.{quarters};
+ghost use Rattle.refusal.specs.Refusals.{told};
+ghost use Rattle.rings.specs.Tables.{start_of, starts_of, plan_of, table};
 ghost use Rattle.places.specs.Places.{places_of};
-ghost use Rattle.turn.specs.Turned.{labels_in, turn_of, outcome_of, array_after};
-ghost use Rattle.turn.specs.Run.{place_of, turn_at, bad_at};
-ghost use Rattle.turn.specs.Run as run;
+ghost use Rattle.turn.specs.Turned.{turn_of, held_labels, in_array};
+ghost use Rattle.turn.specs.Run.{place_of, turn_at, unturned, pairs_turned};
 
-// What a turn answers: labels, the first bad place of the list (15), the lowest context that breaks the label rules (10), or rings that do not fit the arrays (13).
-#[derive(Clone, Copy)]
-pub enum TurnAnswer {
-    Labelled,
-    BadList(usize),
-    Broken(usize),
-    Unfit,
-}
-
-// The answer, and the labels; after a refusal they are as they were.
-#[derive(Drop)]
-pub struct Turned {
-    pub answer: TurnAnswer,
-    pub labels: [u8; 1186],
-}
-
-// How far the pass over the named edges came, and the labels then.
-#[derive(Drop)]
-pub struct Passed {
-    pub at: usize,
-    pub labels: [u8; 1186],
-}
+use conditions::Labelled;
+use places::Located;
+use refusal::Refusal;
+use rings::Table;
 
 // The quarters of a direction: one clockwise, three counterclockwise.
+// A number, and no enum: the pass over the edges comes before the direction is tested, and turns by whatever direction it is given.
 fn quarters_of(direction: u8) -> u8
     ensures value { result ≡ quarters direction }
     ensures upper_bound { (result < 4) × (result % 2 ≡ 1) }
@@ -43,39 +25,37 @@ fn quarters_of(direction: u8) -> u8
     if direction == 0 { 1 } else { 3 }
 }
 
-// Where the label of the dart from u to v stands; 1186 where there is no dart.
-fn place_of<'a>(
-    places: &'a [u8],
-    starts: &'a [u16],
-    sizes: &'a [u8],
-    entries: &'a [u16],
-    n: usize,
-    u: usize,
-    v: usize,
-) -> usize
-    requires starts_value { starts.now ≡ starts_of sizes.now }
-    requires n_bound { n ≤ 200 }
-    requires places_value { places.now ≡ places_of (rows starts.now sizes.now entries.now n) }
-    ensures { result ≡ place_of (table sizes.now entries.now n) u v }
+// Where the label of the dart from u to v stands, if there is a dart.
+fn place_of(located: &Located, u: usize, v: usize) -> Option<usize>
+    requires starts_value { located.now.rings.starts.now ≡ starts_of located.now.rings.sizes.now }
+    requires n_bound { located.now.rings.n ≤ 200 }
+    requires places_value { located.now.places.now ≡ places_of (plan_of located.now.rings) }
+    ensures { result ≡ place_of (table located.now.rings.sizes.now located.now.rings.entries.now located.now.rings.n) u v }
 {
-    let i = places::index_by(places, starts, sizes, entries, n, u, v);
-    if i < rings::size_of(sizes, n, u) {
-        return arrays::num(starts, u) + i;
+    let i = located.index_of(u, v);
+    let rings = located.rings;
+    if i < rings.size_of(u) {
+        return Some(arrays::num(rings.starts, u) + i);
     }
-    1186
+    None
 }
 
-// Is the dart from u to v, whose label stands at i, no inner dart, or was its label turned already?
-fn is_bad<'a>(old: &'a [u8], new: &'a [u8], i: usize, u: usize, v: usize) -> bool
-    ensures { result ≡ bad_at old.now new.now i u v }
+// Where the label of the dart from u to v stands, if it is an inner dart whose label was not turned yet.
+#[tactic(auto, unfolding(crate::specs::Run::unturned, crate::specs::Run::bad_at))]
+fn unturned_place(located: &Located, old: &[u8], new: &[u8], u: usize, v: usize) -> Option<usize>
+    requires starts_value { located.now.rings.starts.now ≡ starts_of located.now.rings.sizes.now }
+    requires n_bound { located.now.rings.n ≤ 200 }
+    requires places_value { located.now.places.now ≡ places_of (plan_of located.now.rings) }
+    ensures { result ≡ unturned old.now new.now u v (place_of (table located.now.rings.sizes.now located.now.rings.entries.now located.now.rings.n) u v) }
 {
-    if 1186 <= i {
-        return true;
-    }
+    let i = place_of(located, u, v)?;
     if labels::both_border(u, v) {
-        return true;
+        return None;
     }
-    labels::label_at(new, i) != labels::label_at(old, i)
+    if labels::label_at(new, i) != labels::label_at(old, i) {
+        return None;
+    }
+    Some(i)
 }
 
 // The label at i turned clockwise by q quarters; nothing where i is past the last.
@@ -88,93 +68,69 @@ fn turn_at(labels: &mut [u8], i: usize, q: u8)
     }
 }
 
-// The first bad pair, or the number of pairs; and the labels with the edges before it turned by q quarters.
-fn turn_pairs<'a>(
-    places: &'a [u8],
-    starts: &'a [u16],
-    sizes: &'a [u8],
-    entries: &'a [u16],
-    n: usize,
+// The labels with each named edge turned by q quarters, where every pair is an inner edge that was not named before.
+fn turn_pairs(
+    located: &Located,
     labels: [u8; 1186],
-    items: &'a [u16],
+    items: &[u16],
     q: u8,
-) -> Passed
-    requires starts_value { starts.now ≡ starts_of sizes.now }
-    requires n_bound { n ≤ 200 }
-    requires places_value { places.now ≡ places_of (rows starts.now sizes.now entries.now n) }
-    requires n_bound_2 { start_of sizes.now n ≤ 1186 }
+) -> Result<[u8; 1186], Refusal>
+    requires starts_value { located.now.rings.starts.now ≡ starts_of located.now.rings.sizes.now }
+    requires n_bound { located.now.rings.n ≤ 200 }
+    requires places_value { located.now.places.now ≡ places_of (plan_of located.now.rings) }
+    requires n_bound_2 { start_of located.now.rings.sizes.now located.now.rings.n ≤ 1186 }
     requires q_bound { (q < 4) × (q % 2 ≡ 1) }
-    ensures at { result.at ≡ lowest (bad_pair (table sizes.now entries.now n) (pairs items.now)) (length (pairs items.now)) }
-    ensures labels { result.labels ≡ turned_edges (table sizes.now entries.now n) q (take result.at (pairs items.now)) labels }
+    ensures { told result ≡ pairs_turned (table located.now.rings.sizes.now located.now.rings.entries.now located.now.rings.n) q (pairs items.now) labels }
 {
-    let m = items.len() / 2;
+    let (pairs, _) = items.as_chunks::<2>();
     let mut turned = labels;
-    let mut k = 0;
-    while k < m {
-        let u = arrays::num(items, 2 * k);
-        let v = arrays::num(items, 2 * k + 1);
-        let i = place_of(places, starts, sizes, entries, n, u, v);
-        if is_bad(&labels, &turned, i, u, v) {
-            return Passed {
-                at: k,
-                labels: turned,
-            };
+    for (k, pair) in pairs.iter().enumerate() {
+        let u = usize::from(pair[0]);
+        let v = usize::from(pair[1]);
+        let i = unturned_place(located, &labels, &turned, u, v).ok_or(Refusal::BadPair(k))?;
+        if let Some(back) = place_of(located, v, u) {
+            turn_at(&mut turned, back, q);
         }
-        let back = place_of(places, starts, sizes, entries, n, v, u);
-        turn_at(&mut turned, back, q);
         turn_at(&mut turned, i, q);
-        k += 1;
     }
-    Passed {
-        at: k,
-        labels: turned,
-    }
-}
-
-// An answer beside the labels as they were.
-fn kept(answer: TurnAnswer, labels: [u8; 1186]) -> Turned
-    ensures { result ≡ run.kept answer labels }
-{
-    Turned { answer, labels }
+    Ok(turned)
 }
 
 // The labels with both darts of each named edge turned by a quarter, after the list, the direction and the label rules are tested.
-pub fn turn_labels<'a>(
+pub fn turn_labels(
     labels: [u8; 1186],
-    sizes: &'a [u8],
-    entries: &'a [u16],
-    n: usize,
-    items: &'a [u16],
+    plan: &Table,
+    items: &[u16],
     direction: u8,
-) -> Turned
-    ensures answer { outcome_of result.answer (labels_in sizes.now n result.labels) ≡ turn_of sizes.now entries.now n labels items.now direction }
-    ensures labels { result.labels ≡ array_after labels (turn_of sizes.now entries.now n labels items.now direction) }
+) -> Result<[u8; 1186], Refusal>
+    ensures answer { held_labels plan.now.sizes.now plan.now.n (told result) ≡ turn_of plan.now.sizes.now plan.now.entries.now plan.now.n labels items.now direction }
+    ensures labels { told result ≡ in_array labels (turn_of plan.now.sizes.now plan.now.entries.now plan.now.n labels items.now direction) }
 {
-    if !fit::is_in_bounds(sizes, n) {
-        return kept(TurnAnswer::Unfit, labels);
+    if !fit::is_in_bounds(plan.sizes, plan.n) {
+        return Err(Refusal::TooEarly);
     }
-    let starts = rings::starts_of(sizes);
+    let starts = rings::starts_of(plan.sizes);
+    let plan = *plan;
+    let rings = plan.rings(&starts);
     let mut places = [0u8; 40000];
-    places::fill(&mut places, &starts, sizes, entries, n);
-    let pairs = items.len() / 2;
-    let quarters = quarters_of(direction);
-    let passed = turn_pairs(&places, &starts, sizes, entries, n, labels, items, quarters);
-    if passed.at < pairs {
-        return kept(TurnAnswer::BadList(passed.at), labels);
+    places::fill(&mut places, &rings);
+    let located = Located {
+        rings,
+        places: &places,
+    };
+    let turned = turn_pairs(&located, labels, items, quarters_of(direction))?;
+    if items.len() % 2 != 0 || 1 < direction {
+        return Err(Refusal::BadPair(items.len() / 2));
     }
-    if items.len() % 2 != 0 {
-        return kept(TurnAnswer::BadList(pairs), labels);
+    let labelled = Labelled {
+        places: &places,
+        starts: &starts,
+        plan,
+        labels: &turned,
+    };
+    let place = labelled.place();
+    if place < plan.n {
+        return Err(Refusal::BadLabels(place));
     }
-    if 1 < direction {
-        return kept(TurnAnswer::BadList(pairs), labels);
-    }
-    let turned = passed.labels;
-    let place = conditions::place_by(&places, &starts, sizes, entries, n, &turned);
-    if place < n {
-        return kept(TurnAnswer::Broken(place), labels);
-    }
-    Turned {
-        answer: TurnAnswer::Labelled,
-        labels: turned,
-    }
+    Ok(turned)
 }

@@ -1,116 +1,79 @@
 -- turn_labels meets its contract.
-use mathlib.Core.Path.{refl, sym, ◌∙◌}
+use mathlib.Core.Path.{◌≡◌, refl, sym, ap, ◌∙◌}
+use mathlib.Core.Bool.{not}
+use native.Mathlib.Omega.{arith}
 use borrow.Author.Tests.{not-true, not-false}
+use Rattle.std.proofs.lemmas.Result.{err_from_is_err_and}
+use Rattle.lists.specs.Parts.{pairs}
+use Rattle.rings.specs.Tables.{rows, start_of, starts_of, table}
+use Rattle.places.specs.Places.{places_of}
 use Rattle.places.proofs.Notes.{filled-zeros}
 use Rattle.conditions.proofs.Breaks.{rules_own}
 use Rattle.fit.proofs.Fits.{bounds_say}
-use Rattle.turn.specs.Run.{kept}
+use Rattle.turn.specs.Run.{pairs_turned}
 use Rattle.turn.proofs.Answers.{answer_unfit, answer_pair, answer_odd, answer_direction, answer_broken, answer_labelled}
-use native.Mathlib.Omega.{arith}
-use mathlib.Core.Path.{ap}
-use mathlib.Core.Bool.{not}
 use Rattle.turn.proofs.turn_labels.Goals as goal
+use Rattle.turn.proofs.turn_labels.Goals.{then-items-ne0-via-then-items-ne0, then-items-ne0-via-else-items-ne0+then-direction-gt1}
 
-pub returns-then-not-is_in_bounds-clause-answer : goal.returns-then-not-is_in_bounds-clause-answer
-returns-then-not-is_in_bounds-clause-answer c =
-    let a = c.args in
-    (answer_unfit a.sizes.now a.entries.now a.n a.labels a.items.now a.direction (sym c.is_in_bounds.ensures ∙ not-true _ (ap not c.if-not-is_in_bounds.true)) c.kept.ensures).0
+pub turn_pairs-requires : goal.turn_pairs-requires
+turn_pairs-requires c =
+    let t = c.args.plan.now in
+    let r = c.rings-rings.ensures in
+    let b = bounds_say t.sizes.now t.n (sym c.is_in_bounds.ensures ∙ not-false _ (ap not c.if-not-is_in_bounds.false)) in
+    record {
+      starts_value = r.starts ∙ c.starts_of-starts.ensures ∙ ap starts_of (sym r.sizes);
+      n_bound = let e = r.n in let h = b.0 in omega arith;
+      places_value = c.fill.ensures ∙ filled-zeros _ refl;
+      n_bound_2 = let e : start_of c.rings-rings.result.sizes.now c.rings-rings.result.n ≡ start_of t.sizes.now t.n = λ i. start_of (r.sizes i) (r.n i) in let h = b.1 in omega arith;
+      q_bound = c.quarters_of.ensures.upper_bound;
+    }
 
-pub returns-then-not-is_in_bounds-clause-labels : goal.returns-then-not-is_in_bounds-clause-labels
-returns-then-not-is_in_bounds-clause-labels c =
-    let a = c.args in
-    (answer_unfit a.sizes.now a.entries.now a.n a.labels a.items.now a.direction (sym c.is_in_bounds.ensures ∙ not-true _ (ap not c.if-not-is_in_bounds.true)) c.kept.ensures).1
+pub returns-then-not-is_in_bounds : goal.returns-then-not-is_in_bounds
+returns-then-not-is_in_bounds c =
+    let t = c.args.plan.now in
+    answer_unfit t.sizes.now t.entries.now t.n c.args.labels c.args.items.now c.args.direction (sym c.is_in_bounds.ensures ∙ not-true _ (ap not c.if-not-is_in_bounds.true))
 
-pub turn_pairs-passed-requires-clause-n_bound : goal.turn_pairs-passed-requires-clause-n_bound
-turn_pairs-passed-requires-clause-n_bound c =
-    let a = c.args in
-    let b = bounds_say a.sizes.now a.n (sym c.is_in_bounds.ensures ∙ not-false _ (ap not c.if-not-is_in_bounds.false)) in
-    b.0
-
-pub turn_pairs-passed-requires-clause-places_value : goal.turn_pairs-passed-requires-clause-places_value
-turn_pairs-passed-requires-clause-places_value c =
-    let a = c.args in
-    let b = bounds_say a.sizes.now a.n (sym c.is_in_bounds.ensures ∙ not-false _ (ap not c.if-not-is_in_bounds.false)) in
-    c.fill.ensures ∙ filled-zeros _ refl
-
-pub turn_pairs-passed-requires-clause-n_bound_2 : goal.turn_pairs-passed-requires-clause-n_bound_2
-turn_pairs-passed-requires-clause-n_bound_2 c =
-    let a = c.args in
-    let b = bounds_say a.sizes.now a.n (sym c.is_in_bounds.ensures ∙ not-false _ (ap not c.if-not-is_in_bounds.false)) in
-    b.1
-
-pub returns-then-passed-pairs-clause-answer : goal.returns-then-passed-pairs-clause-answer
-returns-then-passed-pairs-clause-answer c =
-    let a = c.args in
+pub returns-in_err-turned : goal.returns-in_err-turned
+returns-in_err-turned c =
+    let t = c.args.plan.now in
+    let r = c.rings-rings.ensures in
     let long = c.well_formed in
-    let b = bounds_say a.sizes.now a.n (sym c.is_in_bounds.ensures ∙ not-false _ (ap not c.if-not-is_in_bounds.false)) in
-    (answer_pair a.sizes.now a.entries.now a.n a.labels a.items.now a.direction b.0 b.1 (omega arith) c.turn_pairs-passed.ensures.at refl (omega arith) c.kept-then-passed-pairs.ensures).0
+    let b = bounds_say t.sizes.now t.n (sym c.is_in_bounds.ensures ∙ not-false _ (ap not c.if-not-is_in_bounds.false)) in
+    let p = err_from_is_err_and c.from_residual.result c.from_residual.ensures.1 in
+    let bad = c.in_err-turned.ensures ∙ (λ i. pairs_turned (table (r.sizes i) (r.entries i) (r.n i)) c.quarters_of.result (pairs c.args.items.now) c.args.labels) in
+    let a = answer_pair t.sizes.now t.entries.now t.n c.args.labels c.args.items.now c.args.direction b.0 b.1 (omega arith) c.quarters_of.result bad in
+    rw (p.1, p.2) a
 
-pub returns-then-passed-pairs-clause-labels : goal.returns-then-passed-pairs-clause-labels
-returns-then-passed-pairs-clause-labels c =
-    let a = c.args in
+pub returns-then-items-ne0 : goal.returns-then-items-ne0
+returns-then-items-ne0 c =
+    let t = c.args.plan.now in
+    let r = c.rings-rings.ensures in
     let long = c.well_formed in
-    let b = bounds_say a.sizes.now a.n (sym c.is_in_bounds.ensures ∙ not-false _ (ap not c.if-not-is_in_bounds.false)) in
-    (answer_pair a.sizes.now a.entries.now a.n a.labels a.items.now a.direction b.0 b.1 (omega arith) c.turn_pairs-passed.ensures.at refl (omega arith) c.kept-then-passed-pairs.ensures).1
+    let b = bounds_say t.sizes.now t.n (sym c.is_in_bounds.ensures ∙ not-false _ (ap not c.if-not-is_in_bounds.false)) in
+    let passed = c.in_ok-turned.ensures ∙ (λ i. pairs_turned (table (r.sizes i) (r.entries i) (r.n i)) c.quarters_of.result (pairs c.args.items.now) c.args.labels) in
+    elim c.then-items-ne0.branch [
+      | then-items-ne0-via-then-items-ne0 w ↦ answer_odd t.sizes.now t.entries.now t.n c.args.labels c.args.items.now c.args.direction b.0 b.1 (omega arith) c.quarters_of.result passed refl w.if-items-ne0.true
+      | then-items-ne0-via-else-items-ne0+then-direction-gt1 w ↦ answer_direction t.sizes.now t.entries.now t.n c.args.labels c.args.items.now c.args.direction b.0 b.1 (omega arith) c.quarters_of.result passed w.if-items-ne0.false refl w.if-direction-gt1.true
+    ]
 
-pub returns-then-items-ne0-clause-answer : goal.returns-then-items-ne0-clause-answer
-returns-then-items-ne0-clause-answer c =
-    let a = c.args in
+pub returns-then-place-plan : goal.returns-then-place-plan
+returns-then-place-plan c =
+    let t = c.args.plan.now in
+    let r = c.rings-rings.ensures in
     let long = c.well_formed in
-    let b = bounds_say a.sizes.now a.n (sym c.is_in_bounds.ensures ∙ not-false _ (ap not c.if-not-is_in_bounds.false)) in
-    (answer_odd a.sizes.now a.entries.now a.n a.labels a.items.now a.direction b.0 b.1 (omega arith) c.turn_pairs-passed.ensures.at refl (omega arith) c.if-items-ne0.true c.kept-then-items-ne0.ensures).0
+    let b = bounds_say t.sizes.now t.n (sym c.is_in_bounds.ensures ∙ not-false _ (ap not c.if-not-is_in_bounds.false)) in
+    let passed = c.in_ok-turned.ensures ∙ (λ i. pairs_turned (table (r.sizes i) (r.entries i) (r.n i)) c.quarters_of.result (pairs c.args.items.now) c.args.labels) in
+    let filled = c.fill.ensures ∙ filled-zeros _ refl ∙ (λ i. places_of (rows (r.starts i) (r.sizes i) (r.entries i) (r.n i))) in
+    let own = rules_own _ t.sizes.now t.entries.now t.n c.starts_of-starts.ensures b.0 filled c.in_ok-turned.turned in
+    answer_broken t.sizes.now t.entries.now t.n c.args.labels c.args.items.now c.args.direction b.0 b.1 (omega arith) c.quarters_of.result passed c.if-items-ne0.false c.if-direction-gt1.false c.quarters_of.ensures.value (c.place-place.ensures.value ∙ own) (omega arith)
 
-pub returns-then-items-ne0-clause-labels : goal.returns-then-items-ne0-clause-labels
-returns-then-items-ne0-clause-labels c =
-    let a = c.args in
+pub returns : goal.returns
+returns c =
+    let t = c.args.plan.now in
+    let r = c.rings-rings.ensures in
     let long = c.well_formed in
-    let b = bounds_say a.sizes.now a.n (sym c.is_in_bounds.ensures ∙ not-false _ (ap not c.if-not-is_in_bounds.false)) in
-    (answer_odd a.sizes.now a.entries.now a.n a.labels a.items.now a.direction b.0 b.1 (omega arith) c.turn_pairs-passed.ensures.at refl (omega arith) c.if-items-ne0.true c.kept-then-items-ne0.ensures).1
-
-pub returns-then-direction-gt1-clause-answer : goal.returns-then-direction-gt1-clause-answer
-returns-then-direction-gt1-clause-answer c =
-    let a = c.args in
-    let long = c.well_formed in
-    let b = bounds_say a.sizes.now a.n (sym c.is_in_bounds.ensures ∙ not-false _ (ap not c.if-not-is_in_bounds.false)) in
-    (answer_direction a.sizes.now a.entries.now a.n a.labels a.items.now a.direction b.0 b.1 (omega arith) c.turn_pairs-passed.ensures.at refl (omega arith) (omega arith) (omega arith) c.kept-then-direction-gt1.ensures).0
-
-pub returns-then-direction-gt1-clause-labels : goal.returns-then-direction-gt1-clause-labels
-returns-then-direction-gt1-clause-labels c =
-    let a = c.args in
-    let long = c.well_formed in
-    let b = bounds_say a.sizes.now a.n (sym c.is_in_bounds.ensures ∙ not-false _ (ap not c.if-not-is_in_bounds.false)) in
-    (answer_direction a.sizes.now a.entries.now a.n a.labels a.items.now a.direction b.0 b.1 (omega arith) c.turn_pairs-passed.ensures.at refl (omega arith) (omega arith) (omega arith) c.kept-then-direction-gt1.ensures).1
-
-pub returns-then-place-n-clause-answer : goal.returns-then-place-n-clause-answer
-returns-then-place-n-clause-answer c =
-    let a = c.args in
-    let long = c.well_formed in
-    let b = bounds_say a.sizes.now a.n (sym c.is_in_bounds.ensures ∙ not-false _ (ap not c.if-not-is_in_bounds.false)) in
-    let own = rules_own _ a.sizes.now a.entries.now a.n c.starts_of-starts.ensures b.0 (c.fill.ensures ∙ filled-zeros _ refl) c.turn_pairs-passed.result.labels in
-    (answer_broken a.sizes.now a.entries.now a.n a.labels a.items.now a.direction b.0 b.1 (omega arith) c.turn_pairs-passed.ensures.at refl (omega arith) (omega arith) (omega arith) c.quarters_of-quarters.ensures.value c.turn_pairs-passed.ensures.labels (c.place_by-place.ensures.value ∙ own) (omega arith) c.kept-then-place-n.ensures).0
-
-pub returns-then-place-n-clause-labels : goal.returns-then-place-n-clause-labels
-returns-then-place-n-clause-labels c =
-    let a = c.args in
-    let long = c.well_formed in
-    let b = bounds_say a.sizes.now a.n (sym c.is_in_bounds.ensures ∙ not-false _ (ap not c.if-not-is_in_bounds.false)) in
-    let own = rules_own _ a.sizes.now a.entries.now a.n c.starts_of-starts.ensures b.0 (c.fill.ensures ∙ filled-zeros _ refl) c.turn_pairs-passed.result.labels in
-    (answer_broken a.sizes.now a.entries.now a.n a.labels a.items.now a.direction b.0 b.1 (omega arith) c.turn_pairs-passed.ensures.at refl (omega arith) (omega arith) (omega arith) c.quarters_of-quarters.ensures.value c.turn_pairs-passed.ensures.labels (c.place_by-place.ensures.value ∙ own) (omega arith) c.kept-then-place-n.ensures).1
-
-pub returns-clause-answer : goal.returns-clause-answer
-unfolding kept
-returns-clause-answer c =
-    let a = c.args in
-    let long = c.well_formed in
-    let b = bounds_say a.sizes.now a.n (sym c.is_in_bounds.ensures ∙ not-false _ (ap not c.if-not-is_in_bounds.false)) in
-    let own = rules_own _ a.sizes.now a.entries.now a.n c.starts_of-starts.ensures b.0 (c.fill.ensures ∙ filled-zeros _ refl) c.turn_pairs-passed.result.labels in
-    (answer_labelled a.sizes.now a.entries.now a.n a.labels a.items.now a.direction b.0 b.1 (omega arith) c.turn_pairs-passed.ensures.at refl (omega arith) (omega arith) (omega arith) c.quarters_of-quarters.ensures.value c.turn_pairs-passed.ensures.labels (c.place_by-place.ensures.value ∙ own) (omega arith)).0
-
-pub returns-clause-labels : goal.returns-clause-labels
-unfolding kept
-returns-clause-labels c =
-    let a = c.args in
-    let long = c.well_formed in
-    let b = bounds_say a.sizes.now a.n (sym c.is_in_bounds.ensures ∙ not-false _ (ap not c.if-not-is_in_bounds.false)) in
-    let own = rules_own _ a.sizes.now a.entries.now a.n c.starts_of-starts.ensures b.0 (c.fill.ensures ∙ filled-zeros _ refl) c.turn_pairs-passed.result.labels in
-    (answer_labelled a.sizes.now a.entries.now a.n a.labels a.items.now a.direction b.0 b.1 (omega arith) c.turn_pairs-passed.ensures.at refl (omega arith) (omega arith) (omega arith) c.quarters_of-quarters.ensures.value c.turn_pairs-passed.ensures.labels (c.place_by-place.ensures.value ∙ own) (omega arith)).1
+    let b = bounds_say t.sizes.now t.n (sym c.is_in_bounds.ensures ∙ not-false _ (ap not c.if-not-is_in_bounds.false)) in
+    let passed = c.in_ok-turned.ensures ∙ (λ i. pairs_turned (table (r.sizes i) (r.entries i) (r.n i)) c.quarters_of.result (pairs c.args.items.now) c.args.labels) in
+    let filled = c.fill.ensures ∙ filled-zeros _ refl ∙ (λ i. places_of (rows (r.starts i) (r.sizes i) (r.entries i) (r.n i))) in
+    let own = rules_own _ t.sizes.now t.entries.now t.n c.starts_of-starts.ensures b.0 filled c.in_ok-turned.turned in
+    answer_labelled t.sizes.now t.entries.now t.n c.args.labels c.args.items.now c.args.direction b.0 b.1 (omega arith) c.quarters_of.result passed c.if-items-ne0.false c.if-direction-gt1.false c.quarters_of.ensures.value (c.place-place.ensures.value ∙ own) (omega arith)

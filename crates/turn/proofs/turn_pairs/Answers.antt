@@ -1,44 +1,69 @@
 -- turn_pairs meets its contract.
-use mathlib.Core.Path.{◌≡◌, refl, sym, ◌∙◌}
-use Prim.Native.Nat.{◌/◌, ◌≤◌}
-use lib.ListN.{length}
-use Rattle.lists.specs.Parts.{pairs}
+use mathlib.Core.Path.{◌≡◌, sym, ap, ◌∙◌}
+use Prim.Native.Nat.{ℕ, ◌≤◌}
+use Rattle.std.proofs.Common.{Some, None, Err}
+use Rattle.std.proofs.lemmas.Result.{err_from_is_err_and}
 use Rattle.lists.proofs.Parts.{length_pairs}
-use Rattle.model.specs.Plan.{entry_count}
+use Rattle.model.specs.Plan.{Plan, entry_count}
+use Rattle.model.specs.Turn.{turn_dart}
+use Rattle.refusal.specs.Refusals.{told}
+use Rattle.refusal.specs.declared.Refusal.TheVariants.{BadPair}
 use Rattle.rings.specs.Tables.{table}
-use Rattle.turn.proofs.Turns.{count-table, pair_is, turns-start, turns_long, turns_hit, turns-on, turns_end}
+use Rattle.turn.proofs.Named.{dart}
+use Rattle.turn.proofs.Turns.{count-table, chunk_is, turns-start, turns_long, turns_hit, turns-on, turns_end, turned-at, turned_none}
 use native.Mathlib.Omega.{arith}
+use mathlib.Core.List.{List, []}
+use Prim.Native.Nat.{◌/◌}
+use lib.ListN.{length, get_or}
+use Rattle.lists.specs.Parts.{pairs}
 use Rattle.turn.proofs.turn_pairs.Goals as goal
+use Rattle.turn.proofs.turn_pairs.Goals.{in-Some, in_default}
 
 pub loop-k-init : goal.loop-k-init
-loop-k-init c = (omega arith, omega arith, turns-start)
+loop-k-init c = (let l = c.well_formed in omega arith, turns-start)
 
-pub returns-then-is_bad-clause-at : goal.returns-then-is_bad-clause-at
-returns-then-is_bad-clause-at c =
-    let a = c.args in
+pub returns-in_err-i : goal.returns-in_err-i
+returns-in_err-i c =
+    let r = c.args.located.now.rings in
     let s = c.requires in
+    let items = c.args.items.now in
     let inv = c.loop-k.invariant in
-    let k = c.loop-k.k in
-    let m : length a.items.now / 2 ≡ length (pairs a.items.now) = sym (length_pairs a.items.now) in
-    let pair = pair_is a.items.now k (omega arith) c.num-u.ensures.value c.num-v.ensures.value in
-    let room : entry_count (table a.sizes.now a.entries.now a.n) ≤ 1186 = let e = count-table a.starts.now a.sizes.now a.entries.now a.n s.starts_value s.n_bound in omega arith in
-    turns_hit inv.2 room (omega arith) c.num-u.result c.num-v.result pair c.place_of-i.ensures c.is_bad.ensures m (omega arith) c.if-is_bad.true
+    let none : c.unturned_place.result ≡ None = grind arith in
+    let pair : get_or (pairs items) c.loop-k.k (0, 0) ≡ dart c.from-u.result c.from-v.result =
+    let h = c.loop-k-test.true in
+    let n = c.as_chunks.ensures.front_len in
+    let f = c.as_chunks.ensures.front in
+    chunk_is items (length items / 2) c.loop-k.k (omega arith) (omega arith) (c.from-u.ensures ∙ ap (λ (l : List (List ℕ)). get_or (get_or l c.loop-k.k []) 0 0) f) (c.from-v.ensures ∙ ap (λ (l : List (List ℕ)). get_or (get_or l c.loop-k.k []) 1 0) f)
+    in
+    let room : entry_count (table r.sizes.now r.entries.now r.n) ≤ 1186 = let e = count-table r.starts.now r.sizes.now r.entries.now r.n s.starts_value s.n_bound in omega arith in
+    let hit = turns_hit inv.1 room (omega arith) c.from-u.result c.from-v.result pair (sym (length_pairs items)) (omega arith) (sym none ∙ c.unturned_place.ensures) in
+    let p = err_from_is_err_and c.from_residual.result c.from_residual.ensures.1 in
+    let bad : c.in_err-i.field-0.0 ≡ BadPair c.loop-k.k = grind arith in
+    ap told (p.1 ∙ ap Err (p.2 ∙ bad)) ∙ hit
 
 pub loop-k-preserved : goal.loop-k-preserved
 loop-k-preserved c =
-    let a = c.args in
+    let r = c.args.located.now.rings in
     let s = c.requires in
+    let items = c.args.items.now in
+    let plan : Plan = table r.sizes.now r.entries.now r.n in
+    let u : ℕ = c.from-u.result in
+    let v : ℕ = c.from-v.result in
     let inv = c.loop-k.invariant in
-    let k = c.loop-k.k in
-    let m : length a.items.now / 2 ≡ length (pairs a.items.now) = sym (length_pairs a.items.now) in
-    let pair = pair_is a.items.now k (omega arith) c.num-u.ensures.value c.num-v.ensures.value in
-    let room : entry_count (table a.sizes.now a.entries.now a.n) ≤ 1186 = let e = count-table a.starts.now a.sizes.now a.entries.now a.n s.starts_value s.n_bound in omega arith in
-    let next = turns-on inv.2 room (omega arith) c.num-u.result c.num-v.result pair c.place_of-i.ensures c.is_bad.ensures m (omega arith) s.q_bound.1 c.if-is_bad.false c.place_of-back.ensures c.turn_at.ensures c.turn_at-in-loop-k.ensures refl in
-    (turns_long next ∙ omega arith, omega arith, next)
+    let some : c.unturned_place.result ≡ Some c.in_ok-i.i = grind arith in
+    let pair : get_or (pairs items) c.loop-k.k (0, 0) ≡ dart c.from-u.result c.from-v.result =
+    let h = c.loop-k-test.true in
+    let n = c.as_chunks.ensures.front_len in
+    let f = c.as_chunks.ensures.front in
+    chunk_is items (length items / 2) c.loop-k.k (omega arith) (omega arith) (c.from-u.ensures ∙ ap (λ (l : List (List ℕ)). get_or (get_or l c.loop-k.k []) 0 0) f) (c.from-v.ensures ∙ ap (λ (l : List (List ℕ)). get_or (get_or l c.loop-k.k []) 1 0) f)
+    in
+    let room : entry_count plan ≤ 1186 = let e = count-table r.starts.now r.sizes.now r.entries.now r.n s.starts_value s.n_bound in omega arith in
+    let back : c.match-place_of.turned ≡ turn_dart plan c.args.q (dart v u) c.loop-k.turned = elim c.match-place_of.branch [
+      | in-Some w ↦ w.turned-is ∙ w.turn_at.ensures ∙ turned-at plan v u c.args.q c.loop-k.turned w.in-Some.ensures
+      | in_default w ↦ w.turned-is ∙ turned_none plan v u c.args.q c.loop-k.turned w.in_default.ensures
+    ] in
+    let next = turns-on inv.1 room (omega arith) u v pair (sym (length_pairs items)) (omega arith) s.q_bound.1 (sym some ∙ c.unturned_place.ensures) back c.turn_at-in-loop-k.ensures in
+    (turns_long next ∙ omega arith, next)
 
-pub returns-clause-at : goal.returns-clause-at
-returns-clause-at c =
-    let a = c.args in
-    let inv = c.loop-k.invariant in
-    let m : length a.items.now / 2 ≡ length (pairs a.items.now) = sym (length_pairs a.items.now) in
-    turns_end inv.2 m (omega arith)
+pub returns : goal.returns
+returns c = let inv = c.loop-k.invariant in turns_end inv.1 (sym (length_pairs c.args.items.now)) (omega arith)
