@@ -10,6 +10,7 @@ use lib.ListN.{length, get_or, length-append}
 use lib.Seq.{get_or-append-add, get_or-append_seam}
 use lib.Dec.{eqb, ltb, leb}
 use borrow.Author.Tests.{eqb-true, eqb-false, ne_eqb, lt-ltb, ltb-true, ltb-false, leb-true, leb-false}
+use Rattle.std.specs.Prelude.{Option, Some, None}
 use Rattle.lists.specs.Tests.{empty, member, repeats}
 use Rattle.lists.specs.Ranges.{from}
 use Rattle.lists.specs.Parts.{squeeze, squeeze_after}
@@ -25,10 +26,10 @@ use Rattle.model.proofs.Plans.{mem-adjacent}
 use Rattle.model.proofs.Eligible.{mem-get_or, squeeze-mem, chordless-apart, replaced-left, replaced-list, replaced-right, replaced-length, something-below, below-listed, eligible_clear, Clear}
 use Rattle.model.proofs.Choices.{Positions, chosen_taken, none-taken}
 use Rattle.frontier.specs.declared.Line.{Line}
-use Rattle.choice.specs.declared.Found.TheVariants.{At, Nothing}
+use Rattle.choice.specs.declared.Lead.{Lead}
 use Rattle.frontier.specs.Front.{Sane, Front}
 use Rattle.chords.specs.Run.{fits}
-use Rattle.choice.specs.Run.{Trail, placed, same, start_trail}
+use Rattle.choice.specs.Run.{Trail, trail_of, placed, same, start_trail}
 use Rattle.choice.specs.Search.{found_as, Trails, Reason, edge, old, twice, right, beside, later, split, Stops, bare, barred, Extends, Best}
 use Rattle.pairs.proofs.Dirt.{repeats-right, or_left, squeeze-before, clean_once}
 use Rattle.pairs.proofs.Gather.{raw}
@@ -57,10 +58,10 @@ front-empty [] m e = refl
 front-empty (a ∷ l) m e = absurd (let z : suc (length (l ++ m)) ≡ 0 = ap length e in omega arith)
 
 -- a context that is not the first of a list is put before the squeezed list
-squeeze-cons : (c : ℕ) (l : List ℕ) (any : Bool) (first : ℕ) → (any ≡ false → l ≡ []) → (any ≡ true → (rest : List ℕ) × (l ≡ first ∷ rest)) → same any first c ≡ false → squeeze (c ∷ l) ≡ c ∷ squeeze l
+squeeze-cons : (c : ℕ) (l : List ℕ) (first : Option ℕ) → (first ≡ None → l ≡ []) → ((a : ℕ) → first ≡ Some a → (rest : List ℕ) × (l ≡ a ∷ rest)) → same first c ≡ false → squeeze (c ∷ l) ≡ c ∷ squeeze l
 unfolding same
-squeeze-cons c l false first h k e = ap (λ (m : List ℕ). squeeze (c ∷ m)) (h refl) ∙ ap (λ (m : List ℕ). c ∷ squeeze m) (sym (h refl))
-squeeze-cons c l true first h k e = let (rest, q) = k refl in ap (λ (m : List ℕ). squeeze (c ∷ m)) q ∙ ap (λ (b : Bool). c ∷ cond b (squeeze_after c rest) (first ∷ squeeze_after first rest)) e ∙ ap (λ (m : List ℕ). c ∷ squeeze m) (sym q)
+squeeze-cons c l None h k e = ap (λ (m : List ℕ). squeeze (c ∷ m)) (h refl) ∙ ap (λ (m : List ℕ). c ∷ squeeze m) (sym (h refl))
+squeeze-cons c l (Some a) h k e = let (rest, q) = k a refl in ap (λ (m : List ℕ). squeeze (c ∷ m)) q ∙ ap (λ (b : Bool). c ∷ cond b (squeeze_after c rest) (a ∷ squeeze_after a rest)) e ∙ ap (λ (m : List ℕ). c ∷ squeeze m) (sym q)
 
 -- what is below, on the array that holds the frontier
 below-padded : (p : Plan) (f : List ℕ) (k : ℕ) → below p (padded 512 f) k ≡ below p f k
@@ -204,10 +205,10 @@ module _ (p : Plan) (sane : Sane p) (s : State) (v : Line) (fr : Front s v) (pla
                 ∙ q,
           )
 
-      module _ (t : Trail) (tr : Trails p v.at v.len Q t) (other : same t.some t.first c ≡ false) where
+      module _ (t : Trail) (tr : Trails p v.at v.len Q t) (other : same t.first c ≡ false) where
         -- the list, up to c and from c on
         joined : (r : List ℕ) × (l ≡ r ++ (c ∷ squeeze Q))
-        joined = let (r, q) = ends in (r, q ∙ ap (λ (m : List ℕ). r ++ m) (squeeze-cons c Q t.some t.first tr.none tr.first other))
+        joined = let (r, q) = ends in (r, q ∙ ap (λ (m : List ℕ). r ++ m) (squeeze-cons c Q t.first tr.none tr.first other))
 
         -- c stands on the list once
         not-twice : Memᴰ c Q → ⊥
@@ -222,11 +223,11 @@ module _ (p : Plan) (sane : Sane p) (s : State) (v : Line) (fr : Front s v) (pla
             replaced-list f l i j two within (length r) (omega arith) ∙ ap (λ (m : List ℕ). get_or m (length r) 0) q ∙ get_or-append_seam r c (squeeze Q) 0
 
         -- a neighbour of c on the list is the one after it
-        not-later : t.some ≡ true → (w : ℕ) → Memᴰ w Q → (w ≡ t.first → ⊥) → adjacent p c w ≡ true → ⊥
-        not-later some w m n a = go (mem-get_or (squeeze Q) w (squeeze-mem Q w m))
+        not-later : (head : ℕ) → t.first ≡ Some head → (w : ℕ) → Memᴰ w Q → (w ≡ head → ⊥) → adjacent p c w ≡ true → ⊥
+        not-later head some w m n a = go (mem-get_or (squeeze Q) w (squeeze-mem Q w m))
           where
             front : (x : ℕ) → get_or (squeeze Q) x 0 ≡ w → 1 ≤ x
-            front zero z = absurd (n (sym z ∙ (let (rest, y) = tr.first some in ap (λ (b : List ℕ). get_or (squeeze b) 0 0) y)))
+            front zero z = absurd (n (sym z ∙ (let (rest, y) = tr.first head some in ap (λ (b : List ℕ). get_or (squeeze b) 0 0) y)))
             front (suc x) z = omega arith
 
             go : (x : ℕ) × (x < length (squeeze Q)) × (get_or (squeeze Q) x 0 ≡ w) → ⊥
@@ -240,12 +241,12 @@ module _ (p : Plan) (sane : Sane p) (s : State) (v : Line) (fr : Front s v) (pla
                 both (adjacent p c w) a (sym (λ d. adjacent p (c-at r q d) (there d)) ∙ no_chord (suc i + length r) (suc i + (length r + suc x)) (omega arith) (omega arith))
 
         -- nor is c a neighbour of the context at j
-        not-beside : t.some ≡ true → adjacent p c (get_or f j 0) ≡ true → ⊥
-        not-beside some a =
+        not-beside : (head : ℕ) → t.first ≡ Some head → adjacent p c (get_or f j 0) ≡ true → ⊥
+        not-beside head some a =
             let (r, q) = joined in
             let size = ap length q ∙ length-append r (c ∷ squeeze Q) in
-            let (rest, y) = tr.first some in
-            let more : length (squeeze Q) ≡ suc (length (squeeze_after t.first rest)) = ap (λ (b : List ℕ). length (squeeze b)) y in
+            let (rest, y) = tr.first head some in
+            let more : length (squeeze Q) ≡ suc (length (squeeze_after head rest)) = ap (λ (b : List ℕ). length (squeeze b)) y in
             let long = replaced-length f l i j two within in
             let z : j + 0 ≡ j = omega arith in
             let there = replaced-right f l i j two within 0 ∙ ap (λ (b : ℕ). get_or f b 0) z in
@@ -261,13 +262,13 @@ module _ (p : Plan) (sane : Sane p) (s : State) (v : Line) (fr : Front s v) (pla
             both (adjacent p c (get_or f x 0)) (ap (adjacent p c) (sym (at_same x) ∙ x-is) ∙ a) (clear.right_clear x (omega arith) (omega arith))
 
         -- nor, before a list, one from j on
-        not-from : t.some ≡ true → (w : ℕ) → adjacent p c w ≡ true → j < get_or place w 0 → (b : Bool) → ltb (suc j) (get_or place w 0) ≡ b → ⊥
-        not-from some w a far true e = not_right w a (ltb-true (suc j) (get_or place w 0) e)
-        not-from some w a far false e =
+        not-from : (head : ℕ) → t.first ≡ Some head → (w : ℕ) → adjacent p c w ≡ true → j < get_or place w 0 → (b : Bool) → ltb (suc j) (get_or place w 0) ≡ b → ⊥
+        not-from head some w a far true e = not_right w a (ltb-true (suc j) (get_or place w 0) e)
+        not-from head some w a far false e =
             let h = ltb-false (suc j) (get_or place w 0) e in
             let z : get_or place w 0 ≡ suc j = omega arith in
             let (_, is) = placed_real v.at v.len w j (ap (λ (l : List ℕ). get_or l w 0) (sym hi) ∙ z) in
-            not-beside some (ap (adjacent p c) (sym (at_same j) ∙ is) ∙ a)
+            not-beside head some (ap (adjacent p c) (sym (at_same j) ∙ is) ∙ a)
 
         -- nor was c on the frontier
         not-old : (get_or v.marks c 0 ≡ 0 → ⊥) → ⊥
@@ -276,13 +277,13 @@ module _ (p : Plan) (sane : Sane p) (s : State) (v : Line) (fr : Front s v) (pla
             both (eqb (get_or v.marks c 0) 0) (fr.marks.mark c (omega arith) ∙ ap not clear.new) (ne_eqb (get_or v.marks c 0) 0 b)
 
         -- so there is no reason
-        no_reason : Reason p v.at t.on v.marks place t.some t.first c j k → ⊥
+        no_reason : Reason p v.at t.on v.marks place t.first c j k → ⊥
         no_reason (edge b) = both (border c) (lt-ltb c 4 b) clear.inner
         no_reason (old b) = not-old b
         no_reason (twice b) = not-twice (tr.marks c b)
         no_reason (right w a b) = not_right w a b
-        no_reason (beside some w a b) = not-from some w a b (ltb (suc j) (get_or place w 0)) refl
-        no_reason (later some w a n m) = not-later some w (tr.marks w m) n a
+        no_reason (beside head some w a b) = not-from head some w a b (ltb (suc j) (get_or place w 0)) refl
+        no_reason (later head some w a n m) = not-later head some w (tr.marks w m) n a
         no_reason (split h) = not-split h.at h.before (subst (Memᴰ c) (below-same h.at) h.under) (ap (λ (u : ℕ). adjacent p u c) (sym (at_same (suc h.at))) ∙ h.apart)
 
   -- where a search stops, no lower i is eligible
@@ -309,8 +310,8 @@ module _ (p : Plan) (sane : Sane p) (s : State) (v : Line) (fr : Front s v) (pla
           both (adjacent p (get_or f t.lo 0) c) (ap (λ (u : ℕ). adjacent p u c) (sym (at_same t.lo)) ∙ a) (clear.left_clear t.lo h)
 
   -- the search need not begin
-  pub shut_best : Stops p v.at v.len v.marks place j (j - 1) [] → Best p s j 0
-  shut_best stop = record { none = λ e i b. go i b; some = λ i e. absurd (omega arith) }
+  pub shut_best : Stops p v.at v.len v.marks place j (j - 1) [] → Best p s j None
+  shut_best stop = record { none = λ e i b. go i b; some = λ i e. absurd (cc) }
     where
       go : (i : ℕ) → i + 2 ≤ j → eligible p s i j ≡ false
       go i b = let z : j - suc (j - 1) ≡ 0 = omega arith in dead (j - 1) (omega arith) (subst (λ (n : ℕ). Stops p v.at v.len v.marks place j (j - 1) (raw p f (suc (j - 1)) n)) (sym z) stop) i (omega arith)
@@ -328,59 +329,59 @@ module _ (p : Plan) (sane : Sane p) (s : State) (v : Line) (fr : Front s v) (pla
       record { trails = subst (λ (n : ℕ). Trails p v.at v.len (raw p f j n) (start_trail v.len)) (sym z) (trails_start v.len); none = λ i a b. absurd (omega arith); reached = omega arith }
 
   -- after the search: there is no i
-  pub seeking_end : {k : ℕ} {t : Trail} → Seeking k t → k ≤ 1 → Best p s j 0
-  seeking_end inv h = record { none = λ e i b. inv.none i (omega arith) b; some = λ i e. absurd (omega arith) }
+  pub seeking_end : {k : ℕ} {t : Trail} → Seeking k t → k ≤ 1 → Best p s j None
+  seeking_end inv h = record { none = λ e i b. inv.none i (omega arith) b; some = λ i e. absurd (cc) }
 
-  module _ {k : ℕ} {t : Trail} (inv : Seeking k t) (h : 1 < k) {k' : ℕ} (q : k ≡ suc k') {r : Trail} (ext : Extends p v.at v.len v.marks place j k' t r) where
+  module _ {k : ℕ} {t : Trail} (inv : Seeking k t) (h : 1 < k) {k' : ℕ} (q : k ≡ suc k') {marks : List ℕ} {r : Option Lead} (ext : Extends p v.at v.len v.marks place j k' t marks r) where
     -- what the trail knew
     before : Trails p v.at v.len (raw p f (suc k') (j - suc k')) t
     before = subst (λ (n : ℕ). Trails p v.at v.len (raw p f n (j - n)) t) q inv.trails
 
     -- the search stops: there is no i
-    pub seeking_stop : r.ok ≡ false → Best p s j 0
-    seeking_stop o = record { none = λ e i b. go i b (leb k (suc i)) refl; some = λ i e. absurd (omega arith) }
+    pub seeking_stop : r ≡ None → {b : Option ℕ} → b ≡ None → Best p s j b
+    seeking_stop o z = record { none = λ e i b. go i b (leb k (suc i)) refl; some = λ i e. absurd (cc) }
       where
         go : (i : ℕ) → i + 2 ≤ j → (b : Bool) → leb k (suc i) ≡ b → eligible p s i j ≡ false
         go i b true e = inv.none i (leb-true k (suc i) e) b
         go i b false e = let l = leb-false k (suc i) e in let m = inv.reached in dead k' (omega arith) (ext.off (raw p f (suc k') (j - suc k')) before o) i (omega arith)
 
-    module _ (o : r.ok ≡ true) where
+    module _ {x : Lead} (o : r ≡ Some x) where
       -- what the trail knows
-      after : Trails p v.at v.len (raw p f k' (j - k')) r
+      after : Trails p v.at v.len (raw p f k' (j - k')) (trail_of x marks)
       after =
           let m = inv.reached in
-          subst (λ (l : List ℕ). Trails p v.at v.len l r) (ap (λ (b : List ℕ). b ++ raw p f (suc k') (j - suc k')) (below-same k') ∙ sym (raw-more p f k' j (omega arith))) (ext.on (raw p f (suc k') (j - suc k')) before o)
+          subst (λ (l : List ℕ). Trails p v.at v.len l (trail_of x marks)) (ap (λ (b : List ℕ). b ++ raw p f (suc k') (j - suc k')) (below-same k') ∙ sym (raw-more p f k' j (omega arith))) (ext.on (raw p f (suc k') (j - suc k')) before x o)
 
       -- the pair is not eligible: the search goes on
-      step : eligible p s (k' - 1) j ≡ false → Seeking k' r
+      step : eligible p s (k' - 1) j ≡ false → Seeking k' (trail_of x marks)
       step n = record { trails = after; none = λ i a b. go i a b (leb k (suc i)) refl; reached = let m = inv.reached in omega arith }
         where
           go : (i : ℕ) → k' ≤ suc i → i + 2 ≤ j → (b : Bool) → leb k (suc i) ≡ b → eligible p s i j ≡ false
           go i a b true e = inv.none i (leb-true k (suc i) e) b
-          go i a b false e = let l = leb-false k (suc i) e in let z : k' - 1 ≡ i = omega arith in subst (λ (x : ℕ). eligible p s x j ≡ false) z n
+          go i a b false e = let l = leb-false k (suc i) e in let z : k' - 1 ≡ i = omega arith in subst (λ (y : ℕ). eligible p s y j ≡ false) z n
 
       -- a position before lists a context of the list: the pair is not eligible
-      pub seeking_over : r.lo < k' - 1 → Seeking k' r
+      pub seeking_over : x.lo < k' - 1 → Seeking k' (trail_of x marks)
       seeking_over b =
           let z : suc (k' - 1) ≡ k' = omega arith in
           let m = inv.reached in
-          step (passed (k' - 1) (omega arith) r (subst (λ (n : ℕ). Trails p v.at v.len (raw p f n (j - n)) r) (sym z) after) b)
+          step (passed (k' - 1) (omega arith) (trail_of x marks) (subst (λ (n : ℕ). Trails p v.at v.len (raw p f n (j - n)) (trail_of x marks)) (sym z) after) b)
 
       module _ (clean : Bool) (chords : clean ≡ true → chordless p f ≡ true) where
         -- it is tested, and is not eligible
-        pub seeking_on : fits p clean v (k' - 1) j ≡ false → Seeking k' r
+        pub seeking_on : fits p clean v (k' - 1) j ≡ false → Seeking k' (trail_of x marks)
         seeking_on b = let m = inv.reached in step (sym (fits-is p sane s v fr (k' - 1) j (omega arith) within clean chords) ∙ b)
 
         -- it is eligible
-        pub seeking_hit : fits p clean v (k' - 1) j ≡ true → Best p s j k'
+        pub seeking_hit : fits p clean v (k' - 1) j ≡ true → Best p s j (Some (k' - 1))
         seeking_hit b =
             let m = inv.reached in
             let yes = sym (fits-is p sane s v fr (k' - 1) j (omega arith) within clean chords) ∙ b in
             record {
-              none = λ e. absurd (omega arith);
+              none = λ e. absurd (cc);
               some = λ i e.
-                  let z : k' - 1 ≡ i = omega arith in
-                  (omega arith, subst (λ (x : ℕ). eligible p s x j ≡ true) z yes, λ x a c. inv.none x (omega arith) c);
+                  let z : k' - 1 ≡ i = cc in
+                  (omega arith, subst (λ (y : ℕ). eligible p s y j ≡ true) z yes, λ y a c. inv.none y (omega arith) c);
             }
 
 -- ---- the search for j: no pair with j or above is eligible
@@ -393,7 +394,7 @@ choosing_start h = record { none = λ i k a b c. absurd (omega arith) }
 
 module _ {p : Plan} {s : State} {j : ℕ} (inv : Choosing p s j) where
   -- there is no i for this j: the search goes on
-  pub choosing_on : {j' r : ℕ} → j ≡ suc j' → Best p s j' r → r ≡ 0 → Choosing p s j'
+  pub choosing_on : {j' : ℕ} {r : Option ℕ} → j ≡ suc j' → Best p s j' r → r ≡ None → Choosing p s j'
   choosing_on {j'} q best z = record { none = λ i k a b c. go i k a b c (leb j k) refl }
     where
       go : (i k : ℕ) → j' ≤ k → i + 2 ≤ k → k < length s.frontier → (b : Bool) → leb j k ≡ b → eligible p s i k ≡ false
@@ -404,7 +405,7 @@ module _ {p : Plan} {s : State} {j : ℕ} (inv : Choosing p s j) where
           subst (λ (x : ℕ). eligible p s i x ≡ false) w (best.none z i (omega arith))
 
   -- there is an i: the pair is the one that the model takes
-  pub choosing_hit : {j' r i : ℕ} → j ≡ suc j' → j' < length s.frontier → Best p s j' r → r ≡ suc i → found_as (At i j') ≡ choose p s (choices s.frontier)
+  pub choosing_hit : {j' : ℕ} {r : Option ℕ} {i : ℕ} → j ≡ suc j' → j' < length s.frontier → Best p s j' r → r ≡ Some i → found_as (Some (i, j')) ≡ choose p s (choices s.frontier)
   unfolding found_as
   choosing_hit {j'} {r} {i} q h best z =
       let (two, good, others) = best.some i z in
@@ -420,6 +421,6 @@ module _ {p : Plan} {s : State} {j : ℕ} (inv : Choosing p s j) where
       go a b o n e false x false y w w' others = let l = leb-false j b x in let d : b ≢ j' = eqb-false b j' y in inl (omega arith)
 
   -- after the search: there is no pair
-  pub choosing_end : j ≡ 0 → found_as Nothing ≡ choose p s (choices s.frontier)
+  pub choosing_end : j ≡ 0 → found_as None ≡ choose p s (choices s.frontier)
   unfolding found_as
   choosing_end z = sym (none-taken p s (λ i k o. inv.none i k (omega arith) o.apart o.inside))

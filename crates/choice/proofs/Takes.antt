@@ -1,19 +1,21 @@
 -- What a look at the neighbours of a context says: why it may not come before the list, or what the list comes to with it.
 use Prim.Native.Nat.{ℕ, suc, ◌-◌, ◌<◌, min}
-use mathlib.Core.Path.{◌≡◌, refl, sym, ◌∙◌, subst}
+use mathlib.Core.Path.{◌≡◌, refl, ap, sym, subst, ◌∙◌}
 use mathlib.Core.Logic.{◌⊎◌, inl, inr, ◌≢◌}
 use mathlib.Core.List.{List}
-use mathlib.Core.Bool.{Bool, true, false, cond, not, false≢true, true≢false}
+use mathlib.Core.Bool.{Bool, true, false, cond, not, false≢true}
 use native.Mathlib.Omega.{arith}
 use lib.ListN.{get_or}
 use lib.Dec.{eqb, ltb}
-use borrow.Author.Tests.{eqb-true, eqb-false, ltb-true, not-false}
+use borrow.Author.Tests.{eqb-true, eqb-false, ltb-true}
+use Rattle.std.specs.Prelude.{Option, Some, None}
+use Rattle.std.specs.Option.{option_eq}
+use Rattle.lists.proofs.Tests.{eqb_swap}
 use Rattle.model.specs.Plan.{Plan, adjacent}
 use Rattle.places.specs.Places.{adjacent_by}
-use Rattle.pockets.specs.Pockets.{Pocket}
 use Rattle.choice.specs.declared.Lead.{Lead}
 use Rattle.choice.specs.Run.{lead, same, barred, knot}
-use Rattle.choice.specs.Search.{Reason, edge, old, twice, right, beside, later, split, Lowest, Takes}
+use Rattle.choice.specs.Search.{Reason, edge, old, twice, right, beside, later, Lowest, Takes}
 
 -- ---- the lowest position
 module _ {t : List ℕ} {p : Plan} {place : List ℕ} {m c : ℕ} where
@@ -42,48 +44,60 @@ module _ {t : List ℕ} {p : Plan} {place : List ℕ} {m c : ℕ} where
       go n false q = let d : r ≢ lo = eqb-false r lo q in let z : r ≡ found = omega arith in mine (h.is (omega arith)) (omega arith) z
 
 -- ---- reasons
-module _ {p : Plan} {f on seen place : List ℕ} {any : Bool} {first c j k : ℕ} where
+module _ {p : Plan} {f on seen place : List ℕ} {first : Option ℕ} {c j k : ℕ} where
   -- a context that is barred
-  pub barred_reason : barred on seen c ≡ true → Reason p f on seen place any first c j k
+  pub barred_reason : barred on seen c ≡ true → Reason p f on seen place first c j k
   unfolding barred
   barred_reason e = go (ltb c 4) refl (eqb (get_or seen c 0) 0) refl (eqb (get_or on c 0) 0) refl e
     where
-      go : (x : Bool) → ltb c 4 ≡ x → (y : Bool) → eqb (get_or seen c 0) 0 ≡ y → (z : Bool) → eqb (get_or on c 0) 0 ≡ z → cond x true (cond (not y) true (not z)) ≡ true → Reason p f on seen place any first c j k
+      go : (x : Bool) → ltb c 4 ≡ x → (y : Bool) → eqb (get_or seen c 0) 0 ≡ y → (z : Bool) → eqb (get_or on c 0) 0 ≡ z → cond x true (cond (not y) true (not z)) ≡ true → Reason p f on seen place first c j k
       go true x y y' z z' e = edge (ltb-true c 4 x)
       go false x false y z z' e = old (eqb-false (get_or seen c 0) 0 y)
       go false x true y false z e = twice (eqb-false (get_or on c 0) 0 z)
       go false x true y true z e = absurd (false≢true e)
 
-  -- a neighbour that would not be adjacent to it
-  pub knot_reason : (w : ℕ) {x : ℕ} → adjacent p c w ≡ true → x ≡ get_or place w 0 → knot on any first j x w ≡ true → Reason p f on seen place any first c j k
+  -- a neighbour that would not be adjacent to it, before a list or before none
+  knot_case : (w : ℕ) {x : ℕ} → adjacent p c w ≡ true → x ≡ get_or place w 0 → (s : Option ℕ) → first ≡ s → knot on s j x w ≡ true → Reason p f on seen place first c j k
   unfolding knot
-  knot_reason w {x} a q e = go any refl (ltb j x) refl (eqb w first) refl (eqb (get_or on w 0) 0) refl (ltb 1 (x - j)) refl e
+  knot_case w {x} a q None s e = let h = ltb-true 1 (x - j) e in right w a (omega arith)
+  knot_case w {x} a q (Some i) s e = go (ltb j x) refl (eqb w i) refl (eqb (get_or on w 0) 0) refl e
     where
-      go : (s : Bool) → any ≡ s → (b : Bool) → ltb j x ≡ b → (y : Bool) → eqb w first ≡ y → (z : Bool) → eqb (get_or on w 0) 0 ≡ z → (d : Bool) → ltb 1 (x - j) ≡ d → cond s (cond b true (cond y false (not z))) d ≡ true → Reason p f on seen place any first c j k
-      go false s b b' y y' z z' true d e = let h = ltb-true 1 (x - j) d in right w a (omega arith)
-      go false s b b' y y' z z' false d e = absurd (false≢true e)
-      go true s true b y y' z z' d d' e = let h = ltb-true j x b in beside s w a (omega arith)
-      go true s false b true y z z' d d' e = absurd (false≢true e)
-      go true s false b false y true z d d' e = absurd (false≢true e)
-      go true s false b false y false z d d' e = later s w a (eqb-false w first y) (eqb-false (get_or on w 0) 0 z)
+      go : (b : Bool) → ltb j x ≡ b → (y : Bool) → eqb w i ≡ y → (z : Bool) → eqb (get_or on w 0) 0 ≡ z → cond b true (cond y false (not z)) ≡ true → Reason p f on seen place first c j k
+      go true b y y' z z' e = let h = ltb-true j x b in beside i s w a (omega arith)
+      go false b true y z z' e = absurd (false≢true e)
+      go false b false y true z e = absurd (false≢true e)
+      go false b false y false z e = later i s w a (eqb-false w i y) (eqb-false (get_or on w 0) 0 z)
+
+  -- a neighbour that would not be adjacent to it
+  pub knot_reason : (w : ℕ) {x : ℕ} → adjacent p c w ≡ true → x ≡ get_or place w 0 → knot on first j x w ≡ true → Reason p f on seen place first c j k
+  knot_reason w a q e = knot_case w a q first refl e
+
+-- what the comparison of a list's first tells
+pub first_told : (first : Option ℕ) (c : ℕ) {b : Bool} → b ≡ option_eq eqb first (Some c) → b ≡ same first c
+unfolding same
+first_told None c e = e
+first_told (Some a) c e = e ∙ eqb_swap a c
+
+-- the first of a list
+same_first : (first : Option ℕ) (c : ℕ) → same first c ≡ true → first ≡ Some c
+unfolding same
+same_first None c e = absurd (false≢true e)
+same_first (Some a) c e = ap Some (sym (eqb-true c a e))
 
 -- ---- what the lead comes to
-module _ {t : List ℕ} {p : Plan} {f on seen place : List ℕ} {m c j k : ℕ} {l r : Lead} where
-  -- c may not come before the list
-  pub takes_no : same l.some l.first c ≡ false → Reason p f on seen place l.some l.first c j k → r.ok ≡ false → Takes t p f on seen place m c j k l r
-  takes_no other why e = record { yes = λ o. absurd (true≢false (sym o ∙ e)); no = λ _. (other, why) }
-
 module _ {t : List ℕ} {p : Plan} {f on seen place : List ℕ} {m c j k : ℕ} {l : Lead} where
-  -- it stands there
-  pub takes_same : same l.some l.first c ≡ true → l.ok ≡ true → Takes t p f on seen place m c j k l l
-  unfolding same
-  takes_same s o = go l.some refl (eqb c l.first) refl s
-    where
-      go : (x : Bool) → l.some ≡ x → (y : Bool) → eqb c l.first ≡ y → cond x y false ≡ true → Takes t p f on seen place m c j k l l
-      go false x y z s = absurd (false≢true s)
-      go true x false y s = absurd (false≢true s)
-      go true x true y s = record { yes = λ _. (x, sym (eqb-true c l.first y), lowest_start); no = λ n. absurd (true≢false (sym o ∙ n)) }
+  -- c may not come before the list
+  pub takes_no : same l.first c ≡ false → Reason p f on seen place l.first c j k → Takes t p f on seen place m c j k l None
+  takes_no other why = record { yes = λ x e. absurd (cc); no = λ _. (other, why) }
 
--- after a look at all its neighbours it may come before the list, unless it is in a pocket
-pub takes_looked : {t : List ℕ} {p : Plan} {f on seen place : List ℕ} {m c j k : ℕ} (l : Lead) {b : Bool} {found lo : ℕ} → same l.some l.first c ≡ false → (b ≡ true → Pocket p f c k) → Lowest t p place m c m found → lo ≡ min l.lo found → Takes t p f on seen place m c j k l (lead (not b) true c lo)
-takes_looked l {b} other h low e = record { yes = λ _. (refl, refl, lowest_of low e); no = λ n. (other, split (h (not-false b n))) }
+  -- a lead whose first is c
+  takes_lead : {x : Lead} → x.first ≡ Some c → Lowest t p place m c l.lo x.lo → Takes t p f on seen place m c j k l (Some x)
+  takes_lead {x} first low = record { yes = λ y e. let z : x ≡ y = cc in subst (λ (w : Lead). (w.first ≡ Some c) × Lowest t p place m c l.lo w.lo) z (first, low); no = λ e. absurd (cc) }
+
+  -- it stands there
+  pub takes_same : same l.first c ≡ true → Takes t p f on seen place m c j k l (Some l)
+  takes_same s = takes_lead (same_first l.first c s) lowest_start
+
+  -- after a look at all its neighbours it may come before the list
+  pub takes_looked : {found lo : ℕ} → Lowest t p place m c m found → lo ≡ min l.lo found → Takes t p f on seen place m c j k l (Some (lead (Some c) lo))
+  takes_looked low e = takes_lead refl (lowest_of low e)

@@ -3,7 +3,7 @@ use Prim.Native.Nat.{ℕ, zero, suc, ◌+◌, ◌-◌, ◌≤◌, ◌<◌, min}
 use mathlib.Core.Path.{◌≡◌, refl, ap, sym, ◌∙◌, subst}
 use mathlib.Core.Logic.{◌⊎◌, inl, inr}
 use mathlib.Core.List.{List, [], ◌∷◌, ◌++◌, reverse, Memᴰ}
-use mathlib.Core.Bool.{Bool, true, false, false≢true, true≢false}
+use mathlib.Core.Bool.{Bool, true, false}
 use native.Mathlib.Omega.{arith}
 use lib.ListN.{length, get_or, set, take}
 use lib.Seq.{get_or-set_same, get_or-set_other, set_out}
@@ -12,13 +12,15 @@ use borrow.Author.Tests.{eqb-true, eqb-false, ltb-true, ltb-false}
 use Rattle.lists.proofs.Padded.{get_or-zeros}
 use Rattle.lists.specs.Folds.{each}
 use Rattle.lists.specs.Spans.{zeros}
+use Rattle.std.specs.Prelude.{Option, Some, None}
 use Rattle.places.specs.Places.{places_of, adjacent_by}
 use Rattle.places.proofs.Look.{adjacent-told}
 use Rattle.model.specs.Plan.{Plan, adjacent}
+use Rattle.model.specs.Sweep.{below}
 use Rattle.frontier.specs.Run.{depth, under}
 use Rattle.choice.specs.declared.Lead.{Lead}
-use Rattle.choice.specs.Run.{Trail, lead, trail, trail_of, start_trail, placed, same}
-use Rattle.choice.specs.Search.{Trails, Reason, edge, old, twice, right, beside, later, split, Takes, Stops, bare, barred, Extends}
+use Rattle.choice.specs.Run.{Trail, lead, trail_of, start_trail, placed, same}
+use Rattle.choice.specs.Search.{Trails, Reason, edge, old, twice, right, beside, later, split, Lowest, Takes, Stops, bare, barred, Extends}
 use Rattle.frontier.proofs.Under.{below-is, depth_le, back_suc}
 use Rattle.pockets.proofs.Pocketed.{back_split}
 
@@ -68,13 +70,14 @@ module _ {p : Plan} where
   -- the trail of no list
   pub trails_start : {f : List ℕ} (m : ℕ) → Trails p f m [] (start_trail m)
   unfolding start_trail
-  trails_start m = record { none = λ e. refl; first = λ e. absurd (false≢true e); marks = λ c h. absurd (h (get_or-zeros 256 c)); lo = λ h. absurd (omega arith) }
+  trails_start m = record { none = λ e. refl; first = λ a e. absurd (cc); marks = λ c h. absurd (h (get_or-zeros 256 c)); lo = λ h. absurd (omega arith) }
 
   -- one context put before the list
-  pub trails_push : {f on seen place tab : List ℕ} {m c j k : ℕ} {l : List ℕ} {before r : Lead} → Trails p f m l (trail_of before on) → Takes tab p f on seen place m c j k before r → tab ≡ places_of p → place ≡ placed f m → r.ok ≡ true → Trails p f m (c ∷ l) (trail_of r (set on c 1))
-  trails_push {f} {on} {seen} {place} {tab} {m} {c} {l = l} {before = before} {r = r} h did own hi o =
-      let (some, first, low) = did.yes o in
-      record { none = λ e. absurd (true≢false (sym some ∙ e)); first = λ e. (l, ap {B = List ℕ} (λ w. w ∷ l) (sym first)); marks = λ d n. mark d (some_number (get_or (set on c 1) d 0) n); lo = λ n. least n (low.is n) }
+  pub trails_push : {f on seen place tab : List ℕ} {m c j k : ℕ} {l : List ℕ} {before : Lead} {o : Option Lead} {r : Lead} → Trails p f m l (trail_of before on) → Takes tab p f on seen place m c j k before o → tab ≡ places_of p → place ≡ placed f m → o ≡ Some r → Trails p f m (c ∷ l) (trail_of r (set on c 1))
+  trails_push {f} {on} {seen} {place} {tab} {m} {c} {l = l} {before = before} {r = r} h did own hi is =
+      let first : r.first ≡ Some c = (did.yes r is).0 in
+      let low : Lowest tab p place m c before.lo r.lo = (did.yes r is).1 in
+      record { none = λ e. absurd (cc); first = λ a e. (l, let z : c ≡ a = cc in ap {B = List ℕ} (λ w. w ∷ l) z); marks = λ d n. mark d (some_number (get_or (set on c 1) d 0) n); lo = λ n. least n (low.is n) }
     where
       put : (d t' : ℕ) → ((d ≡ c) × (1 ≡ suc t')) ⊎ (get_or on d 0 ≡ suc t') → Memᴰ d (c ∷ l)
       put d t' (inl (same, at)) = Memᴰ.head same
@@ -100,36 +103,38 @@ grows_start = record { holds = λ l h. h }
 
 module _ {p : Plan} {f : List ℕ} {m k : ℕ} {old : Trail} {t : ℕ} {cur : Trail} (inv : Grows p f m k old t cur) where
   -- after a turn of the loop
-  pub grows_on : {on seen place tab : List ℕ} {c j t' : ℕ} {before r : Lead} → cur ≡ trail_of before on → t' ≡ t + 1 → t < depth p f k → c ≡ get_or (under p f k) t 0 → Takes tab p f on seen place m c j k before r → tab ≡ places_of p → place ≡ placed f m → r.ok ≡ true
+  pub grows_on : {on seen place tab : List ℕ} {c j t' : ℕ} {before : Lead} {o : Option Lead} {r : Lead} → cur ≡ trail_of before on → t' ≡ t + 1 → t < depth p f k → c ≡ get_or (under p f k) t 0 → Takes tab p f on seen place m c j k before o → tab ≡ places_of p → place ≡ placed f m → o ≡ Some r
       → {on' : List ℕ} → on' ≡ set on c 1 → Grows p f m k old t' (trail_of r on')
-  grows_on {on} {c = c} {t' = t'} {r = r} z s h e did own hi o {on'} n =
+  grows_on {on} {c = c} {t' = t'} {r = r} z s h e did own hi is {on'} n =
       let long = depth_le p f k in
       let w : suc t ≡ t' = omega arith in
       record {
         holds = λ l a.
             subst (λ (d : List ℕ). Trails p f m (reverse (take t' (under p f k)) ++ l) (trail_of r d)) (sym n)
             (subst (λ (b : List ℕ). Trails p f m (b ++ l) (trail_of r (set on c 1))) (ap {B = List ℕ} (λ i. i ∷ reverse (take t (under p f k))) e ∙ sym (back_suc (under p f k) t (omega arith)) ∙ ap (λ (i : ℕ). reverse (take i (under p f k))) w)
-            (trails_push (subst (Trails p f m (reverse (take t (under p f k)) ++ l)) z (inv.holds l a)) did own hi o));
+            (trails_push (subst (Trails p f m (reverse (take t (under p f k)) ++ l)) z (inv.holds l a)) did own hi is));
       }
 
   -- after the loop
-  pub grows_end : cur.ok ≡ true → depth p f k ≤ t → t ≤ depth p f k → {seen place : List ℕ} {j : ℕ} → Extends p f m seen place j k old cur
-  grows_end o h q =
+  pub grows_end : {x : Lead} {marks : List ℕ} → cur ≡ trail_of x marks → depth p f k ≤ t → t ≤ depth p f k → {seen place : List ℕ} {j : ℕ} → Extends p f m seen place j k old marks (Some x)
+  grows_end {x} {marks} c h q =
       let z : t ≡ depth p f k = omega arith in
       record {
-        on = λ l a _. subst (λ (b : List ℕ). Trails p f m (b ++ l) cur) (ap (λ (i : ℕ). reverse (take i (under p f k))) z ∙ sym (below-is p f k)) (inv.holds l a);
-        off = λ l a n. absurd (true≢false (sym o ∙ n));
+        on = λ l a y e.
+            let w : cur ≡ trail_of y marks = let same : x ≡ y = cc in c ∙ ap (λ (i : Lead). trail_of i marks) same in
+            subst (Trails p f m (below p f k ++ l)) w (subst (λ (b : List ℕ). Trails p f m (b ++ l) cur) (ap (λ (i : ℕ). reverse (take i (under p f k))) z ∙ sym (below-is p f k)) (inv.holds l a));
+        off = λ l a e. absurd (cc);
       }
 
   -- a context may not come before the list
-  pub grows_stop : {seen place : List ℕ} {c j : ℕ} → t < depth p f k → c ≡ get_or (under p f k) t 0 → same cur.some cur.first c ≡ false → Reason p f cur.on seen place cur.some cur.first c j k → {r : Trail} → r.ok ≡ false → Extends p f m seen place j k old r
+  pub grows_stop : {seen place : List ℕ} {c j : ℕ} → t < depth p f k → c ≡ get_or (under p f k) t 0 → same cur.first c ≡ false → Reason p f cur.on seen place cur.first c j k → {marks : List ℕ} {r : Option Lead} → r ≡ None → Extends p f m seen place j k old marks r
   grows_stop {c = c} h e other why o =
       let long = depth_le p f k in
       let d = depth p f k - suc t in
       let (pre, q) = back_split (under p f k) t d (omega arith) in
       let z : depth p f k ≡ t + suc d = omega arith in
       record {
-        on = λ l a n. absurd (false≢true (sym o ∙ n));
+        on = λ l a x n. absurd (cc);
         off = λ l a _.
             barred pre (reverse (take t (under p f k))) c cur
             (below-is p f k ∙ ap (λ (i : ℕ). reverse (take i (under p f k))) z ∙ q ∙ ap {B = List ℕ} (λ i. pre ++ (i ∷ reverse (take t (under p f k)))) (sym e))
@@ -137,25 +142,25 @@ module _ {p : Plan} {f : List ℕ} {m k : ℕ} {old : Trail} {t : ℕ} {cur : Tr
       }
 
 -- nothing is below
-pub extends_bare : {p : Plan} {f : List ℕ} {m k : ℕ} {seen place : List ℕ} {j : ℕ} {old r : Trail} → depth p f k ≡ 0 → r.ok ≡ false → Extends p f m seen place j k old r
-extends_bare {p} {f} {k = k} e o = record { on = λ l a n. absurd (false≢true (sym o ∙ n)); off = λ l a _. bare (below-is p f k ∙ ap (λ (i : ℕ). reverse (take i (under p f k))) e) }
+pub extends_bare : {p : Plan} {f : List ℕ} {m k : ℕ} {seen place : List ℕ} {j : ℕ} {old : Trail} {marks : List ℕ} → depth p f k ≡ 0 → Extends p f m seen place j k old marks None
+extends_bare {p} {f} {k = k} e = record { on = λ l a x n. absurd (cc); off = λ l a _. bare (below-is p f k ∙ ap (λ (i : ℕ). reverse (take i (under p f k))) e) }
 
 -- a reason that c may not come before nothing
-alone : {p : Plan} {f seen place : List ℕ} {c j k : ℕ} → Reason p f seen seen place false 0 c j k → Reason p f (zeros 256) seen place false 0 c j k
+alone : {p : Plan} {f seen place : List ℕ} {c j k : ℕ} → Reason p f seen seen place None c j k → Reason p f (zeros 256) seen place None c j k
 alone (edge h) = edge h
 alone (old h) = old h
 alone (twice h) = old h
 alone (right x a h) = right x a h
-alone (beside h x a b) = absurd (false≢true h)
-alone (later h x a y b) = absurd (false≢true h)
+alone (beside i h x a b) = absurd (cc)
+alone (later i h x a y b) = absurd (cc)
 alone (split h) = split h
 
 module _ {p : Plan} {f : List ℕ} {m j k : ℕ} {seen place : List ℕ} {c : ℕ} where
   -- the context below the frontier edge left of j may not be on a list: the search stops
-  pub shut_stops : {tab : List ℕ} {r : Lead} → c ≡ get_or (under p f k) 0 0 → Takes tab p f seen seen place m c j k (lead true false 0 m) r → r.ok ≡ false → Stops p f m seen place j k []
+  pub shut_stops : {tab : List ℕ} {r : Option Lead} → c ≡ get_or (under p f k) 0 0 → Takes tab p f seen seen place m c j k (lead None m) r → r ≡ None → Stops p f m seen place j k []
   unfolding start_trail same
   shut_stops e did o = go (depth p f k) refl
     where
       go : (d : ℕ) → depth p f k ≡ d → Stops p f m seen place j k []
       go zero d = bare (below-is p f k ∙ ap (λ (i : ℕ). reverse (take i (under p f k))) d)
-      go (suc d) i = (grows_stop {old = start_trail m} {cur = start_trail m} grows_start {seen = seen} {place = place} {c = c} {j = j} (omega arith) e refl (alone (did.no o).1) {r = trail false false 0 0 []} refl).off [] (trails_start m) refl
+      go (suc d) i = (grows_stop {old = start_trail m} {cur = start_trail m} grows_start {seen = seen} {place = place} {c = c} {j = j} (omega arith) e refl (alone (did.no o).1) {marks = []} {r = None} refl).off [] (trails_start m) refl

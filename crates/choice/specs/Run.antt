@@ -1,45 +1,45 @@
 -- The search for a pair of positions as the engine goes about it, on arrays: each definition is one function of src/.
-use Rattle.std.specs.Prelude.{ℕ, suc, ◌-◌, min, List, Bool, true, false, cond, not, get_or, set, eqb, ltb}
+use Rattle.std.specs.Prelude.{ℕ, suc, ◌-◌, min, List, Option, Some, None, Bool, true, false, cond, not, get_or, set, eqb, ltb}
 use Rattle.lists.specs.Folds.{through}
 use Rattle.lists.specs.Spans.{zeros}
 use Rattle.choice.specs.declared.Lead.{Lead}
 
 -- a lead of these parts
-abbrev pub lead : Bool → Bool → ℕ → ℕ → Lead
-lead ok some first lo = record { ok = ok; some = some; first = first; lo = lo }
+abbrev pub lead : Option ℕ → ℕ → Lead
+lead first lo = record { first = first; lo = lo }
 
 -- what a search knows of the list so far: a lead, and a mark for each context of the list
 pub record Trail : Type 0 where
-  pub ok : Bool
-  pub some : Bool
-  pub first : ℕ
+  pub first : Option ℕ
   pub lo : ℕ
   pub on : List ℕ
 
 -- a trail of these parts
-abbrev pub trail : Bool → Bool → ℕ → ℕ → List ℕ → Trail
-trail ok some first lo on = record { ok = ok; some = some; first = first; lo = lo; on = on }
+abbrev pub trail : Option ℕ → ℕ → List ℕ → Trail
+trail first lo on = record { first = first; lo = lo; on = on }
 
 -- the trail of a lead and its marks
 abbrev pub trail_of : Lead → List ℕ → Trail
-trail_of l on = trail l.ok l.some l.first l.lo on
+trail_of l on = trail l.first l.lo on
 
 -- the trail of no list
 unfoldable pub start_trail : ℕ → Trail
-start_trail m = trail true false 0 m (zeros 256)
+start_trail m = trail None m (zeros 256)
 
 -- for each context one more than the highest of the first m positions at which it stands
 unfoldable pub placed : List ℕ → ℕ → List ℕ
 placed f m = through (λ k place. set place (get_or f k 0) (suc k)) 0 (min m 512) (zeros 256)
 
 -- there is a list, and c its first
-unfoldable pub same : Bool → ℕ → ℕ → Bool
-same any first c = cond any (eqb c first) false
+unfoldable pub same : Option ℕ → ℕ → Bool
+same None c = false
+same (Some a) c = eqb c a
 
 -- c is a border context, or is or was on the frontier, or is on the list
 unfoldable pub barred : List ℕ → List ℕ → ℕ → Bool
 barred on seen c = cond (ltb c 4) true (cond (not (eqb (get_or seen c 0) 0)) true (not (eqb (get_or on c 0) 0)))
 
 -- w, whose position in the table is x, stands beyond j, or, where there is a list, at j, or is one of the list but its first
-unfoldable pub knot : List ℕ → Bool → ℕ → ℕ → ℕ → ℕ → Bool
-knot on any first j x w = cond any (cond (ltb j x) true (cond (eqb w first) false (not (eqb (get_or on w 0) 0)))) (ltb 1 (x - j))
+unfoldable pub knot : List ℕ → Option ℕ → ℕ → ℕ → ℕ → Bool
+knot on None j x w = ltb 1 (x - j)
+knot on (Some a) j x w = cond (ltb j x) true (cond (eqb w a) false (not (eqb (get_or on w 0) 0)))

@@ -1,48 +1,17 @@
--- What the code computes, step by step: chords, the test of a pair.
+-- What the code computes, step by step: a new frontier looked at whole, the test of a pair.
 use Prim.Native.Nat.{ℕ, suc, ◌+◌, ◌≤◌, ◌<◌}
 use mathlib.Core.Path.{◌≡◌, ap, sym, ◌∙◌}
 use mathlib.Core.List.{List}
 use mathlib.Core.Bool.{Bool, true, false, cond, not}
 use native.Mathlib.Omega.{arith}
-use lib.ListN.{get_or}
 use lib.Dec.{ltb}
 use borrow.Author.Tests.{lt-ltb, le-ltb}
 use Rattle.model.specs.Plan.{Plan}
-use Rattle.lists.specs.Folds.{some}
 use Rattle.lists.specs.Spans.{zeros}
 use Rattle.frontier.specs.declared.Line.{Line}
 use Rattle.frontier.specs.Run.{line}
 use Rattle.pairs.specs.Run.{replaced, listing_by}
-use Rattle.chords.specs.Run.{touches, chorded, chord_left, chord_at, broken, chord_new, fits_with}
-
--- ---- chords
-module _ (near : ℕ → ℕ → Bool) (f : List ℕ) (i : ℕ) (l : List ℕ) (q : ℕ) {u : ℕ} (at : u ≡ get_or f i 0) {b : Bool} (e : b ≡ touches near u l 1 q) where
-  -- position i lists another than the first of the list
-  pub left_hit : b ≡ true → true ≡ chord_left near f i l q
-  unfolding chord_left
-  left_hit t = sym (rw (ap (λ (w : ℕ). touches near w l 1 q) (sym at) ∙ sym e ∙ t))
-
-  -- it does not
-  pub left-on : b ≡ false → {r : Bool} → r ≡ some (λ (k : ℕ). touches near (get_or f k 0) l 0 q) 0 i → r ≡ chord_left near f i l q
-  unfolding chord_left
-  left-on t h = h ∙ sym (rw (ap (λ (w : ℕ). touches near w l 1 q) (sym at) ∙ sym e ∙ t))
-
-module _ (near : ℕ → ℕ → Bool) (f : List ℕ) (m j : ℕ) (l : List ℕ) (q x : ℕ) {u : ℕ} (at : u ≡ get_or l x 0) where
-  -- the last of the list
-  pub at_last : q ≤ x + 1 → {b : Bool} → b ≡ touches near u f (j + 1) m → b ≡ chord_at near f m j l q x
-  unfolding chord_at
-  at_last h e = e ∙ ap (λ (w : ℕ). touches near w f (j + 1) m) at ∙ sym (rw (le-ltb (x + 1) q h))
-
-  module _ (h : x + 1 < q) {b : Bool} (e : b ≡ touches near u l (x + 1 + 1) q) where
-    -- it lists one further on the list
-    pub at_hit : b ≡ true → true ≡ chord_at near f m j l q x
-    unfolding chord_at
-    at_hit t = sym (rw (lt-ltb (x + 1) q h, ap (λ (w : ℕ). touches near w l (x + 1 + 1) q) (sym at) ∙ sym e ∙ t))
-
-    -- it does not
-    pub at_on : b ≡ false → {r : Bool} → r ≡ touches near u f j m → r ≡ chord_at near f m j l q x
-    unfolding chord_at
-    at_on t g = g ∙ ap (λ (w : ℕ). touches near w f j m) at ∙ sym (rw (lt-ltb (x + 1) q h, ap (λ (w : ℕ). touches near w l (x + 1 + 1) q) (sym at) ∙ sym e ∙ t))
+use Rattle.chords.specs.Run.{chorded, broken, chord_new, fits_with}
 
 -- ---- the new frontier, looked at whole
 module _ (near : ℕ → ℕ → Bool) (f : List ℕ) (m i j : ℕ) (l : List ℕ) (q : ℕ) {a : ℕ} (s : a ≡ i + 1) {w : Line} (e : w ≡ replaced f m a j (line true q l (zeros 256))) where

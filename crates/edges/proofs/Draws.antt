@@ -61,10 +61,6 @@ module _ (t starts : List ℕ) (u v l : ℕ) (ls : List ℕ) where
 pub record Draws (t starts : List ℕ) (l : ℕ) (ds₀ : List Dart) (ls₀ : List ℕ) (ds : List Dart) (ls : List ℕ) : Type 0 where
   pub same : edges_by t starts l ds₀ ls₀ ≡ edges_by t starts l ds ls
 
--- before the loop
-pub draws-start : {t starts : List ℕ} {l : ℕ} {ds : List Dart} {ls : List ℕ} → Draws t starts l ds ls ds ls
-draws-start = record { same = refl }
-
 module _ (t starts : List ℕ) (l : ℕ) where
   -- labels on the edges of two lists
   edges_append : (ds es : List Dart) (ls : List ℕ) → edges_by t starts l (ds ++ es) ls ≡ edges_by t starts l es (edges_by t starts l ds ls)

@@ -2,17 +2,14 @@
 use Prim.Native.Nat.{ℕ, suc, ◌+◌, ◌-◌, ◌≤◌, ◌<◌, min}
 use mathlib.Core.Path.{◌≡◌, ap, sym, ◌∙◌}
 use mathlib.Core.List.{List, ◌++◌}
-use mathlib.Core.Bool.{false}
 use native.Mathlib.Omega.{arith}
-use lib.ListN.{length, get_or, set, take, drop, length-append, length-drop, length-take, get_or-append, get_or-eq_default, drop_of_length-le}
-use lib.Seq.{get_or-append-add, get_or-drop, get_or-take, drop-cons}
-use borrow.Author.Tests.{eq-eqb, ne_eqb, lt-ltb, le-ltb}
+use lib.ListN.{length, get_or, take, drop, length-append, length-drop, length-take, get_or-append, get_or-eq_default}
+use lib.Seq.{get_or-append-add, get_or-drop, get_or-take}
 use Rattle.lists.specs.Parts.{index_of}
 use Rattle.model.specs.Plan.{Plan, ring, onward}
-use Rattle.frontier.specs.declared.Line.{Line}
 use Rattle.places.specs.Places.{places_of}
 use Rattle.places.proofs.Look.{index_told}
-use Rattle.frontier.specs.Run.{line, turned_at, turn, turn_by, depth, depth_from, gap, under, pushed}
+use Rattle.frontier.specs.Run.{turned_at, turn, turn_by, depth, depth_from, gap, under}
 
 -- ---- a ring read from a place on
 module _ (x : ℕ) (r : List ℕ) {q d : ℕ} (size : q ≡ length r) (rest : d ≡ q - (x + 1)) where
@@ -69,45 +66,10 @@ module _ (p : Plan) {t : List ℕ} (own : t ≡ places_of p) (f : List ℕ) (k :
   unfolding turn depth_from depth gap
   depth-told e = e ∙ ap (index_of (get_or f (k - 1) 0)) (onward-turned (get_or f (suc k) 0) (ring p (get_or f k 0)) turn-told)
 
--- ---- while t < e { if b == l[t] { return t; } t += 1; } t
+-- ---- for t in 0..e { if b == l[t] { return t; } } e
 pub record Gaps (l : List ℕ) (b t : ℕ) : Type 0 where
   pub same : index_of b l ≡ t + index_of b (drop t l)
 
 -- before the loop
 pub gap-start : {l : List ℕ} {b : ℕ} → Gaps l b 0
 gap-start = record { same = omega arith }
-
-module _ {l : List ℕ} {b t : ℕ} (inv : Gaps l b t) where
-  -- where the entry is found
-  pub gap_hit : t < length l → b ≡ get_or l t 0 → t ≡ index_of b l
-  gap_hit h e =
-      let z : index_of b (drop t l) ≡ 0 = ap (index_of b) (drop-cons l t 0 h) ∙ rw (eq-eqb b (get_or l t 0) e) in
-      let s = inv.same in
-      omega arith
-
-  -- where it is another entry
-  pub gap-on : {t' : ℕ} → t' ≡ t + 1 → t < length l → (b ≡ get_or l t 0 → ⊥) → Gaps l b t'
-  gap-on {t'} q h e =
-      let z : index_of b (drop t l) ≡ suc (index_of b (drop (suc t) l)) = ap (index_of b) (drop-cons l t 0 h) ∙ rw (ne_eqb b (get_or l t 0) e) in
-      let w : suc t ≡ t' = omega arith in
-      let y : index_of b (drop (suc t) l) ≡ index_of b (drop t' l) = ap (λ (k : ℕ). index_of b (drop k l)) w in
-      let s = inv.same in
-      record { same = omega arith }
-
-  -- after the loop
-  pub gap_end : length l ≤ t → t ≡ index_of b l
-  gap_end h =
-      let z : index_of b (drop t l) ≡ 0 = ap (index_of b) (drop_of_length-le l h) in
-      let s = inv.same in
-      omega arith
-
--- ---- lines
--- a line with room
-pub pushed_in : (v : Line) (x : ℕ) {l : ℕ} {g : List ℕ} → v.len < 512 → l ≡ v.len + 1 → g ≡ set v.at v.len x → line v.ok l g v.marks ≡ pushed v x
-unfolding pushed
-pushed_in v x h q e = rw (lt-ltb _ _ h, q, e)
-
--- a line that is full
-pub pushed_out : (v : Line) (x : ℕ) → 512 ≤ v.len → line false v.len v.at v.marks ≡ pushed v x
-unfolding pushed
-pushed_out v x h = rw (le-ltb _ _ h)

@@ -3,8 +3,10 @@
 
 ghost use Rattle.std.specs.Prelude.{◌≡◌, List, ℕ, ◌-◌, ◌<◌, ◌^◌, get_or};
 ghost use Rattle.model.specs.Plan.{ring};
-ghost use Rattle.rings.specs.Tables.{rows};
+ghost use Rattle.rings.specs.Tables.{plan_of};
 ghost use Rattle.frontier.specs.Run as run;
+
+use rings::Rings;
 
 pub mod below;
 
@@ -29,7 +31,7 @@ pub fn push(at: &mut [u16], line: Tally, x: u16) -> Tally
     ensures { (marks : List ℕ) → run.line_of result at.new marks ≡ run.pushed (run.line_of line at.old marks) x }
 {
     if line.len < 512 {
-        arrays::set_word(at, line.len, x);
+        arrays::put(at, line.len, x);
         return Tally {
             ok: line.ok,
             len: line.len + 1,
@@ -42,41 +44,26 @@ pub fn push(at: &mut [u16], line: Tally, x: u16) -> Tally
 }
 
 // The i-th neighbour in u's ring; 0 past its end.
-fn entry_at<'a>(
-    starts: &'a [u16],
-    sizes: &'a [u8],
-    entries: &'a [u16],
-    n: usize,
-    u: usize,
-    i: usize,
-) -> u16
-    ensures { result ≡ get_or (ring (rows starts.now sizes.now entries.now n) u) i 0 }
+fn entry_at(rings: &Rings, u: usize, i: usize) -> u16
+    ensures { result ≡ get_or (ring (plan_of rings.now) u) i 0 }
 {
-    if i < rings::size_of(sizes, n, u) {
-        rings::neighbour_of(arrays::num(entries, arrays::num(starts, u) + i)) as u16
+    if i < rings.size_of(u) {
+        rings::neighbour_of(arrays::num(rings.entries, arrays::num(rings.starts, u) + i)) as u16
     } else {
         0
     }
 }
 
 // Entry t of u's ring, read from the entry after place x round to the entry before it; 0 past the end.
-pub fn onward_at<'a>(
-    starts: &'a [u16],
-    sizes: &'a [u8],
-    entries: &'a [u16],
-    n: usize,
-    u: usize,
-    x: usize,
-    t: usize,
-) -> u16
-    ensures { result ≡ get_or (run.turned_at x (ring (rows starts.now sizes.now entries.now n) u)) t 0 }
+pub fn onward_at(rings: &Rings, u: usize, x: usize, t: usize) -> u16
+    ensures { result ≡ get_or (run.turned_at x (ring (plan_of rings.now) u)) t 0 }
 {
-    let d = numbers::minus(numbers::minus(rings::size_of(sizes, n, u), 1), x);
+    let d = rings.size_of(u).saturating_sub(1).saturating_sub(x);
     if t < d {
-        return entry_at(starts, sizes, entries, n, u, x + 1 + t);
+        return entry_at(rings, u, x + 1 + t);
     }
     if t - d < x {
-        return entry_at(starts, sizes, entries, n, u, t - d);
+        return entry_at(rings, u, t - d);
     }
     0
 }

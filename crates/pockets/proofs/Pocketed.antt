@@ -8,7 +8,6 @@ use native.Mathlib.Omega.{arith}
 use lib.ListN.{length, get_or, take}
 use lib.Dec.{eqb}
 use borrow.Author.Tests.{eqb-true}
-use Rattle.lists.specs.Folds.{some}
 use Rattle.lists.proofs.Folds.{some_one}
 use Rattle.model.specs.Plan.{Plan, ring, adjacent}
 use Rattle.model.specs.Sweep.{below}
@@ -35,14 +34,6 @@ under-below p f k t h =
     let (pre, q) = back_split (under p f k) t d (omega arith) in
     let z : depth p f k ≡ t + suc d = omega arith in
     subst (Memᴰ (get_or (under p f k) t 0)) (sym (below-is p f k ∙ ap (λ (i : ℕ). reverse (take i (under p f k))) z ∙ q)) (Memᴰ.append_right pre (Memᴰ.head refl))
-
--- what a pass over what is below a position says
-pub scanned : (t : List ℕ) (p : Plan) (f : List ℕ) (c a : ℕ) {x q u : ℕ} {r : Bool} → x ≡ turn_by t p f a → q ≡ depth_from p f a x → u ≡ get_or f a 0 → r ≡ some (λ (i : ℕ). eqb c (get_or (turned_at x (ring p u)) i 0)) 0 q → r ≡ below_by t p f c a
-unfolding below_by
-scanned t p f c a {x} at size is e =
-    e
-    ∙ (λ d. some (λ (i : ℕ). eqb c (get_or (turned_at x (ring p (is d))) i 0)) 0 (size d))
-    ∙ ap (λ (y : ℕ). some (λ (i : ℕ). eqb c (get_or (turned_at y (ring p (get_or f a 0))) i 0)) 0 (depth_from p f a y)) at
 
 -- ---- while a < e { if !listed(a + 1) { return below(a); } a += 1; }
 pub record Passes (t : List ℕ) (p : Plan) (f : List ℕ) (c lo e a : ℕ) : Type 0 where

@@ -1,17 +1,16 @@
 -- A plan in flat arrays: what labels are put by, where the labels of a ring begin and end, labels put into an array.
-use Prim.Native.Nat.{ℕ, ◌-◌, ◌≤◌}
+use Prim.Native.Nat.{ℕ, ◌-◌}
 use mathlib.Core.Path.{◌≡◌, refl, sym, ap, ◌∙◌}
 use mathlib.Core.List.{List, [], ◌∷◌, ◌++◌}
-use mathlib.Core.Bool.{Bool, true, false, cond}
+use mathlib.Core.Bool.{true}
 use native.Mathlib.Omega.{arith}
-use lib.ListN.{length, get_or}
-use lib.Dec.{ltb}
+use lib.ListN.{length}
 use Rattle.lists.specs.Spans.{zeros, padded}
 use Rattle.model.proofs.LabelCounts.{put_long}
 use Rattle.model.specs.Plan.{Plan, Dart, entry_count}
 use Rattle.model.specs.Labels.{start, put, turned}
 use Rattle.model.specs.Sweep.{label_edges}
-use Rattle.rings.specs.Tables.{starts_of, size_of, rows, table}
+use Rattle.rings.specs.Tables.{starts_of, rows, table}
 use Rattle.rings.proofs.Rows.{count-rows}
 use Rattle.fit.specs.Fits.{fit}
 use Rattle.fit.proofs.Fits.{fit-says}
@@ -24,15 +23,6 @@ use Rattle.edges.specs.Edges.{Guide}
 pub as_table : (starts sizes es : List ℕ) (n : ℕ) → starts ≡ starts_of sizes → rows starts sizes es n ≡ table sizes es n
 unfolding table
 as_table starts sizes es n same = ap (λ (l : List ℕ). rows l sizes es n) same
-
--- a ring is no longer than its size says
-pub size-le : (sizes : List ℕ) (n u : ℕ) → size_of sizes n u ≤ get_or sizes u 0
-unfolding size_of
-size-le sizes n u = go (ltb u n)
-  where
-    go : (t : Bool) → cond t (get_or sizes u 0) 0 ≤ get_or sizes u 0
-    go true = omega arith
-    go false = omega arith
 
 -- what labels are put by, for a plan in flat arrays that fits
 pub guide : (starts sizes es : List ℕ) (n : ℕ) {places : List ℕ} → starts ≡ starts_of sizes → fit (rows starts sizes es n) ≡ true → places ≡ places_of (rows starts sizes es n) → Guide (rows starts sizes es n) places starts

@@ -1,6 +1,7 @@
 -- The engine's steps are the model's, from the first frontier until the sweep is finished or stuck.
 use Prim.Native.Nat.{ℕ, zero, suc, ◌+◌, ◌-◌, ◌≤◌, ◌<◌}
 use mathlib.Core.Path.{◌≡◌, refl, sym, ap, ◌∙◌, subst}
+use Rattle.std.specs.Prelude.{Option, Some, None}
 use mathlib.Core.Logic.{◌⊎◌, inl, inr}
 use mathlib.Core.List.{List, [], ◌∷◌, ◌++◌}
 use mathlib.Core.Bool.{Bool, true, false, cond, not, false≢true}
@@ -16,15 +17,13 @@ use Rattle.model.specs.Labels.{up, right}
 use Rattle.model.specs.Sweep.{State, label_edges, product, top, bare_labels, first_state, listed, finished, finish, eligible, choose, choices, advance, sweep_from}
 use Rattle.model.proofs.Choices.{chosen, Chosen}
 use Rattle.frontier.specs.declared.Line.{Line}
-use Rattle.choice.specs.declared.Found.{Found}
-use Rattle.choice.specs.declared.Found.TheVariants.{At, Nothing}
 use Rattle.lists.specs.Tests.{member}
 use Rattle.frontier.specs.Front.{Sane, Marks, Front}
 use Rattle.choice.specs.Search.{found_as, Ready}
 use Rattle.frontier.proofs.Lines.{stretch_part, stretch-all}
 use Rattle.pairs.proofs.Pairs.{gathered, unchorded, replaced-marks, next-front}
 use Rattle.ends.proofs.Finishing.{open_is, unfinished-told}
-use Rattle.steps.specs.Run.{step_labels, Stepped, finish_labels, first_labels, stuck, swept, Running, ended_as, ended}
+use Rattle.steps.specs.Run.{step_labels, Stepped, finish_labels, first_labels, in_array, swept, Running}
 use Rattle.frontier.specs.Run.{line}
 use Rattle.edges.specs.Edges.{Guide}
 use Rattle.ends.specs.Ends.{first_line, unfinished_by}
@@ -123,11 +122,11 @@ module _ {p : Plan} {places starts : List ℕ} (g : Guide p places starts) {k : 
   sane = record { entry = g.small }
 
   -- what is found is what the model chooses
-  abbrev Chooses : Found → Type 0
+  abbrev Chooses : Option (ℕ × ℕ) → Type 0
   Chooses found = (s : State) → Ready places p clean s v → found_as found ≡ choose p s (choices s.frontier)
 
   -- of this state
-  chosen_here : (found : Found) → Chooses found → found_as found ≡ choose p s (choices f)
+  chosen_here : (found : Option (ℕ × ℕ)) → Chooses found → found_as found ≡ choose p s (choices f)
   chosen_here found e = e s (record { own = g.own; sane = sane; front = inv.front; chords = inv.chords })
 
   -- the finishing test
@@ -140,8 +139,8 @@ module _ {p : Plan} {places starts : List ℕ} (g : Guide p places starts) {k : 
   step k' z = inv.same ∙ ap (λ (n : ℕ). sweep_from p n s) z
 
   -- the sweep is finished
-  pub running_done : {t : Bool} {b : List ℕ} → 0 < k → t ≡ unfinished_by places p v.at v.len → not t ≡ true → b ≡ finish_labels p v.at v.len ls → ended true b ≡ ended_as (swept p)
-  unfolding finish_labels ended_as finish ended
+  pub running_done : {t : Bool} {b : List ℕ} → 0 < k → t ≡ unfinished_by places p v.at v.len → not t ≡ true → b ≡ finish_labels p v.at v.len ls → accepted b ≡ in_array (swept p)
+  unfolding finish_labels in_array finish
   running_done {t} {b} h q u e =
       let z : k ≡ suc (k - 1) = omega arith in
       let over = not-false (finished p f) (is-finished q ∙ not-true t u) in
@@ -155,23 +154,23 @@ module _ {p : Plan} {places starts : List ℕ} (g : Guide p places starts) {k : 
       ∙ (λ i. label_edges p right (steps ((ap (stretch (padded 512 f) 0) whole ∙ stretch-all f) i)) (label_edges p up (product (2 ∷ []) (span_inner f i)) (padded 1186 s.labels)))
       ∙ ap (label_edges p right (steps f)) (edges_padded p up south-darts s.labels inv.size)
       ∙ edges_padded p right (steps f) (label_edges p up south-darts s.labels) (edges_long p up south-darts s.labels ∙ inv.size) in
-      ap (ended true) same-labels ∙ sym (ap ended_as (step (k - 1) z ∙ ap (λ (t : Bool). cond t (accepted (finish p s)) rest) over))
+      ap {B = Outcome (List ℕ)} (λ (l : List ℕ). accepted l) same-labels ∙ sym (ap in_array (step (k - 1) z ∙ ap (λ (t : Bool). cond t (accepted (finish p s)) rest) over))
 
   -- no pair is eligible
-  pub running_stuck : (found : Found) (b : List ℕ) {t : Bool} → 0 < k → t ≡ unfinished_by places p v.at v.len → not t ≡ false → Chooses found → found ≡ Nothing → ended false b ≡ ended_as (swept p)
-  unfolding ended_as found_as stuck ended
-  running_stuck found b {t} h w u e q =
+  pub running_stuck : (found : Option (ℕ × ℕ)) {t : Bool} → 0 < k → t ≡ unfinished_by places p v.at v.len → not t ≡ false → Chooses found → found ≡ None → refused 14 0 ≡ in_array (swept p)
+  unfolding in_array found_as
+  running_stuck found {t} h w u e q =
       let z : k ≡ suc (k - 1) = omega arith in
       let on = not-true (finished p f) (is-finished w ∙ not-false t u) in
       let none : choose p s (choices f) ≡ refused 14 0 = sym (chosen_here found e) ∙ ap found_as q in
-      sym (ap ended_as
+      sym (ap in_array
       (step (k - 1) z
       ∙ ap (λ (t : Bool). cond t (accepted (finish p s)) (choose p s (choices f) >>= (λ (c : ℕ × ℕ). sweep_from p (k - 1) (advance p s c.0 c.1)))) on
       ∙ ap (λ (o : Outcome (ℕ × ℕ)). o >>= (λ (c : ℕ × ℕ). sweep_from p (k - 1) (advance p s c.0 c.1))) none))
 
-  module _ {i j : ℕ} (found : Found) (chose : Chooses found) (at : found ≡ At i j) where
+  module _ {i j : ℕ} (found : Option (ℕ × ℕ)) (chose : Chooses found) (at : found ≡ Some (i, j)) where
     -- the pair
-    e : found_as (At i j) ≡ choose p s (choices f)
+    e : found_as (Some (i, j)) ≡ choose p s (choices f)
     e = ap found_as (sym at) ∙ chosen_here found chose
 
     -- that the model takes
@@ -223,9 +222,9 @@ module _ {p : Plan} {places starts : List ℕ} (g : Guide p places starts) {k : 
         }
 
   -- no step is left
-  pub running_out : (b : List ℕ) → k ≡ 0 → ended false b ≡ ended_as (swept p)
-  unfolding ended_as sweep_from stuck ended
-  running_out b z = sym (ap ended_as (inv.same ∙ ap (λ (n : ℕ). sweep_from p n s) z))
+  pub running_out : k ≡ 0 → refused 14 0 ≡ in_array (swept p)
+  unfolding in_array sweep_from
+  running_out z = sym (ap in_array (inv.same ∙ ap (λ (n : ℕ). sweep_from p n s) z))
 
 -- ---- a sweep that does not finish is stuck: 14
 -- a choice is a pair or 14

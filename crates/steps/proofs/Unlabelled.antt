@@ -26,10 +26,6 @@ ring_labels p u = map (bare_label u) (ring p u)
 pub record Adding (p : Plan) (k u : ℕ) (labels : List ℕ) (t : ℕ) (b : List ℕ) : Type 0 where
   pub same : (l : List ℕ) → labels ≡ padded 1186 l → length l ≡ k → k + length (ring p u) ≤ 1186 → b ≡ padded 1186 (l ++ take t (ring_labels p u))
 
--- before the loop
-pub adding_start : {p : Plan} {k u : ℕ} {labels : List ℕ} → Adding p k u labels 0 labels
-adding_start = record { same = λ l e s h. e ∙ ap (padded 1186) (sym (append-nil l)) }
-
 module _ {p : Plan} {k u : ℕ} {labels : List ℕ} {t : ℕ} {b : List ℕ} (inv : Adding p k u labels t b) where
   -- after a turn of the loop
   pub adding_on : {t' i x : ℕ} {b' : List ℕ} → t' ≡ t + 1 → t < length (ring p u) → i ≡ k + t → x ≡ bare_label u (get_or (ring p u) t 0) → b' ≡ set b i x → Adding p k u labels t' b'

@@ -1,7 +1,7 @@
 -- The steps of the sweep as the engine runs them, on arrays.
-use Rattle.std.specs.Prelude.{ℕ, ◌+◌, ◌-◌, ◌≤◌, ◌≡◌, List, [], ◌∷◌, ◌++◌, map, Bool, true, false, cond, ◌&&◌, length}
+use Rattle.std.specs.Prelude.{ℕ, ◌+◌, ◌-◌, ◌≤◌, ◌≡◌, List, [], ◌∷◌, ◌++◌, map, Bool, true, cond, ◌&&◌, length}
 use Rattle.lists.specs.Parts.{steps}
-use Rattle.lists.specs.Spans.{span, zeros, padded}
+use Rattle.lists.specs.Spans.{span, padded}
 use Rattle.model.specs.Outcome.{Outcome, accepted, refused}
 use Rattle.model.specs.Plan.{Plan, count, ring, border, entry_count}
 use Rattle.model.specs.Labels.{up, right, border_label, unlabelled}
@@ -10,7 +10,6 @@ use Rattle.fit.specs.Fits.{fit}
 use Rattle.frontier.specs.declared.Line.{Line}
 use Rattle.frontier.specs.Front.{Front}
 use Rattle.pairs.specs.Run.{listing, replaced}
-use Rattle.steps.specs.declared.Ended.{Ended}
 
 -- ---- labels
 -- the labels of a step that puts the list l of q in place of positions i + 1 to j − 1
@@ -46,9 +45,10 @@ pub record Adds (p : Plan) (k u : ℕ) (labels r : List ℕ) : Type 0 where
   pub same : (l : List ℕ) → labels ≡ padded 1186 l → length l ≡ k → k + length (ring p u) ≤ 1186 → r ≡ padded 1186 (l ++ map (bare_label u) (ring p u))
 
 -- ---- the steps
--- no labels: the sweep is stuck
-unfoldable pub stuck : Ended
-stuck = record { finished = false; labels = zeros 1186 }
+-- an outcome whose labels stand in the array of 1186, with zeros after them
+unfoldable pub in_array : Outcome (List ℕ) → Outcome (List ℕ)
+in_array (accepted ls) = accepted (padded 1186 ls)
+in_array (refused k at) = refused k at
 
 -- the sweep before the label rules are tested
 unfoldable pub swept : Plan → Outcome (List ℕ)
@@ -58,11 +58,6 @@ swept p = sweep_from p (count p) (first_state p)
 unfoldable pub steps_of : Plan → Outcome (List ℕ)
 steps_of p = cond (fit p) (swept p) (refused 13 0)
 
--- how the steps ended, by the model
-unfoldable pub ended_as : Outcome (List ℕ) → Ended
-ended_as (accepted ls) = record { finished = true; labels = padded 1186 ls }
-ended_as (refused k at) = record { finished = false; labels = zeros 1186 }
-
 -- what the sweep has come to, with k steps to go
 pub record Running (p : Plan) (k : ℕ) (clean : Bool) (v : Line) (ls : List ℕ) : Type 0 where
   pub state : State
@@ -71,7 +66,3 @@ pub record Running (p : Plan) (k : ℕ) (clean : Bool) (v : Line) (ls : List ℕ
   pub labels : ls ≡ padded 1186 state.labels
   pub size : length state.labels ≡ entry_count p
   pub same : swept p ≡ sweep_from p k state
-
--- how the steps ended, by whether they finished and the labels then
-unfoldable pub ended : Bool → List ℕ → Ended
-ended done ls = cond done (record { finished = true; labels = ls }) stuck

@@ -2,28 +2,40 @@
 #![tactic(auto)]
 
 ghost use Rattle.std.specs.Prelude.{◌≡◌};
-ghost use Rattle.rings.specs.Tables.{table};
-ghost use Rattle.steps.specs.Run as run;
+ghost use Rattle.rings.specs.Tables.{table_of};
+ghost use Rattle.refusal.specs.Refusals.{told};
+ghost use Rattle.steps.specs.Run.{in_array, steps_of};
+
+use places::Located;
+use refusal::Refusal;
+use rings::{Rings, Table};
 
 mod first;
 mod step;
 
-// The steps ended: finished, with labels, or not; the labels are zero where there are none.
-#[derive(Drop)]
-pub struct Ended {
-    pub finished: bool,
-    pub labels: [u8; 1186],
-}
+use step::Guided;
 
 // The labels of the sweep, before the label rules are tested. A plan that does not fit the arrays is not swept.
-pub fn sweep_down<'a>(sizes: &'a [u8], entries: &'a [u16], n: usize) -> Ended
-    ensures { result ≡ run.ended_as (run.steps_of (table sizes.now entries.now n)) }
+pub fn sweep_down(plan: &Table) -> Result<[u8; 1186], Refusal>
+    ensures { told result ≡ in_array (steps_of (table_of plan.now)) }
 {
-    if !fit::is_fit(sizes, entries, n) {
-        return step::stuck();
+    if !fit::is_fit(plan) {
+        return Err(Refusal::TooEarly);
     }
-    let starts = rings::starts_of(sizes);
+    let starts = rings::starts_of(plan.sizes);
+    let rings = Rings {
+        starts: &starts,
+        sizes: plan.sizes,
+        entries: plan.entries,
+        n: plan.n,
+    };
     let mut places = [0u8; 40000];
-    places::fill(&mut places, &starts, sizes, entries, n);
-    step::run(&places, &starts, sizes, entries, n)
+    places::fill(&mut places, &rings);
+    let guided = Guided {
+        located: Located {
+            rings,
+            places: &places,
+        },
+    };
+    guided.run()
 }

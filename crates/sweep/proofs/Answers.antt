@@ -1,6 +1,6 @@
 -- The engine's answer is the model's: the label rules on an array that holds labels, and each case of the answer.
 use Prim.Native.Nat.{ℕ, zero, suc, ◌+◌, ◌-◌, ◌≤◌, ◌<◌, min}
-use mathlib.Core.Path.{◌≡◌, refl, sym, ap, ◌∙◌, subst}
+use mathlib.Core.Path.{◌≡◌, refl, sym, ap, ◌∙◌}
 use mathlib.Core.Logic.{◌⊎◌, inl, inr}
 use mathlib.Core.List.{List, [], ◌++◌}
 use mathlib.Core.Bool.{Bool, true, false, cond, not, ◌&&◌, ◌||◌, false≢true, true≢false}
@@ -13,24 +13,19 @@ use Rattle.labels.proofs.Darts.{start-after, start-below}
 use Rattle.lists.specs.Ranges.{first_from, lowest}
 use Rattle.lists.specs.Parts.{index_of}
 use Rattle.lists.specs.Spans.{zeros, padded}
-use Rattle.lists.proofs.Loops.{padded-none}
 use Rattle.lists.proofs.Tests.{any_same}
 use Rattle.model.specs.Outcome.{Outcome, accepted, refused, ◌>>=◌, ◌>>◌, require, taken}
 use Rattle.model.specs.Plan.{Plan, count, entries, ring, border, entry_count}
 use Rattle.model.specs.Labels.{border_label, unlabelled, start, labels_around, label_of, turned, bad_dart, four_runs, due, not_due, bad_ring, breaks, label_rules}
 use Rattle.model.specs.Sweep.{sweep}
-use Rattle.sweep.specs.declared.SweepAnswer.{SweepAnswer}
-use Rattle.sweep.specs.declared.SweepAnswer.TheVariants.{Labelled, Stuck, Broken, Unfit}
-use Rattle.sweep.specs.declared.Swept.{Swept}
-use Rattle.steps.specs.declared.Ended.{Ended}
 use Rattle.fit.specs.Fits.{fit}
-use Rattle.steps.specs.Run.{swept, steps_of, ended_as}
-use Rattle.sweep.specs.Swept.{sweep_of, outcome_of, bare, unswept}
+use Rattle.steps.specs.Run.{in_array, swept, steps_of}
+use Rattle.sweep.specs.Swept.{sweep_of}
 use Rattle.rings.specs.Tables.{starts_of, table}
 use Rattle.rings.proofs.Rows.{count-rows, held_small}
 use Rattle.rings.specs.Tables.{held}
 use Rattle.fit.proofs.Fits.{fit-says}
-use Rattle.steps.proofs.Steps.{swept_14}
+use Rattle.steps.proofs.Steps.{swept_14, swept_long}
 
 -- ---- the label rules on labels with zeros after them
 -- a part of the labels
@@ -85,37 +80,37 @@ module _ (p : Plan) (ls : List ℕ) (size : length ls ≡ entry_count p) where
   pub place-padded : (n : ℕ) → lowest (breaks p (padded 1186 ls)) n ≡ lowest (breaks p ls) n
   place-padded n = lowest-same (breaks p (padded 1186 ls)) (breaks p ls) 0 n breaks-padded
 
--- ---- the answer, and the labels beside it
-abbrev pub Answers : Plan → Swept → Type 0
-Answers p r = (outcome_of r.answer (taken [] (sweep_of p)) ≡ sweep_of p) × (r.labels ≡ padded 1186 (taken [] (sweep_of p)))
+-- ---- the answer
+-- an outcome with labels
+abbrev accepts : Outcome (List ℕ) → Bool
+accepts (accepted ls) = true
+accepts (refused k at) = false
 
--- labels, and no refusal
-abbrev pub done : List ℕ → Swept
-done l = record { answer = Labelled; labels = l }
-
--- an answer and labels for what the sweep comes to
-answers : (p : Plan) (r : Swept) (o : Outcome (List ℕ)) → sweep_of p ≡ o → outcome_of r.answer (taken [] o) ≡ o → r.labels ≡ padded 1186 (taken [] o) → Answers p r
-answers p r o e a l = (ap (λ (q : Outcome (List ℕ)). outcome_of r.answer (taken [] q)) e ∙ a ∙ sym e, l ∙ ap (λ (q : Outcome (List ℕ)). padded 1186 (taken [] q)) (sym e))
-
--- an answer with no labels
-bare-answers : (p : Plan) (a : SweepAnswer) (k at : ℕ) → sweep_of p ≡ refused k at → outcome_of a [] ≡ refused k at → Answers p (bare a)
-unfolding bare taken
-bare-answers p a k at e q = answers p (bare a) (refused k at) e q (sym (padded-none 1186))
-
--- The plan does not fit: 13
-pub answer_unfit : (p : Plan) {r : Swept} → fit p ≡ false → r ≡ bare Unfit → Answers p r
-unfolding sweep_of outcome_of
-answer_unfit p e q = subst (Answers p) (sym q) (bare-answers p Unfit 13 0 (ap (λ (t : Bool). cond t (sweep p) (refused 13 0)) e) refl)
-
-module _ (p : Plan) (fits : fit p ≡ true) where
+module _ (p : Plan) where
   -- labels, after the rules
   tested : List ℕ → Outcome (List ℕ)
   tested ls = label_rules p ls >> accepted ls
 
-  -- the sweep is the steps and then the rules
-  swept_then : (o : Outcome (List ℕ)) → swept p ≡ o → sweep_of p ≡ (o >>= tested)
-  unfolding sweep_of sweep swept tested
-  swept_then o e = ap (λ (t : Bool). cond t (sweep p) (refused 13 0)) fits ∙ ap (λ (q : Outcome (List ℕ)). q >>= (λ (ls : List ℕ). label_rules p ls >> accepted ls)) e
+  -- the steps and the sweep of a plan that does not fit: 13
+  unfit : fit p ≡ false → steps_of p ≡ sweep_of p
+  unfolding steps_of sweep_of
+  unfit f = ap (λ (t : Bool). cond t (swept p) (refused 13 0)) f ∙ sym (ap (λ (t : Bool). cond t (sweep p) (refused 13 0)) f)
+
+  -- the steps of such a plan give no labels
+  none : fit p ≡ false → steps_of p ≡ refused 13 0
+  unfolding steps_of
+  none f = ap (λ (t : Bool). cond t (swept p) (refused 13 0)) f
+
+  module _ (fits : fit p ≡ true) where
+    -- the steps of a plan that fits
+    stepped : steps_of p ≡ swept p
+    unfolding steps_of
+    stepped = ap (λ (t : Bool). cond t (swept p) (refused 13 0)) fits
+
+    -- the sweep is the steps and then the rules
+    swept_then : (o : Outcome (List ℕ)) → swept p ≡ o → sweep_of p ≡ (o >>= tested)
+    unfolding sweep_of sweep swept tested
+    swept_then o e = ap (λ (t : Bool). cond t (sweep p) (refused 13 0)) fits ∙ ap (λ (q : Outcome (List ℕ)). q >>= (λ (ls : List ℕ). label_rules p ls >> accepted ls)) e
 
   -- labels that break the rules
   broken : (ls : List ℕ) {place : ℕ} → place ≡ lowest (breaks p ls) (count p) → place < count p → tested ls ≡ refused 10 place
@@ -128,85 +123,57 @@ module _ (p : Plan) (fits : fit p ≡ true) where
   unfolding tested label_rules
   kept ls x most = ap (λ (t : Bool). require t 10 (lowest (breaks p ls) (count p)) >> accepted ls) (le-leb (count p) (lowest (breaks p ls) (count p)) (omega arith))
 
-  module _ {ended : Ended} (e : ended ≡ ended_as (swept p)) where
-    -- how the steps ended, where they finished
-    of_accepted : (ls : List ℕ) → swept p ≡ accepted ls → (ended.finished ≡ true) × (ended.labels ≡ padded 1186 ls)
-    unfolding ended_as
-    of_accepted ls q = (ap (λ (d : Ended). d.finished) (e ∙ ap ended_as q), ap (λ (d : Ended). d.labels) (e ∙ ap ended_as q))
+  -- The steps are refused: so is the sweep
+  pub answer_refused : {k at : ℕ} → refused k at ≡ in_array (steps_of p) → refused k at ≡ in_array (sweep_of p)
+  unfolding in_array
+  answer_refused {k} {at} e = go (fit p) refl
+    where
+      stuck : fit p ≡ true → (swept p ≡ refused 14 0) ⊎ ((ls : List ℕ) × (swept p ≡ accepted ls)) → refused k at ≡ in_array (sweep_of p)
+      stuck f (inl z) = e ∙ ap in_array (stepped f ∙ z ∙ sym (swept_then f (refused 14 0) z))
+      stuck f (inr z) = absurd (false≢true (ap accepts (e ∙ ap in_array (stepped f ∙ z.1))))
 
-    -- and where they did not
-    of_refused : swept p ≡ refused 14 0 → ended.finished ≡ false
-    unfolding ended_as
-    of_refused q = ap (λ (d : Ended). d.finished) (e ∙ ap ended_as q)
+      go : (t : Bool) → fit p ≡ t → refused k at ≡ in_array (sweep_of p)
+      go true f = stuck f (swept_14 p)
+      go false f = e ∙ ap in_array (unfit f)
 
-    -- The sweep is stuck: 14
-    pub answer_stuck : {r : Swept} → ended.finished ≡ false → r ≡ bare Stuck → Answers p r
-    unfolding outcome_of
-    answer_stuck {r} h q = go (swept_14 p)
+  module _ {l : List ℕ} (e : accepted l ≡ in_array (steps_of p)) where
+    -- the steps gave these labels
+    abbrev Labels : Type 0
+    Labels = (ls : List ℕ) × (swept p ≡ accepted ls) × (l ≡ padded 1186 ls)
+
+    -- for a plan that fits
+    pub finished : (fit p ≡ true) × Labels
+    unfolding in_array taken
+    finished = go (fit p) refl
       where
-        go : (swept p ≡ refused 14 0) ⊎ ((ls : List ℕ) × (swept p ≡ accepted ls)) → Answers p r
-        go (inl z) = subst (Answers p) (sym q) (bare-answers p Stuck 14 0 (swept_then (refused 14 0) z) refl)
-        go (inr z) = absurd (true≢false (sym (of_accepted z.0 z.1).0 ∙ h))
+        labels : fit p ≡ true → (swept p ≡ refused 14 0) ⊎ ((ls : List ℕ) × (swept p ≡ accepted ls)) → Labels
+        labels f (inl z) = absurd (true≢false (ap accepts (e ∙ ap in_array (stepped f ∙ z))))
+        labels f (inr z) = (z.0, z.1, ap (taken []) (e ∙ ap in_array (stepped f ∙ z.1)))
 
-    -- the sweep finished, with these labels
-    pub ended-labels : ended.finished ≡ true → (ls : List ℕ) × (swept p ≡ accepted ls) × (ended.labels ≡ padded 1186 ls)
-    ended-labels h = go (swept_14 p)
-      where
-        go : (swept p ≡ refused 14 0) ⊎ ((ls : List ℕ) × (swept p ≡ accepted ls)) → (ls : List ℕ) × (swept p ≡ accepted ls) × (ended.labels ≡ padded 1186 ls)
-        go (inl z) = absurd (false≢true (sym (of_refused z) ∙ h))
-        go (inr z) = (z.0, z.1, (of_accepted z.0 z.1).1)
+        go : (t : Bool) → fit p ≡ t → (fit p ≡ true) × Labels
+        go true f = (f, labels f (swept_14 p))
+        go false f = absurd (true≢false (ap accepts (e ∙ ap in_array (none f))))
 
-    module _ (h : ended.finished ≡ true) (long : (ls : List ℕ) → swept p ≡ accepted ls → length ls ≡ entry_count p) {place : ℕ} (at : place ≡ lowest (breaks p ended.labels) (count p)) where
+    module _ {place : ℕ} (at : place ≡ lowest (breaks p l) (count p)) where
       -- the place on the array is that of the labels
-      place_is : (ls : List ℕ) → swept p ≡ accepted ls → ended.labels ≡ padded 1186 ls → place ≡ lowest (breaks p ls) (count p)
-      place_is ls z y = at ∙ ap (λ (l : List ℕ). lowest (breaks p l) (count p)) y ∙ place-padded p ls (long ls z) (count p)
+      place_is : (ls : List ℕ) → swept p ≡ accepted ls → l ≡ padded 1186 ls → place ≡ lowest (breaks p ls) (count p)
+      place_is ls z y = at ∙ ap (λ (l : List ℕ). lowest (breaks p l) (count p)) y ∙ place-padded p ls (swept_long p ls z) (count p)
 
       -- The labels break the rules: 10
-      pub answer_broken : {r : Swept} → place < count p → r ≡ bare (Broken place) → Answers p r
-      unfolding outcome_of
-      answer_broken {r} less q = go (ended-labels h)
+      pub answer_broken : place < count p → refused 10 place ≡ in_array (sweep_of p)
+      unfolding in_array
+      answer_broken less = go finished
         where
-          go : (ls : List ℕ) × (swept p ≡ accepted ls) × (ended.labels ≡ padded 1186 ls) → Answers p r
-          go (ls, z, y) =
-              let x = place_is ls z y in
-              subst (Answers p) (sym q)
-              (bare-answers p (Broken place) 10 place
-              (swept_then (accepted ls) z ∙ broken ls x less)
-              refl)
+          go : (fit p ≡ true) × Labels → refused 10 place ≡ in_array (sweep_of p)
+          go (f, (ls, z, y)) = sym (ap in_array (swept_then f (accepted ls) z ∙ broken ls (place_is ls z y) less))
 
       -- The labels keep the rules
-      pub answer_labelled : {r : Swept} → count p ≤ place → r.answer ≡ Labelled → r.labels ≡ ended.labels → Answers p r
-      unfolding outcome_of taken
-      answer_labelled {r} most a l = go (ended-labels h)
+      pub answer_labelled : count p ≤ place → accepted l ≡ in_array (sweep_of p)
+      unfolding in_array
+      answer_labelled most = go finished
         where
-          go : (ls : List ℕ) × (swept p ≡ accepted ls) × (ended.labels ≡ padded 1186 ls) → Answers p r
-          go (ls, z, y) =
-              answers p r (accepted ls) (swept_then (accepted ls) z ∙ kept ls (place_is ls z y) most) (ap (λ (w : SweepAnswer). outcome_of w ls) a) (l ∙ y)
-
--- ---- the plan fits, or not
-module _ (p : Plan) {ended : Ended} (e : ended ≡ ended_as (steps_of p)) where
-  -- how the steps of a plan that fits ended
-  pub ended-fit : fit p ≡ true → ended ≡ ended_as (swept p)
-  unfolding steps_of
-  ended-fit fits = e ∙ ap (λ (t : Bool). ended_as (cond t (swept p) (refused 13 0))) fits
-
-  -- steps that finished are those of a plan that fits
-  pub finished-fit : ended.finished ≡ true → fit p ≡ true
-  unfolding steps_of ended_as
-  finished-fit h = go (fit p) refl
-    where
-      go : (t : Bool) → fit p ≡ t → fit p ≡ true
-      go true q = q
-      go false q = absurd (false≢true (sym (ap (λ (d : Ended). d.finished) (e ∙ ap (λ (t : Bool). ended_as (cond t (swept p) (refused 13 0))) q)) ∙ h))
-
-  -- The steps did not finish: 13 or 14
-  pub answer_unswept : {r : Swept} → ended.finished ≡ false → r ≡ unswept (fit p) → Answers p r
-  unfolding unswept
-  answer_unswept {r} h q = go (fit p) refl
-    where
-      go : (t : Bool) → fit p ≡ t → Answers p r
-      go true f = answer_stuck p f (ended-fit f) h (q ∙ ap unswept f)
-      go false f = answer_unfit p f (q ∙ ap unswept f)
+          go : (fit p ≡ true) × Labels → accepted l ≡ in_array (sweep_of p)
+          go (f, (ls, z, y)) = ap {B = Outcome (List ℕ)} (λ (a : List ℕ). accepted a) y ∙ sym (ap in_array (swept_then f (accepted ls) z ∙ kept ls (place_is ls z y) most))
 
 -- ---- the same of a plan in flat arrays
 module _ (sizes es : List ℕ) (n : ℕ) where

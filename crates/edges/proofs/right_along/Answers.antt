@@ -3,7 +3,6 @@ use mathlib.Core.Path.{◌∙◌}
 use Prim.Native.Nat.{◌+◌}
 use native.Mathlib.Omega.{arith}
 use lib.ListN.{get_or}
-use borrow.Author.Rules.{rules}
 use Rattle.edges.specs.Edges.{edge_by}
 use Rattle.edges.proofs.Draws.{draws-on, draws_end, steps-more, steps_end}
 use Rattle.edges.proofs.right_along.Goals as goal
@@ -13,8 +12,8 @@ loop-k-preserved c =
     let a = c.args in
     let f = a.f.now in
     let k = c.loop-k.k in
-    let l = c.minus-last.ensures in
-    (search rules, draws-on c.loop-k.invariant.1 (get_or f k 0) (get_or f (k + 1) 0) (steps-more f k a.e (omega arith)) (c.edge.ensures ∙ (λ d. edge_by a.places.now a.starts.now 1 (c.num.ensures.value d) (c.num-in-loop-k.ensures.value d) c.loop-k.labels)))
+    let l = c.saturating_sub-last.ensures in
+    draws-on c.loop-k.invariant (get_or f k 0) (get_or f (k + 1) 0) (steps-more f k a.e (omega arith)) (c.edge.ensures ∙ (λ d. edge_by a.located.now.places.now a.located.now.rings.starts.now 1 (c.num.ensures.value d) (c.num-in-loop-k.ensures.value d) c.loop-k.labels))
 
 pub returns : goal.returns
-returns c = let a = c.args in let l = c.minus-last.ensures in draws_end c.loop-k.invariant.1 (steps_end a.f.now c.loop-k.k a.e (omega arith))
+returns c = let a = c.args in let l = c.saturating_sub-last.ensures in draws_end c.loop-k.invariant (steps_end a.f.now c.loop-k.k a.e (omega arith))

@@ -3,7 +3,6 @@ use mathlib.Core.Path.{ap, ◌∙◌}
 use Prim.Native.Nat.{ℕ}
 use native.Mathlib.Omega.{arith}
 use lib.ListN.{get_or}
-use borrow.Author.Rules.{rules}
 use Rattle.lists.specs.Spans.{span}
 use Rattle.edges.specs.Edges.{edges_by, fan}
 use Rattle.edges.proofs.Draws.{draws_part, draws_end, product-more, product_end}
@@ -14,7 +13,7 @@ loop-k-preserved c =
     let a = c.args in
     let vs = span a.f.now a.a a.e in
     let k = c.loop-k.k in
-    (search rules, draws_part c.loop-k.invariant.1 (fan (get_or a.g.now k 0) vs) (product-more a.g.now k a.m vs (omega arith)) (c.up_from.ensures ∙ ap (λ (u : ℕ). edges_by a.places.now a.starts.now 0 (fan u vs) c.loop-k.labels) c.num.ensures.value))
+    draws_part c.loop-k.invariant (fan (get_or a.g.now k 0) vs) (product-more a.g.now k a.m vs (omega arith)) (c.up_from.ensures ∙ ap (λ (u : ℕ). edges_by a.located.now.places.now a.located.now.rings.starts.now 0 (fan u vs) c.loop-k.labels) c.num.ensures.value)
 
 pub returns : goal.returns
-returns c = let a = c.args in draws_end c.loop-k.invariant.1 (product_end a.g.now c.loop-k.k a.m (span a.f.now a.a a.e) (omega arith))
+returns c = let a = c.args in draws_end c.loop-k.invariant (product_end a.g.now c.loop-k.k a.m (span a.f.now a.a a.e) (omega arith))

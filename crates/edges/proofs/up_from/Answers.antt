@@ -3,7 +3,6 @@ use mathlib.Core.Path.{ap, ◌∙◌}
 use Prim.Native.Nat.{ℕ}
 use native.Mathlib.Omega.{arith}
 use lib.ListN.{get_or}
-use borrow.Author.Rules.{rules}
 use Rattle.edges.specs.Edges.{edge_by}
 use Rattle.edges.proofs.Draws.{draws-on, draws_end, fan-more, fan_end}
 use Rattle.edges.proofs.up_from.Goals as goal
@@ -12,7 +11,7 @@ pub loop-k-preserved : goal.loop-k-preserved
 loop-k-preserved c =
     let a = c.args in
     let i = c.loop-k.k in
-    (search rules, draws-on c.loop-k.invariant.1 a.u (get_or a.f.now i 0) (fan-more a.f.now i a.e a.u (omega arith)) (c.edge.ensures ∙ ap (λ (v : ℕ). edge_by a.places.now a.starts.now 0 a.u v c.loop-k.labels) c.num.ensures.value))
+    draws-on c.loop-k.invariant a.u (get_or a.f.now i 0) (fan-more a.f.now i a.e a.u (omega arith)) (c.edge.ensures ∙ ap (λ (v : ℕ). edge_by a.located.now.places.now a.located.now.rings.starts.now 0 a.u v c.loop-k.labels) c.num.ensures.value)
 
 pub returns : goal.returns
-returns c = let a = c.args in draws_end c.loop-k.invariant.1 (fan_end a.f.now c.loop-k.k a.e a.u (omega arith))
+returns c = let a = c.args in draws_end c.loop-k.invariant (fan_end a.f.now c.loop-k.k a.e a.u (omega arith))

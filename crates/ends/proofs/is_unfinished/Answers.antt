@@ -8,11 +8,11 @@ use Rattle.ends.proofs.is_unfinished.Goals as goal
 
 pub returns-then-not-done_at : goal.returns-then-not-done_at
 unfolding unfinished_by
-returns-then-not-done_at c = let e = c.loop-k.invariant.0 in seeks_hit c.loop-k.invariant.1 (omega arith) (ap not (sym c.done_at.ensures) ∙ (ap not c.if-not-done_at.true))
+returns-then-not-done_at c = let e = c.saturating_sub-e.ensures in seeks_hit c.loop-k.invariant (omega arith) (ap not (sym c.done_at.ensures) ∙ (ap not c.if-not-done_at.true))
 
 pub loop-k-preserved : goal.loop-k-preserved
-loop-k-preserved c = let e = c.loop-k.invariant.0 in (e, seeks_on c.loop-k.invariant.1 (omega arith) (ap not (sym c.done_at.ensures) ∙ (ap not c.if-not-done_at.false)))
+loop-k-preserved c = let e = c.saturating_sub-e.ensures in seeks_on c.loop-k.invariant (omega arith) (ap not (sym c.done_at.ensures) ∙ (ap not c.if-not-done_at.false))
 
 pub returns : goal.returns
 unfolding unfinished_by
-returns c = let e = c.loop-k.invariant.0 in seeks_end c.loop-k.invariant.1 (omega arith)
+returns c = let e = c.saturating_sub-e.ensures in seeks_end c.loop-k.invariant (omega arith)

@@ -15,10 +15,10 @@ pub returns-then-i-size_of : goal.returns-then-i-size_of
 returns-then-i-size_of c =
     let a = c.args in
     let s = c.size_of.ensures.value in
-    c.neighbour_of.ensures ∙ ap neighbour (c.num-then-i-size_of.ensures.value ∙ ap (λ (k : ℕ). get_or a.entries.now (k + a.i) 0) c.num.ensures.value) ∙ sym (ring-at a.starts.now a.sizes.now a.entries.now a.n a.u a.i (omega arith))
+    c.neighbour_of.ensures ∙ ap neighbour (c.num-then-i-size_of.ensures.value ∙ ap (λ (k : ℕ). get_or a.rings.now.entries.now (k + a.i) 0) c.num.ensures.value) ∙ sym (ring-at a.rings.now.starts.now a.rings.now.sizes.now a.rings.now.entries.now a.rings.now.n a.u a.i (omega arith))
 
 pub returns-else-i-size_of : goal.returns-else-i-size_of
 returns-else-i-size_of c =
     let a = c.args in
     let s = c.size_of.ensures.value in
-    sym (ring-past a.starts.now a.sizes.now a.entries.now a.n a.u a.i (omega arith))
+    sym (ring-past a.rings.now.starts.now a.rings.now.sizes.now a.rings.now.entries.now a.rings.now.n a.u a.i (omega arith))

@@ -6,7 +6,7 @@ use Rattle.frontier.proofs.push.Goals as goal
 
 pub returns-then-line-lt512 : goal.returns-then-line-lt512
 unfolding run.pushed
-returns-then-line-lt512 c = λ marks. rw (lt-ltb c.args.line.len 512 (omega arith), c.set_word.ensures)
+returns-then-line-lt512 c = λ marks. rw (lt-ltb c.args.line.len 512 (omega arith), c.put.ensures)
 
 pub returns : goal.returns
 unfolding run.pushed

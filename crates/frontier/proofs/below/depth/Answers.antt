@@ -2,7 +2,7 @@
 use mathlib.Core.Path.{◌∙◌}
 use Rattle.lists.specs.Parts.{index_of}
 use Rattle.model.specs.Plan.{ring}
-use Rattle.rings.specs.Tables.{rows}
+use Rattle.rings.specs.Tables.{plan_of}
 use Rattle.frontier.specs.Run as run
 use Rattle.frontier.proofs.below.depth.Goals as goal
 
@@ -10,4 +10,4 @@ pub returns-clause-value : goal.returns-clause-value
 unfolding run.depth_from
 returns-clause-value c =
     let a = c.args in
-    c.gap.ensures.value ∙ (λ i. index_of (c.prior.ensures i) (run.turned_at a.x (ring (rows a.starts.now a.sizes.now a.entries.now a.n) (c.num.ensures.value i))))
+    c.gap.ensures.value ∙ (λ i. index_of (c.prior.ensures i) (run.turned_at a.x (ring (plan_of a.rings.now) (c.num.ensures.value i))))

@@ -17,4 +17,4 @@ returns-then-barred c = rw (sym c.last_is.ensures ∙ c.if-last_is.false, sym c.
 
 pub returns : goal.returns
 unfolding run.added
-returns c = rw (sym c.last_is.ensures ∙ c.if-last_is.false, sym c.barred.ensures ∙ c.if-barred.false) (c.push.ensures _ ∙ ap (λ m. lines.pushed (lines.line_of c.args.list c.args.at.now m) c.args.c) (c.set_byte.ensures ∙ ap (λ (i : ℕ). set c.args.marks.now i 1) c.wide_word.ensures.value) ∙ sym (push_noted (lines.line_of c.args.list c.args.at.now c.args.marks.now) c.args.c))
+returns c = rw (sym c.last_is.ensures ∙ c.if-last_is.false, sym c.barred.ensures ∙ c.if-barred.false) (c.push.ensures _ ∙ ap (λ m. lines.pushed (lines.line_of c.args.list c.args.at.now m) c.args.c) (c.put.ensures ∙ ap (λ (i : ℕ). set c.args.marks.now i 1) c.from.ensures) ∙ sym (push_noted (lines.line_of c.args.list c.args.at.now c.args.marks.now) c.args.c))

@@ -10,4 +10,4 @@ returns-then-c-lt4 c = rw (lt-ltb c.args.c 4 (omega arith))
 
 pub returns-else-c-lt4 : goal.returns-else-c-lt4
 unfolding run.barred
-returns-else-c-lt4 c = rw (le-ltb c.args.c 4 (omega arith), c.byte.ensures.value, c.wide_word.ensures.value)
+returns-else-c-lt4 c = rw (le-ltb c.args.c 4 (omega arith), c.num.ensures.value, c.from.ensures)

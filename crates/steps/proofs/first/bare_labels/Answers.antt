@@ -1,7 +1,6 @@
 -- bare_labels meets its contract.
 use mathlib.Core.Path.{refl, sym, ◌∙◌}
 use native.Mathlib.Omega.{arith}
-use borrow.Author.Rules.{rules}
 use Rattle.lists.specs.Spans.{zeros}
 use Rattle.rings.proofs.Rows.{ring-size, count-rows}
 use Rattle.steps.proofs.Unlabelled.{filled-start, filled_on, filled_end, filled-room}
@@ -9,24 +8,23 @@ use Rattle.steps.proofs.first.bare_labels.Goals as goal
 
 pub loop-u-init : goal.loop-u-init
 unfolding zeros
-loop-u-init c = ((omega arith, search rules), filled-start refl)
+loop-u-init c = filled-start refl
 
 pub bare_ring-requires : goal.bare_ring-requires
-bare_ring-requires c = filled-room c.loop-u.invariant.1 c.requires
+bare_ring-requires c = filled-room c.loop-u.invariant c.requires
 
 pub overflow_add-k : goal.overflow_add-k
-overflow_add-k c = let r = filled-room c.loop-u.invariant.1 c.requires in let s = c.size_of-k.ensures.upper_bound in omega arith
+overflow_add-k c = let r = filled-room c.loop-u.invariant c.requires in let s = c.size_of-k.ensures.upper_bound in omega arith
 
 pub loop-u-preserved : goal.loop-u-preserved
 loop-u-preserved c =
     let a = c.args in
-    let n = count-rows a.starts.now a.sizes.now a.entries.now a.n in
-    let size = c.size_of-k.ensures.value ∙ sym (ring-size a.starts.now a.sizes.now a.entries.now a.n c.loop-u.u) in
-    ((omega arith, search rules), filled_on c.loop-u.invariant.1 (omega arith) c.requires refl size refl c.bare_ring.ensures)
+    let n = count-rows a.rings.now.starts.now a.rings.now.sizes.now a.rings.now.entries.now a.rings.now.n in
+    let size = c.size_of-k.ensures.value ∙ sym (ring-size a.rings.now.starts.now a.rings.now.sizes.now a.rings.now.entries.now a.rings.now.n c.loop-u.u) in
+    filled_on c.loop-u.invariant (omega arith) c.requires refl size refl c.bare_ring.ensures
 
 pub returns : goal.returns
 returns c =
     let a = c.args in
-    let n = count-rows a.starts.now a.sizes.now a.entries.now a.n in
-    let h = c.loop-u.invariant.0.0 in
-    filled_end c.loop-u.invariant.1 (omega arith)
+    let n = count-rows a.rings.now.starts.now a.rings.now.sizes.now a.rings.now.entries.now a.rings.now.n in
+    filled_end c.loop-u.invariant (omega arith)
