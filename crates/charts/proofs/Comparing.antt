@@ -1,6 +1,6 @@
 -- The comparison of two charts in flat arrays.
 use Prim.Native.Nat.{ℕ, suc, ◌-◌, ◌≤◌, ◌<◌}
-use mathlib.Core.Path.{◌≡◌, sym, ◌∙◌}
+use mathlib.Core.Path.{◌≡◌, refl, sym, ◌∙◌}
 use mathlib.Core.List.{List}
 use mathlib.Core.Bool.{Bool, true, false, ◌&&◌}
 use native.Mathlib.Omega.{arith}
@@ -10,9 +10,10 @@ use borrow.Author.Tests.{eq-eqb, ne_eqb}
 use Rattle.lists.specs.Tests.{same_list}
 use Rattle.lists.specs.Spans.{stretch}
 use Rattle.model.specs.Chart.{same_chart}
-use Rattle.charts.specs.Charts.{chart_on}
+use Rattle.charts.specs.declared.Points.{Points}
+use Rattle.charts.specs.Charts.{chart_on, chart_in}
 
--- ---- while i < n { if a[i] != b[i] { return false; } i += 1; } true
+-- ---- for i in 0..n { if a[i] != b[i] { return false; } } true
 pub record Matches (a b : List ℕ) (n i : ℕ) : Type 0 where
   pub same : same_list (stretch a 0 n) (stretch b 0 n) ≡ same_list (stretch a i (n - i)) (stretch b i (n - i))
 
@@ -36,19 +37,13 @@ module _ {a b : List ℕ} {n i : ℕ} (inv : Matches a b n i) where
   matches_end h = let z : n - i ≡ 0 = omega arith in sym (inv.same ∙ rw z)
 
 -- ---- width, height, then the points
-module _ (n aw ah : ℕ) (ax ay : List ℕ) (bw bh : ℕ) (bx by : List ℕ) where
-  pub charts-w : (aw ≡ bw → ⊥) → false ≡ same_chart (chart_on n aw ah ax ay) (chart_on n bw bh bx by)
-  unfolding same_chart chart_on
-  charts-w d = sym (rw (ne_eqb aw bw d))
+-- a test after one that passes, and one that fails
+pub after-yes : {v x y : Bool} → x ≡ true → v ≡ y → v ≡ (x && y)
+after-yes a e = e ∙ sym (rw a)
 
-  pub charts-h : aw ≡ bw → (ah ≡ bh → ⊥) → false ≡ same_chart (chart_on n aw ah ax ay) (chart_on n bw bh bx by)
-  unfolding same_chart chart_on
-  charts-h e d = sym (rw (eq-eqb aw bw e, ne_eqb ah bh d))
+pub after-no : {v x : Bool} (y : Bool) → x ≡ false → v ≡ x → v ≡ (x && y)
+after-no y a e = e ∙ a ∙ sym (rw a)
 
-  pub charts-x : aw ≡ bw → ah ≡ bh → (t : Bool) → t ≡ same_list (stretch ax 0 n) (stretch bx 0 n) → t ≡ false → false ≡ same_chart (chart_on n aw ah ax ay) (chart_on n bw bh bx by)
-  unfolding same_chart chart_on
-  charts-x e f t q d = sym (rw (eq-eqb aw bw e, eq-eqb ah bh f, sym q ∙ d))
-
-  pub charts-y : aw ≡ bw → ah ≡ bh → (t r : Bool) → t ≡ same_list (stretch ax 0 n) (stretch bx 0 n) → t ≡ true → r ≡ same_list (stretch ay 0 n) (stretch by 0 n) → r ≡ same_chart (chart_on n aw ah ax ay) (chart_on n bw bh bx by)
-  unfolding same_chart chart_on
-  charts-y e f t r q d s = s ∙ sym (rw (eq-eqb aw bw e, eq-eqb ah bh f, sym q ∙ d))
+pub charts_same : (n : ℕ) (a b : Points) → (eqb a.w b.w && eqb a.h b.h && same_list (stretch a.xs.now 0 n) (stretch b.xs.now 0 n) && same_list (stretch a.ys.now 0 n) (stretch b.ys.now 0 n)) ≡ same_chart (chart_in n a) (chart_in n b)
+unfolding same_chart chart_on
+charts_same n a b = refl

@@ -5,44 +5,32 @@ ghost use Rattle.std.specs.Prelude.{◌≡◌};
 ghost use Rattle.lists.specs.Tests.{same_list};
 ghost use Rattle.lists.specs.Spans.{stretch};
 ghost use Rattle.model.specs.Chart.{same_chart};
-ghost use Rattle.charts.specs.Charts.{chart_on};
+ghost use Rattle.charts.specs.Charts.{chart_in};
 
-// Are the first n numbers of two arrays equal?
-fn same_numbers<'a>(n: usize, a: &'a [u16], b: &'a [u16]) -> bool
+// A chart in flat arrays: its width and height, and where each context stands.
+#[derive(Clone, Copy)]
+pub struct Points<'a> {
+    pub w: u16,
+    pub h: u16,
+    pub xs: &'a [u16],
+    pub ys: &'a [u16],
+}
+
+// Are the first n numbers of two arrays equal? What lies outside an array reads as 0.
+fn same_numbers(n: usize, a: &[u16], b: &[u16]) -> bool
     ensures { result ≡ same_list (stretch a.now 0 n) (stretch b.now 0 n) }
 {
-    let mut i = 0;
-    while i < n {
+    for i in 0..n {
         if arrays::num(a, i) != arrays::num(b, i) {
             return false;
         }
-        i += 1;
     }
     true
 }
 
 // Are two charts of n contexts equal: width, height and all points?
-pub fn same_chart<'a>(
-    n: usize,
-    aw: u16,
-    ah: u16,
-    ax: &'a [u16],
-    ay: &'a [u16],
-    bw: u16,
-    bh: u16,
-    bx: &'a [u16],
-    by: &'a [u16],
-) -> bool
-    ensures { result ≡ same_chart (chart_on n aw ah ax.now ay.now) (chart_on n bw bh bx.now by.now) }
+pub fn same_chart(n: usize, a: &Points, b: &Points) -> bool
+    ensures { result ≡ same_chart (chart_in n a.now) (chart_in n b.now) }
 {
-    if aw != bw {
-        return false;
-    }
-    if ah != bh {
-        return false;
-    }
-    if !same_numbers(n, ax, bx) {
-        return false;
-    }
-    same_numbers(n, ay, by)
+    a.w == b.w && a.h == b.h && same_numbers(n, a.xs, b.xs) && same_numbers(n, a.ys, b.ys)
 }

@@ -1,21 +1,21 @@
--- The constraints of a labelled plan in flat arrays: what the loop over the darts keeps.
+-- The constraints of a labelled plan in an array: what the loop over the darts keeps.
 use Prim.Native.Nat.{ℕ, zero, suc, ◌+◌, ◌-◌, ◌≤◌, ◌<◌}
 use mathlib.Core.Path.{◌≡◌, refl, sym, ap, ◌∙◌}
 use mathlib.Core.List.{List, [], ◌∷◌, ◌++◌, map, append_assoc, append-nil}
 use mathlib.Core.Bool.{Bool, true, false, cond}
 use native.Mathlib.Omega.{arith}
-use lib.ListN.{length, get_or, set, drop, length-set, drop_of_length-le}
-use lib.Seq.{drop-cons}
+use lib.ListN.{length, get_or, set, take, drop, length-set, drop_of_length-le}
+use lib.Seq.{drop-cons, take-suc-set}
+use Rattle.std.proofs.lemmas.List.{take-set-le}
 use lib.Dec.{eqb, ltb}
 use borrow.Author.Tests.{ltb-true, ltb-false, lt-ltb, le-ltb, ne_eqb}
-use Rattle.constraints.proofs.Listed.{two_first, listed-none, listed_more}
-use Rattle.placement.specs.Asking.{ties, compass, asked, tied_to, end_of, gap_of, kept_of}
-use Rattle.constraints.specs.Constraints.{rise, listed}
+use Rattle.placement.specs.Asking.{ties, compass, asked, tied_to, end_of, gap_of, kept_of, ask_of}
+use Rattle.constraints.specs.declared.Constraint.{Constraint as Stored}
+use Rattle.constraints.specs.Constraints.{rise, constraint_of, listed}
 use Rattle.lists.specs.Ranges.{from}
 use Rattle.lists.specs.Parts.{concat}
-use Rattle.lists.specs.Spans.{zeros}
-use Rattle.lists.proofs.Spans.{length-zeros}
 use Rattle.lists.proofs.Counts.{cond-le}
+use Rattle.lists.proofs.Concats.{map-append}
 use Rattle.model.specs.Plan.{Plan, Dart, count, neighbour, ring, darts_from, darts}
 use Rattle.model.specs.Labels.{label_of}
 use Rattle.model.specs.Chart.{Constraint, constraint, x_constraint, y_constraint, x_constraints, y_constraints, tie, slope}
@@ -60,6 +60,19 @@ rise-gap upright l = go upright (eqb l 0)
     go true false = refl
     go false true = refl
     go false false = refl
+
+-- the constraint that is put for a dart is the one of its ends
+asked_is : (upright : Bool) (l u v : ℕ) → constraint_of (ask_of upright l u v) ≡ constraint (end_of upright l u v) (end_of upright l v u) (gap_of upright l)
+unfolding constraint_of
+asked_is upright l u v = ap (constraint (end_of upright l u v) (end_of upright l v u)) (rise-gap upright l)
+
+-- one more constraint behind the first k
+more : (cs : List Stored) (k : ℕ) (c : Stored) {k' : ℕ} → k' ≡ suc k → k < length cs → listed (take k' (set cs k c)) ≡ listed (take k cs) ++ (constraint_of c ∷ [])
+more cs k c q h = ap (λ (j : ℕ). listed (take j (set cs k c))) q ∙ ap listed (take-suc-set cs k c h) ∙ map-append constraint_of (take k cs) (c ∷ [])
+
+-- the constraint that a number is at most another
+abbrev pub level : ℕ → ℕ → Stored
+level u v = record { low = u; high = v; gap = 0 }
 
 abbrev dart_asks : Bool → ℕ → Dart → List Constraint
 dart_asks upright l d = cond upright (y_constraint slope l d) (x_constraint slope l d)
@@ -148,27 +161,23 @@ module _ (sizes es : List ℕ) (n : ℕ) (ls : List ℕ) (upright : Bool) where
       same true = refl
       same false = refl
 
-  pub record Asking (lows highs gaps : List ℕ) (k u i : ℕ) : Type 0 where
+  pub record Asking (cs : List Stored) (k u i : ℕ) : Type 0 where
     pub reached : u ≤ n
     pub within : i ≤ size_of sizes n u
     pub few : k ≤ 2 + start_of sizes u + i
     pub least : 2 ≤ k
-    pub long_lows : length lows ≡ 1188
-    pub long_highs : length highs ≡ 1188
-    pub long_gaps : length gaps ≡ 1188
-    pub same : listed lows highs gaps k ++ rest u i ≡ asked upright P ls
+    pub long : length cs ≡ 1188
+    pub same : listed (take k cs) ++ rest u i ≡ asked upright P ls
 
   -- North's tie, at first
-  pub asking_start : (end : ℕ) → end ≡ tied_to upright → (zl zh zg : List ℕ) → zl ≡ zeros 1188 → zh ≡ zeros 1188 → zg ≡ zeros 1188 → Asking (set zl 1 end) (set zh 0 end) zg 2 0 0
-  unfolding ties tie tied_to
-  asking_start end e zl zh zg a b g = record {
+  pub asking_start : (end : ℕ) → end ≡ tied_to upright → (cs : List Stored) → length cs ≡ 1188 → Asking (set (set cs 0 (level 0 end)) 1 (level end 0)) 2 0 0
+  unfolding ties tie tied_to constraint_of rise
+  asking_start end e cs h = record {
     reached = omega arith;
     within = omega arith;
     few = omega arith;
     least = omega arith;
-    long_lows = length-set zl 1 end ∙ ap length a ∙ length-zeros 1188;
-    long_highs = length-set zh 0 end ∙ ap length b ∙ length-zeros 1188;
-    long_gaps = ap length g ∙ length-zeros 1188;
+    long = long;
     same = (λ i. tied i ++ (rest-first 0 ∙ all-later) i);
   }
     where
@@ -176,19 +185,28 @@ module _ (sizes es : List ℕ) (n : ℕ) (ls : List ℕ) (upright : Bool) where
       pair true = refl
       pair false = refl
 
-      tied : listed (set zl 1 end) (set zh 0 end) zg 2 ≡ ties upright
-      tied = two_first zl zh zg end a b g ∙ ap (λ (k : ℕ). constraint 0 k 0 ∷ constraint k 0 0 ∷ []) e ∙ sym (pair upright)
+      first : length (set cs 0 (level 0 end)) ≡ 1188
+      first = length-set cs 0 (level 0 end) ∙ h
 
-  module _ {lows highs gaps : List ℕ} {k u i : ℕ} (inv : Asking lows highs gaps k u i) where
+      long : length (set (set cs 0 (level 0 end)) 1 (level end 0)) ≡ 1188
+      long = length-set (set cs 0 (level 0 end)) 1 (level end 0) ∙ first
+
+      tied : listed (take 2 (set (set cs 0 (level 0 end)) 1 (level end 0))) ≡ ties upright
+      tied =
+          more (set cs 0 (level 0 end)) 1 (level end 0) refl (let z = first in omega arith)
+          ∙ ap (λ (l : List Constraint). l ++ (constraint end 0 0 ∷ [])) (more cs 0 (level 0 end) refl (omega arith))
+          ∙ ap (λ (k : ℕ). constraint 0 k 0 ∷ constraint k 0 0 ∷ []) e ∙ sym (pair upright)
+
+  module _ {cs : List Stored} {k u i : ℕ} (inv : Asking cs k u i) where
     -- there is room for one more
     pub asking_room : start_of sizes n ≤ 1186 → u < n → i < size_of sizes n u → k < 1188
     asking_room t h b = let f = inv.few in let r = ring_ends sizes u n h in let s = size-inside sizes n u h in omega arith
 
     -- a dart more
-    pub asking_dart : {i' k' : ℕ} (v l a b g : ℕ) → i' ≡ suc i → k < 1188 → i < size_of sizes n u → v ≡ get_or (ring P u) i 0 → l ≡ label_of P ls u v
-        → a ≡ end_of upright l u v → b ≡ end_of upright l v u → g ≡ gap_of upright l → k' ≡ k + kept_of l → Asking (set lows k a) (set highs k b) (set gaps k g) k' u i'
+    pub asking_dart : {i' k' : ℕ} (v l : ℕ) → i' ≡ suc i → k < 1188 → i < size_of sizes n u → v ≡ get_or (ring P u) i 0 → l ≡ label_of P ls u v
+        → (c : Stored) → c ≡ ask_of upright l u v → k' ≡ k + kept_of l → Asking (set cs k c) k' u i'
     unfolding asks_of
-    asking_dart {i'} {k'} v l a b g q room h ev el ea eb eg ek =
+    asking_dart {i'} {k'} v l q room h ev el c ec ek =
         let one = kept-le l in
         let f = inv.few in
         let m = inv.least in
@@ -197,36 +215,41 @@ module _ (sizes es : List ℕ) (n : ℕ) (ls : List ℕ) (upright : Bool) where
           within = omega arith;
           few = omega arith;
           least = omega arith;
-          long_lows = length-set lows k a ∙ inv.long_lows;
-          long_highs = length-set highs k b ∙ inv.long_highs;
-          long_gaps = length-set gaps k g ∙ inv.long_gaps;
-          same = (λ t. put (ltb l 2) refl t ++ rest u (q t)) ∙ append_assoc (listed lows highs gaps k) (dart_asks upright l (u, v)) (rest u (suc i)) ∙ ap (λ (r : List Constraint). listed lows highs gaps k ++ r) (sym step) ∙ inv.same;
+          long = length-set cs k c ∙ inv.long;
+          same = (λ t. put (ltb l 2) refl t ++ rest u (q t)) ∙ append_assoc (listed (take k cs)) (dart_asks upright l (u, v)) (rest u (suc i)) ∙ ap (λ (r : List Constraint). listed (take k cs) ++ r) (sym step) ∙ inv.same;
         }
       where
         step : rest u i ≡ dart_asks upright l (u, v) ++ rest u (suc i)
         step = rest-dart u i h ∙ ap (λ (w : ℕ). dart_asks upright (label_of P ls u w) (u, w) ++ rest u (suc i)) (sym ev) ∙ ap (λ (j : ℕ). dart_asks upright j (u, v) ++ rest u (suc i)) (sym el)
 
-        put : (t : Bool) → ltb l 2 ≡ t → listed (set lows k a) (set highs k b) (set gaps k g) k' ≡ listed lows highs gaps k ++ dart_asks upright l (u, v)
+        put : (t : Bool) → ltb l 2 ≡ t → listed (take k' (set cs k c)) ≡ listed (take k cs) ++ dart_asks upright l (u, v)
         put true s =
             let kept : kept_of l ≡ 1 = kept-yes l (ltb-true l 2 s) in
-            listed_more lows highs gaps k a b g (omega arith) (let z = inv.long_lows in omega arith) (let z = inv.long_highs in omega arith) (let z = inv.long_gaps in omega arith)
-            ∙ ap (λ (r : List Constraint). listed lows highs gaps k ++ r) ((λ t. constraint (ea t) (eb t) ((ap rise eg ∙ rise-gap upright l) t) ∷ []) ∙ sym (asks_one upright l u v (ltb-true l 2 s)))
+            more cs k c (omega arith) (let z = inv.long in omega arith)
+            ∙ ap (λ (r : List Constraint). listed (take k cs) ++ r) (ap (λ (d : Constraint). d ∷ []) (ap constraint_of ec ∙ asked_is upright l u v) ∙ sym (asks_one upright l u v (ltb-true l 2 s)))
         put false s =
             let kept : kept_of l ≡ 0 = kept-no l (ltb-false l 2 s) in
-            listed-none lows highs gaps k a b g (omega arith) ∙ sym (append-nil (listed lows highs gaps k)) ∙ ap (λ (r : List Constraint). listed lows highs gaps k ++ r) (sym (asks_none upright l u v (ltb-false l 2 s)))
+            let stay : k' ≡ k = omega arith in
+            ap (λ (j : ℕ). listed (take j (set cs k c))) stay ∙ ap listed (take-set-le k cs k c (omega arith)) ∙ sym (append-nil (listed (take k cs))) ∙ ap (λ (r : List Constraint). listed (take k cs) ++ r) (sym (asks_none upright l u v (ltb-false l 2 s)))
 
     -- the next ring
-    pub asking_next : {u' : ℕ} → u' ≡ suc u → u < n → size_of sizes n u ≤ i → Asking lows highs gaps k u' 0
+    pub asking_next : {u' : ℕ} → u' ≡ suc u → u < n → size_of sizes n u ≤ i → Asking cs k u' 0
     asking_next {u'} q h b = record {
       reached = omega arith;
       within = omega arith;
       few = let f = inv.few in let w = inv.within in let m = start-more sizes u in let s = size-inside sizes n u h in let z : start_of sizes u' ≡ start_of sizes (suc u) = ap (start_of sizes) q in omega arith;
       least = inv.least;
-      long_lows = inv.long_lows;
-      long_highs = inv.long_highs;
-      long_gaps = inv.long_gaps;
-      same = ap (λ (r : List Constraint). listed lows highs gaps k ++ r) (ap (λ (w : ℕ). rest w 0) q ∙ sym (rest-next u i b)) ∙ inv.same;
+      long = inv.long;
+      same = ap (λ (r : List Constraint). listed (take k cs) ++ r) (ap (λ (w : ℕ). rest w 0) q ∙ sym (rest-next u i b)) ∙ inv.same;
     }
 
-    pub asking_end : n ≤ u → listed lows highs gaps k ≡ asked upright P ls
-    asking_end h = sym (append-nil (listed lows highs gaps k)) ∙ ap (λ (r : List Constraint). listed lows highs gaps k ++ r) (sym (rest_end u i h)) ∙ inv.same
+    pub asking_end : n ≤ u → listed (take k cs) ≡ asked upright P ls
+    asking_end h = sym (append-nil (listed (take k cs))) ∙ ap (λ (r : List Constraint). listed (take k cs) ++ r) (sym (rest_end u i h)) ∙ inv.same
+
+    -- all of them fit the array
+    pub asking_fits : start_of sizes n ≤ 1186 → k ≤ 1188
+    asking_fits t = let f = inv.few in let w = inv.within in go (ltb u n) refl
+      where
+        go : (b : Bool) → ltb u n ≡ b → k ≤ 1188
+        go true e = let h = ltb-true u n e in let f = inv.few in let w = inv.within in let r = ring_ends sizes u n h in let s = size-inside sizes n u h in omega arith
+        go false e = let h = ltb-false u n e in let z = out u h in let f = inv.few in let w = inv.within in let r = inv.reached in let q : start_of sizes u ≡ start_of sizes n = ap (start_of sizes) (omega arith) in omega arith

@@ -1,5 +1,6 @@
 -- What a labelled plan asks of the numbers of one coordinate.
 use Rattle.std.specs.Prelude.{ℕ, List, ◌++◌, Bool, cond, ◌&&◌, eqb, ltb}
+use Rattle.constraints.specs.declared.Constraint.{Constraint as Stored}
 use Rattle.model.specs.Plan.{Plan, north, east, west}
 use Rattle.model.specs.Labels.{up, right}
 use Rattle.model.specs.Chart.{Constraint, x_constraints, y_constraints, tie, slope}
@@ -29,3 +30,7 @@ gap_of upright l = cond upright (cond (eqb l up) 1 slope) (cond (eqb l up) slope
 -- up and right darts ask for a constraint each, the others for none
 unfoldable pub kept_of : ℕ → ℕ
 kept_of l = cond (ltb l 2) 1 0
+
+-- the constraint that a dart from u to v asks for, if it asks for one
+abbrev pub ask_of : Bool → ℕ → ℕ → ℕ → Stored
+ask_of upright l u v = record { low = end_of upright l u v; high = end_of upright l v u; gap = gap_of upright l }

@@ -1,38 +1,62 @@
 // Placement: the chart of a labelled plan over flat arrays.
 #![tactic(auto)]
 
-ghost use Rattle.std.specs.Prelude.{◌≡◌, true, false, ◌&&◌, ◌+◌, ◌-◌, ◌≤◌, ◌<◌, set};
-ghost use Rattle.lists.specs.Tests.{all};
-ghost use Rattle.lists.specs.Spans.{zeros};
+ghost use Rattle.std.specs.Prelude.{◌≡◌, true, false, ◌+◌, ◌≤◌, ◌<◌, length, take, drop};
 ghost use Rattle.lists.specs.Parts.{index_of};
-ghost use Rattle.model.specs.Outcome.{refused};
 ghost use Rattle.model.specs.Plan.{ring};
-ghost use Rattle.model.specs.Chart.{meets};
-ghost use Rattle.rings.specs.Tables.{start_of, starts_of, rows, table, in_bounds};
-ghost use Rattle.constraints.specs.Constraints.{listed_from, listed};
+ghost use Rattle.rings.specs.Tables.{start_of, starts_of, in_bounds, plan_of, table};
+ghost use Rattle.constraints.specs.Constraints.{listed};
 ghost use Rattle.solver.specs.Solved.{numbers_of, solved};
-ghost use Rattle.placement.specs.Asking.{asked, end_of, gap_of, kept_of};
-ghost use Rattle.placement.specs.Drawing.{chart_for, drawn_as, drawn_of, drawn_if, stands_at, squared};
+ghost use Rattle.placement.specs.Asking.{asked, end_of, gap_of, kept_of, ask_of};
+ghost use Rattle.placement.specs.Drawing.{chart_for, drawn_as, drawn_of, found_of, found_if, kept_at, stands_at, squared};
 ghost use Rattle.placement.specs.Marking.{Marked, DartAt};
+
+use charts::Points;
+use constraints::Constraint;
+use refusal::Refusal;
+use rings::{Rings, Table};
+
+// The border contexts.
+const NORTH: u16 = 0;
+
+const EAST: u16 = 1;
+
+const SOUTH: u16 = 2;
+
+const WEST: u16 = 3;
+
+// The labels of darts; left, down and none follow these two.
+const UP: usize = 0;
+
+const RIGHT: usize = 1;
 
 // The slope that a line must at least have.
 const SLOPE: u8 = 0;
 
-// The least numbers of one coordinate, and whether they are found and meet all its constraints.
-#[derive(Drop)]
-struct Axis {
-    pub kept: bool,
-    pub at: [u16; 200],
-}
-
-// A chart with zeros after its numbers; where there is none, zeros alone.
-#[derive(Drop)]
+// A chart in arrays of its own, with zeros after its numbers.
+#[derive(Clone, Copy)]
 pub struct Drawn {
-    pub found: bool,
     pub w: u16,
     pub h: u16,
     pub xs: [u16; 200],
     pub ys: [u16; 200],
+}
+
+impl Drawn {
+    // The chart, lent.
+    pub fn points(&self) -> Points
+        ensures w { result.w ≡ self.now.w }
+        ensures h { result.h ≡ self.now.h }
+        ensures xs { result.xs.now ≡ self.now.xs }
+        ensures ys { result.ys.now ≡ self.now.ys }
+    {
+        Points {
+            w: self.w,
+            h: self.h,
+            xs: &self.xs,
+            ys: &self.ys,
+        }
+    }
 }
 
 // The first context, or the second where a dart's ends are exchanged in its constraint.
@@ -40,7 +64,7 @@ fn end_of(upright: bool, label: usize, u: u16, v: u16) -> u16
     ensures { result ≡ end_of upright label u v }
 {
     if upright {
-        if label == 1 {
+        if label == RIGHT {
             return v;
         }
     }
@@ -52,9 +76,9 @@ fn gap_of(upright: bool, label: usize) -> u8
     ensures { result ≡ gap_of upright label }
 {
     if upright {
-        if label == 0 { 1 } else { SLOPE }
+        if label == UP { 1 } else { SLOPE }
     } else {
-        if label == 0 { SLOPE } else { 1 }
+        if label == UP { SLOPE } else { 1 }
     }
 }
 
@@ -63,51 +87,45 @@ fn kept_of(label: usize) -> usize
     ensures value { result ≡ kept_of label }
     ensures upper_bound { result ≤ 1 }
 {
-    if label < 2 { 1 } else { 0 }
+    if label <= RIGHT { 1 } else { 0 }
 }
 
-// Puts the constraint of one coordinate that a dart from u to v asks for at a place of the arrays.
-fn put_ask(
-    lows: &mut [u16; 1188],
-    highs: &mut [u16; 1188],
-    gaps: &mut [u8; 1188],
-    at: usize,
-    upright: bool,
-    label: usize,
-    u: u16,
-    v: u16,
-)
-    requires { at < 1188 }
-    ensures lows_after { lows.new ≡ set lows.old at (end_of upright label u v) }
-    ensures highs_after { highs.new ≡ set highs.old at (end_of upright label v u) }
-    ensures gaps_after { gaps.new ≡ set gaps.old at (gap_of upright label) }
+// The constraint that a number is at most another.
+fn level(low: u16, high: u16) -> Constraint
+    ensures { result ≡ record { low = low; high = high; gap = 0 } }
 {
-    lows[at] = end_of(upright, label, u, v);
-    highs[at] = end_of(upright, label, v, u);
-    gaps[at] = gap_of(upright, label);
+    Constraint { low, high, gap: 0 }
+}
+
+// The constraint of one coordinate that a dart from u to v asks for.
+fn ask_of(upright: bool, label: usize, u: u16, v: u16) -> Constraint
+    ensures { result ≡ ask_of upright label u v }
+{
+    Constraint {
+        low: end_of(upright, label, u, v),
+        high: end_of(upright, label, v, u),
+        gap: gap_of(upright, label),
+    }
 }
 
 // Where the label of the dart from u to v stands, v being the entry at i of u's ring, which begins at a. A mark of v above a is one more than that place; where there is none the entry is v's first in the ring, and is marked.
-fn label_place<'a>(
+fn label_place(
     marks: &mut [u16; 200],
-    starts: &'a [u16],
-    sizes: &'a [u8],
-    entries: &'a [u16],
-    n: usize,
+    rings: &Rings,
     u: usize,
     v: usize,
     a: usize,
     i: usize,
 ) -> usize
-    requires marked { Marked marks.old (ring (rows starts.now sizes.now entries.now n) u) a i }
-    requires dart_at { DartAt (ring (rows starts.now sizes.now entries.now n) u) a i v }
-    ensures value { result ≡ a + index_of v (ring (rows starts.now sizes.now entries.now n) u) }
-    ensures marked_2 { Marked marks.new (ring (rows starts.now sizes.now entries.now n) u) a (i + 1) }
+    requires marked { Marked marks.old (ring (plan_of rings.now) u) a i }
+    requires dart_at { DartAt (ring (plan_of rings.now) u) a i v }
+    ensures value { result ≡ a + index_of v (ring (plan_of rings.now) u) }
+    ensures marked_2 { Marked marks.new (ring (plan_of rings.now) u) a (i + 1) }
 {
     if v >= 200 {
-        return a + search::index_of(starts, sizes, entries, n, u, v);
+        return a + search::index_of(rings, u, v);
     }
-    let mark = numbers::wide_word(marks[v]);
+    let mark = usize::from(marks[v]);
     if mark > a {
         return mark - 1;
     }
@@ -115,183 +133,117 @@ fn label_place<'a>(
     a + i
 }
 
-// Puts the constraints of both coordinates into arrays of zeros: the border's tie, then those of the darts in the order of the rings. How many there are of each.
-fn asks_of<'a>(
-    xlows: &mut [u16; 1188],
-    xhighs: &mut [u16; 1188],
-    xgaps: &mut [u8; 1188],
-    ylows: &mut [u16; 1188],
-    yhighs: &mut [u16; 1188],
-    ygaps: &mut [u8; 1188],
-    starts: &'a [u16],
-    sizes: &'a [u8],
-    entries: &'a [u16],
-    n: usize,
-    labels: &'a [u8],
+// Puts the constraints of both coordinates into arrays: the border's tie, then those of the darts in the order of the rings. How many there are of each.
+fn asks_of(
+    x: &mut [Constraint; 1188],
+    y: &mut [Constraint; 1188],
+    rings: &Rings,
+    labels: &[u8],
 ) -> usize
-    requires n_bound { n ≤ 200 }
-    requires n_bound_2 { start_of sizes.now n ≤ 1186 }
-    requires starts_value { starts.now ≡ starts_of sizes.now }
-    requires xlows_value { (xlows.old ≡ zeros 1188) × (xhighs.old ≡ zeros 1188) × (xgaps.old ≡ zeros 1188) }
-    requires ylows_value { (ylows.old ≡ zeros 1188) × (yhighs.old ≡ zeros 1188) × (ygaps.old ≡ zeros 1188) }
-    ensures x { listed xlows.new xhighs.new xgaps.new result ≡ asked false (table sizes.now entries.now n) labels.now }
-    ensures y { listed ylows.new yhighs.new ygaps.new result ≡ asked true (table sizes.now entries.now n) labels.now }
+    requires n_bound { rings.now.n ≤ 200 }
+    requires n_bound_2 { start_of rings.now.sizes.now rings.now.n ≤ 1186 }
+    requires starts_value { rings.now.starts.now ≡ starts_of rings.now.sizes.now }
+    ensures x { listed (take result x.new) ≡ asked false (table rings.now.sizes.now rings.now.entries.now rings.now.n) labels.now }
+    ensures y { listed (take result y.new) ≡ asked true (table rings.now.sizes.now rings.now.entries.now rings.now.n) labels.now }
     ensures tied { 2 ≤ result }
+    ensures fits { result ≤ 1188 }
 {
-    xhighs[0] = 1;
-    xlows[1] = 1;
-    yhighs[0] = 3;
-    ylows[1] = 3;
+    x[0] = level(NORTH, EAST);
+    x[1] = level(EAST, NORTH);
+    y[0] = level(NORTH, WEST);
+    y[1] = level(WEST, NORTH);
     let mut marks = [0u16; 200];
     let mut count = 2;
-    let mut u = 0;
-    let mut i = 0;
     let mut a = 0;
-    let mut k = rings::size_of(sizes, n, 0);
-    while u < n {
-        if i < k {
-            let v = rings::neighbour_of(arrays::num(entries, a + i));
-            let at = label_place(&mut marks, starts, sizes, entries, n, u, v, a, i);
+    for u in 0..rings.n {
+        let k = rings.size_of(u);
+        for i in 0..k {
+            let v = rings::neighbour_of(arrays::num(rings.entries, a + i));
+            let at = label_place(&mut marks, rings, u, v, a, i);
             let label = labels::label_at(labels, at);
             let s = u as u16;
             let t = v as u16;
-            put_ask(xlows, xhighs, xgaps, count, false, label, s, t);
-            put_ask(ylows, yhighs, ygaps, count, true, label, s, t);
+            x[count] = ask_of(false, label, s, t);
+            y[count] = ask_of(true, label, s, t);
             count += kept_of(label);
-            i += 1;
-        } else {
-            u += 1;
-            i = 0;
-            a += k;
-            k = rings::size_of(sizes, n, u);
         }
+        a += k;
     }
     count
 }
 
-// The least numbers of the first count constraints, and whether they meet those after the tie.
-fn axis_of<'a>(
-    n: usize,
-    count: usize,
-    lows: &'a [u16; 1188],
-    highs: &'a [u16; 1188],
-    gaps: &'a [u8; 1188],
-) -> Axis
-    ensures at { result.at ≡ (numbers_of (solved n (listed lows.now highs.now gaps.now count))).at }
-    ensures kept { result.kept ≡ ((numbers_of (solved n (listed lows.now highs.now gaps.now count))).found && all (meets result.at) (listed_from lows.now highs.now gaps.now 2 (count - 2))) }
+// The least numbers of one coordinate, if they meet its constraints behind the tie.
+fn axis_of(n: usize, constraints: &[Constraint]) -> Option<[u16; 200]>
+    requires { 2 ≤ length constraints.now }
+    ensures { result ≡ kept_at (listed (drop 2 constraints.now)) (numbers_of (solved n (listed constraints.now))) }
 {
-    let numbers = solver::solve(n, count, lows, highs, gaps);
-    let at = numbers.at;
-    if !numbers.found {
-        return Axis { kept: false, at };
-    }
-    Axis {
-        kept: constraints::all_met(lows, highs, gaps, 2, count, &at),
-        at,
+    let at = solver::solve(n, constraints)?;
+    if constraints::all_met(&constraints[2..], &at) {
+        Some(at)
+    } else {
+        None
     }
 }
 
 // Does the context u stand at a, b?
-fn is_at<'a>(xs: &'a [u16], ys: &'a [u16], u: usize, a: usize, b: usize) -> bool
-    ensures { result ≡ stands_at xs.now ys.now u a b }
+fn is_at(drawn: &Drawn, u: u16, a: u16, b: u16) -> bool
+    ensures { result ≡ stands_at drawn.now.xs drawn.now.ys u a b }
 {
-    arrays::num(xs, u) == a && arrays::num(ys, u) == b
+    let u = usize::from(u);
+    arrays::word(&drawn.xs, u) == a && arrays::word(&drawn.ys, u) == b
 }
 
 // Do the border contexts stand at the corners?
-fn is_squared<'a>(xs: &'a [u16], ys: &'a [u16]) -> bool
-    ensures { result ≡ squared xs.now ys.now }
+fn is_squared(drawn: &Drawn) -> bool
+    ensures { result ≡ squared drawn.now.xs drawn.now.ys }
 {
-    if !is_at(xs, ys, 2, 0, 0) {
-        return false;
-    }
-    if !is_at(xs, ys, 3, 0, arrays::num(ys, 0)) {
-        return false;
-    }
-    is_at(xs, ys, 1, arrays::num(xs, 0), 0)
-}
-
-// No chart.
-fn undrawn() -> Drawn
-    ensures { result ≡ drawn_of (refused 11 0) }
-{
-    Drawn {
-        found: false,
-        w: 0,
-        h: 0,
-        xs: [0u16; 200],
-        ys: [0u16; 200],
-    }
+    let north = usize::from(NORTH);
+    let w = drawn.xs[north];
+    let h = drawn.ys[north];
+    is_at(drawn, SOUTH, 0, 0) && is_at(drawn, WEST, 0, h) && is_at(drawn, EAST, w, 0)
 }
 
 // The chart with these numbers, if the border contexts stand at its corners.
-fn squared_off(xs: [u16; 200], ys: [u16; 200]) -> Drawn
-    ensures { result ≡ drawn_if (squared xs ys) xs ys }
+fn squared_off(xs: [u16; 200], ys: [u16; 200]) -> Option<Drawn>
+    ensures { result ≡ found_if (squared xs ys) xs ys }
 {
-    if !is_squared(&xs, &ys) {
-        return undrawn();
-    }
-    Drawn {
-        found: true,
-        w: xs[0],
-        h: ys[0],
+    let north = usize::from(NORTH);
+    let drawn = Drawn {
+        w: xs[north],
+        h: ys[north],
         xs,
         ys,
+    };
+    if is_squared(&drawn) {
+        Some(drawn)
+    } else {
+        None
     }
 }
 
-// The chart of a plan within bounds, whose rings begin at these starts.
-fn chart_from<'a>(
-    starts: &'a [u16],
-    sizes: &'a [u8],
-    entries: &'a [u16],
-    n: usize,
-    labels: &'a [u8],
-) -> Drawn
-    requires n_value { in_bounds sizes.now n ≡ true }
-    requires starts_value { starts.now ≡ starts_of sizes.now }
-    ensures { result ≡ drawn_of (chart_for sizes.now entries.now n labels.now) }
+// The chart of a plan within bounds, if there is one.
+fn chart_from(rings: &Rings, labels: &[u8]) -> Option<Drawn>
+    requires n_value { in_bounds rings.now.sizes.now rings.now.n ≡ true }
+    requires starts_value { rings.now.starts.now ≡ starts_of rings.now.sizes.now }
+    ensures { result ≡ found_of (chart_for rings.now.sizes.now rings.now.entries.now rings.now.n labels.now) }
 {
-    let mut xlows = [0u16; 1188];
-    let mut xhighs = [0u16; 1188];
-    let mut xgaps = [0u8; 1188];
-    let mut ylows = [0u16; 1188];
-    let mut yhighs = [0u16; 1188];
-    let mut ygaps = [0u8; 1188];
-    let count = asks_of(
-        &mut xlows,
-        &mut xhighs,
-        &mut xgaps,
-        &mut ylows,
-        &mut yhighs,
-        &mut ygaps,
-        starts,
-        sizes,
-        entries,
-        n,
-        labels,
-    );
-    let x = axis_of(n, count, &xlows, &xhighs, &xgaps);
-    if !x.kept {
-        return undrawn();
-    }
-    let y = axis_of(n, count, &ylows, &yhighs, &ygaps);
-    if !y.kept {
-        return undrawn();
-    }
-    let xs = x.at;
-    let ys = y.at;
+    let mut x = [level(NORTH, NORTH); 1188];
+    let mut y = x;
+    let count = asks_of(&mut x, &mut y, rings, labels);
+    let xs = axis_of(rings.n, &x[..count])?;
+    let ys = axis_of(rings.n, &y[..count])?;
     squared_off(xs, ys)
 }
 
-// The chart of the plan that sizes and entries hold: the least placement, or none.
-pub fn chart_of<'a>(sizes: &'a [u8], entries: &'a [u16], n: usize, labels: &'a [u8]) -> Drawn
-    ensures n_value { drawn_as result n ≡ chart_for sizes.now entries.now n labels.now }
-    ensures value { result ≡ drawn_of (chart_for sizes.now entries.now n labels.now) }
+// The chart of a plan: the least placement.
+pub fn chart_of(plan: &Table, labels: &[u8]) -> Result<Drawn, Refusal>
+    ensures n_value { drawn_as result plan.now.n ≡ chart_for plan.now.sizes.now plan.now.entries.now plan.now.n labels.now }
+    ensures value { result ≡ drawn_of (chart_for plan.now.sizes.now plan.now.entries.now plan.now.n labels.now) }
 {
-    if !fit::is_in_bounds(sizes, n) {
-        return undrawn();
+    if !fit::is_in_bounds(plan.sizes, plan.n) {
+        return Err(Refusal::NoPlacement);
     }
-    let starts = rings::starts_of(sizes);
-    chart_from(&starts, sizes, entries, n, labels)
+    let starts = rings::starts_of(plan.sizes);
+    let plan = *plan;
+    chart_from(&plan.rings(&starts), labels).ok_or(Refusal::NoPlacement)
 }

@@ -5,20 +5,21 @@ use mathlib.Core.List.{List, Memᴰ}
 use mathlib.Core.Logic.{◌≢◌, ◌⊎◌, inl, inr}
 use mathlib.Core.Bool.{Bool, true, false, false≢true, true≢false}
 use native.Mathlib.Omega.{arith}
-use lib.ListN.{length, get_or, set, take, replicate, length-set}
+use lib.ListN.{length, get_or, set, take, replicate, length-set, get_or-eq_default}
 use lib.Seq.{get_or-set_same, get_or-set_other, length-take-le}
 use lib.Dec.{eqb}
 use borrow.Author.Tests.{eqb-true, eqb-false, le-leb, lt-leb}
 use Rattle.constraints.proofs.Listed.{mem-listed, listed-mem, listed_small}
-use Rattle.constraints.specs.Constraints.{rise, constraint_at, listed}
+use Rattle.std.specs.Prelude.{Option, Some, None, is_some, unwrap_or}
+use Rattle.constraints.specs.declared.Constraint.{Constraint as Stored}
+use Rattle.constraints.specs.Constraints.{rise, constraint_of, constraint_at, listed}
 use Rattle.lists.proofs.Padded.{get_or-zeros}
 use Rattle.lists.specs.Spans.{zeros}
-use Rattle.model.specs.Outcome.{refused}
 use Rattle.model.specs.Chart.{Constraint, least_numbers}
 use Rattle.model.proofs.Least.{Fits, fits_low, least-is, least_refuses}
 use Rattle.rings.specs.Tables.{sum_of}
-use Rattle.solver.specs.declared.Round.{Round}
-use Rattle.solver.specs.Relaxing.{Keeps, Raised, MetAt, place_of, Passing, Passed}
+use Rattle.solver.specs.declared.System.{System}
+use Rattle.solver.specs.Relaxing.{Keeps, Raised, RaisedIn, Hopeless, MetAt, Taken, place_of, Passing, Passed}
 use Rattle.solver.specs.Solved.{solved, numbers_of}
 use Rattle.solver.proofs.Arrays.{get_or-first, padded-first, sum-raise, sum-most}
 
@@ -34,20 +35,20 @@ place_twice true count i h = omega arith
 place_twice false count i h = refl
 
 -- ---- numbers raised from 0
-pub raised-start : {n : ℕ} {cs : List Constraint} {ks : List ℕ} → ks ≡ replicate 200 0 → Raised n cs ks
+pub raised-start : {n : ℕ} {cs : List Constraint} {ks : List ℕ} → n ≤ 200 → ks ≡ replicate 200 0 → Raised n cs ks
 unfolding zeros
-raised-start {n} {cs} {ks} e =
+raised-start {n} {cs} {ks} few e =
     let all : (u : ℕ) → get_or ks u 0 ≡ 0 = λ u. ap (λ (l : List ℕ). get_or l u 0) e ∙ get_or-zeros 200 u in
-    record { size = ap length e; past = λ u _. all u; most = λ u. let z = all u in omega arith; under = λ d _ u. let z = all u in omega arith }
+    record { few = few; size = ap length e; past = λ u _. all u; most = λ u. let z = all u in omega arith; under = λ d _ u. let z = all u in omega arith }
 
-pub raised-up : {n : ℕ} {cs : List Constraint} {ks : List ℕ} → Raised n cs ks → n ≤ 200 → (c : Constraint) → Memᴰ c cs → (v due : ℕ) → v ≡ c.high → v < n → due ≡ get_or ks c.low 0 + c.gap → due ≤ n → Raised n cs (set ks v due)
-raised-up {n} {cs} {ks} r fits c m v due q h e b = record { size = length-set ks v due ∙ r.size; past = λ u k. go_past u k (at u); most = λ u. go_most u (at u); under = λ d k u. go_under d k u (at u) }
+pub raised-up : {n : ℕ} {cs : List Constraint} {ks : List ℕ} → Raised n cs ks → (c : Constraint) → Memᴰ c cs → (v due : ℕ) → v ≡ c.high → v < n → due ≡ get_or ks c.low 0 + c.gap → due ≤ n → Raised n cs (set ks v due)
+raised-up {n} {cs} {ks} r c m v due q h e b = record { few = r.few; size = length-set ks v due ∙ r.size; past = λ u k. go_past u k (at u); most = λ u. go_most u (at u); under = λ d k u. go_under d k u (at u) }
   where
     at : (u : ℕ) → ((u ≡ v) × (get_or (set ks v due) u 0 ≡ due)) ⊎ ((u ≢ v) × (get_or (set ks v due) u 0 ≡ get_or ks u 0))
     at u = go (eqb u v) refl
       where
         go : (t : Bool) → eqb u v ≡ t → ((u ≡ v) × (get_or (set ks v due) u 0 ≡ due)) ⊎ ((u ≢ v) × (get_or (set ks v due) u 0 ≡ get_or ks u 0))
-        go true s = let w = eqb-true u v s in inl (w, ap (λ (j : ℕ). get_or (set ks v due) j 0) w ∙ get_or-set_same ks v due 0 (let z = r.size in omega arith))
+        go true s = let w = eqb-true u v s in inl (w, ap (λ (j : ℕ). get_or (set ks v due) j 0) w ∙ get_or-set_same ks v due 0 (let z = r.size in let f = r.few in omega arith))
         go false s = let w = eqb-false u v s in inr (w, get_or-set_other ks v u due 0 w)
 
     go_past : (u : ℕ) → n ≤ u → ((u ≡ v) × (get_or (set ks v due) u 0 ≡ due)) ⊎ ((u ≢ v) × (get_or (set ks v due) u 0 ≡ get_or ks u 0)) → get_or (set ks v due) u 0 ≡ 0
@@ -67,61 +68,110 @@ raised-up {n} {cs} {ks} r fits c m v due q h e b = record { size = length-set ks
         omega arith
     go_under d k u (inr w) = let z = w.1 in let y = r.under d k u in omega arith
 
+-- ---- one constraint
+-- what the answers none and some of a flag are not
+none_some : {t : Bool} → None ≡ Some t → ⊥
+none_some e = absurd (false≢true (ap (λ (r : Option Bool). is_some r) e))
+
+some_none : {t : Bool} → Some t ≡ None → ⊥
+some_none e = none_some (sym e)
+
+flag : {s t : Bool} → Some s ≡ Some t → s ≡ t
+flag {s} {t} e = ap (λ (r : Option Bool). unwrap_or r s) e
+
+abbrev nothing : Stored
+nothing = record { low = 0; high = 0; gap = 0 }
+
+module _ (s : System) (k : ℕ) {ks : List ℕ} (r : RaisedIn s ks) where
+  -- it is met, and the numbers stay
+  taken_met : MetAt s ks k → Taken s k ks ks (Some false)
+  taken_met m = record { raised = r; none = λ e. absurd (some_none e); still = λ _. (refl, m); more = λ e. absurd (false≢true (flag e)) }
+
+  -- there are not as many
+  pub taken-past : length s.constraints.now ≤ k → Taken s k ks ks (Some false)
+  unfolding constraint_at constraint_of rise
+  taken-past h = taken_met (λ _. rw (get_or-eq_default s.constraints.now nothing h) (omega arith))
+
+  module _ (h : k < length s.constraints.now) {v : ℕ} (high : v ≡ (get_or s.constraints.now k nothing).high) where
+    -- it is not on one of the first n
+    pub taken_off : s.n ≤ v → Taken s k ks ks (Some false)
+    unfolding constraint_at constraint_of
+    taken_off b = taken_met (λ on. absurd (omega arith))
+
+    module _ {due have : ℕ} (asks : due ≡ get_or ks (get_or s.constraints.now k nothing).low 0 + rise (get_or s.constraints.now k nothing).gap) (e : have ≡ get_or ks v 0) where
+      here : have ≡ get_or ks (get_or s.constraints.now k nothing).high 0
+      here = e ∙ ap (λ (j : ℕ). get_or ks j 0) high
+
+      -- it is met already
+      pub taken_still : due ≤ have → Taken s k ks ks (Some false)
+      unfolding constraint_at constraint_of
+      taken_still b = taken_met (λ _. let z = here in omega arith)
+
+      -- its higher number would pass n
+      pub taken-none : v < s.n → s.n < due → Taken s k ks ks None
+      unfolding constraint_at constraint_of
+      taken-none on b = record {
+        raised = r;
+        none = λ _ d keeps most.
+            let x = keeps (constraint_at s.constraints.now k) (mem-listed s.constraints.now k h) (omega arith) in
+            let y = r.under d keeps (get_or s.constraints.now k nothing).low in
+            let z = most (get_or s.constraints.now k nothing).high in
+            omega arith;
+        still = λ q. absurd (none_some q);
+        more = λ q. absurd (none_some q);
+      }
+
+      -- its higher number is raised
+      pub taken_up : v < s.n → have < due → due ≤ s.n → Taken s k ks (set ks v due) (Some true)
+      unfolding constraint_at constraint_of
+      taken_up on low b = record {
+        raised = raised-up r (constraint_at s.constraints.now k) (mem-listed s.constraints.now k h) v due high on asks b;
+        none = λ q. absurd (some_none q);
+        still = λ q. absurd (true≢false (flag q));
+        more = λ _. sum-raise ks v due (let z = r.size in let f = r.few in omega arith) (omega arith);
+      }
+
 -- ---- a pass
-pub passing_start : {n : ℕ} {lows highs gaps : List ℕ} {count : ℕ} {back : Bool} {old : List ℕ} → Raised n (listed lows highs gaps count) old → Passing n lows highs gaps count back old old 0 false
-passing_start r = record { reached = omega arith; raised = r; still = λ _. (refl, λ j h. absurd (omega arith)); more = λ e. absurd (false≢true e) }
+pub passing_start : {s : System} {back : Bool} {old : List ℕ} → RaisedIn s old → Passing s back old old 0 false
+passing_start r = record { raised = r; still = λ _. (refl, λ j h. absurd (omega arith)); more = λ e. absurd (false≢true e) }
 
-module _ {n : ℕ} {lows highs gaps : List ℕ} {count : ℕ} {back : Bool} {old ks : List ℕ} {i : ℕ} {rose : Bool} (inv : Passing n lows highs gaps count back old ks i rose) {i' k : ℕ} (q : i' ≡ suc i) (h : i < count) (p : k ≡ place_of back count i) where
-  -- the constraint is met already
-  pub passing_on : MetAt n lows highs gaps ks k → Passing n lows highs gaps count back old ks i' rose
-  passing_on m = record { reached = omega arith; raised = inv.raised; still = λ e. ((inv.still e).0, λ j b. go e j b (eqb j i) refl); more = inv.more }
+module _ {s : System} {back : Bool} {old ks : List ℕ} {i : ℕ} {rose : Bool} (inv : Passing s back old ks i rose) {k : ℕ} (p : k ≡ place_of back (length s.constraints.now) i) {ks' : List ℕ} {t : Bool} (taken : Taken s k ks ks' (Some t)) {i' : ℕ} (q : i' ≡ suc i) where
+  -- no number rises
+  pub passing_on : t ≡ false → Passing s back old ks' i' rose
+  passing_on f = record {
+    raised = taken.raised;
+    still = λ e. (stay ∙ (inv.still e).0, λ j b. go e j b (eqb j i) refl);
+    more = λ e. let z = inv.more e in let y = ap sum_of stay in omega arith;
+  }
     where
-      go : rose ≡ false → (j : ℕ) → j < i' → (t : Bool) → eqb j i ≡ t → MetAt n lows highs gaps ks (place_of back count j)
-      go e j b true s = subst (λ (l : ℕ). MetAt n lows highs gaps ks l) (p ∙ ap (place_of back count) (sym (eqb-true j i s))) m
-      go e j b false s = (inv.still e).1 j (let z : j ≢ i = eqb-false j i s in omega arith)
+      same : (ks' ≡ ks) × MetAt s ks' k
+      same = taken.still (ap Some f)
 
-  -- it is not on one of the first n
-  pub passing_off : n ≤ get_or highs k 0 → Passing n lows highs gaps count back old ks i' rose
-  passing_off b = passing_on (λ s. absurd (omega arith))
+      stay : ks' ≡ ks
+      stay = same.0
 
-  module _ (v due : ℕ) (at : v ≡ get_or highs k 0) (on : v < n) (e : due ≡ get_or ks (get_or lows k 0) 0 + rise (get_or gaps k 0)) where
-    pub passing_met : due ≤ get_or ks v 0 → Passing n lows highs gaps count back old ks i' rose
-    unfolding constraint_at
-    passing_met b = passing_on (λ s. let w : get_or ks v 0 ≡ get_or ks (get_or highs k 0) 0 = ap (λ (j : ℕ). get_or ks j 0) at in omega arith)
+      go : rose ≡ false → (j : ℕ) → j < i' → (b : Bool) → eqb j i ≡ b → MetAt s ks' (place_of back (length s.constraints.now) j)
+      go e j b true w = subst (λ (l : ℕ). MetAt s ks' l) (p ∙ ap (place_of back (length s.constraints.now)) (sym (eqb-true j i w))) same.1
+      go e j b false w = subst (λ (l : List ℕ). MetAt s l (place_of back (length s.constraints.now) j)) (sym stay) ((inv.still e).1 j (let z : j ≢ i = eqb-false j i w in omega arith))
 
-    in_list : Memᴰ (constraint_at lows highs gaps k) (listed lows highs gaps count)
-    in_list = mem-listed lows highs gaps count k (let z = place-below back count i h in omega arith)
+  -- one rises
+  pub passing_up : t ≡ true → Passing s back old ks' i' true
+  passing_up f = record { raised = taken.raised; still = λ w. absurd (true≢false w); more = λ _. let a = taken.more (ap Some f) in go rose refl a }
+    where
+      go : (b : Bool) → rose ≡ b → sum_of ks < sum_of ks' → sum_of old < sum_of ks'
+      go true w a = let z = inv.more w in omega arith
+      go false w a = let z : sum_of ks ≡ sum_of old = ap sum_of (inv.still w).0 in omega arith
 
-    -- its higher number is raised
-    pub passing_up : n ≤ 200 → get_or ks v 0 < due → due ≤ n → Passing n lows highs gaps count back old (set ks v due) i' true
-    unfolding constraint_at
-    passing_up fits low b = record {
-      reached = omega arith;
-      raised = raised-up inv.raised fits (constraint_at lows highs gaps k) in_list v due at on e b;
-      still = λ s. absurd (true≢false s);
-      more = λ _. let a = sum-raise ks v due (let z = inv.raised.size in omega arith) low in go rose refl a;
-    }
-      where
-        go : (t : Bool) → rose ≡ t → sum_of ks < sum_of (set ks v due) → sum_of old < sum_of (set ks v due)
-        go true s a = let z = inv.more s in omega arith
-        go false s a = let z : sum_of ks ≡ sum_of old = ap sum_of (inv.still s).0 in omega arith
+-- one would pass n
+pub passed-none : {s : System} {k : ℕ} (old : List ℕ) {ks ks' : List ℕ} → Taken s k ks ks' None → Passed s old ks' None
+passed-none old t = record { raised = t.raised; none = t.none; still = λ e. absurd (none_some e); more = λ e. absurd (none_some e) }
 
-    -- it would pass n
-    pub passing_over : (r : Round) → r.over ≡ true → n < due → Passed n lows highs gaps count old r
-    unfolding constraint_at
-    passing_over r o b = record {
-      none = λ _ d k' m. let x = k' (constraint_at lows highs gaps k) in_list (omega arith) in let y = inv.raised.under d k' (get_or lows k 0) in let z = m (get_or highs k 0) in omega arith;
-      raised = λ z. absurd (true≢false (sym o ∙ z));
-      still = λ z. absurd (true≢false (sym o ∙ z));
-      more = λ z. absurd (true≢false (sym o ∙ z));
-    }
-
-pub passing_end : {n : ℕ} {lows highs gaps : List ℕ} {count : ℕ} {back : Bool} {old ks : List ℕ} {i : ℕ} {rose : Bool} → Passing n lows highs gaps count back old ks i rose → count ≤ i → Passed n lows highs gaps count old (record { over = false; rose = rose; at = ks })
-passing_end {n} {lows} {highs} {gaps} {count} {back} {old} {ks} {i} inv b = record {
-  none = λ z. absurd (false≢true z);
-  raised = λ _. inv.raised;
-  still = λ _ e j h. subst (λ (l : ℕ). MetAt n lows highs gaps ks l) (place_twice back count j h) ((inv.still e).1 (place_of back count j) (let z = place-below back count j h in omega arith));
-  more = λ _. inv.more;
+pub passed_end : {s : System} {back : Bool} {old ks : List ℕ} {i : ℕ} {rose : Bool} → Passing s back old ks i rose → length s.constraints.now ≤ i → Passed s old ks (Some rose)
+passed_end {s} {back} {old} {ks} {i} inv b = record {
+  raised = inv.raised;
+  none = λ e. absurd (some_none e);
+  still = λ e j h. let count = length s.constraints.now in subst (λ (l : ℕ). MetAt s ks l) (place_twice back count j h) ((inv.still (flag e)).1 (place_of back count j) (let z = place-below back count j h in omega arith));
+  more = λ e. inv.more (flag e);
 }
 
 -- ---- passes
@@ -129,36 +179,44 @@ passing_end {n} {lows} {highs} {gaps} {count} {back} {old} {ks} {i} inv b = reco
 pub fewer : {n : ℕ} {cs : List Constraint} (old : List ℕ) {ks : List ℕ} → Raised n cs ks → sum_of old < sum_of ks → 200 * n - sum_of ks < 200 * n - sum_of old
 fewer {n} {cs} old {ks} r h = let a = sum-most ks n r.most in let b : length ks * n ≡ 200 * n = ap (λ (j : ℕ). j * n) r.size in omega arith
 
-module _ (n : ℕ) (lows highs gaps : List ℕ) (count : ℕ) where
-  solved_in : n ≤ 200 → solved n (listed lows highs gaps count) ≡ least_numbers n (listed lows highs gaps count)
+module _ (s : System) where
+  abbrev n : ℕ
+  n = s.n
+
+  abbrev cs : List Stored
+  cs = s.constraints.now
+
+  solved_in : n ≤ 200 → solved n (listed cs) ≡ least_numbers n (listed cs)
   unfolding solved
   solved_in h = rw (le-leb n 200 h)
 
-  -- of more than 200 numbers all are refused
-  pub solved_large : 200 < n → numbers_of (refused 11 0) ≡ numbers_of (solved n (listed lows highs gaps count))
-  unfolding solved
-  solved_large h = rw (lt-leb n 200 h)
-
   -- where a number would pass n there are none
-  pub solved-none : n ≤ 200 → ((d : ℕ → ℕ) → Keeps n (listed lows highs gaps count) d → ((u : ℕ) → d u ≤ n) → ⊥) → numbers_of (refused 11 0) ≡ numbers_of (solved n (listed lows highs gaps count))
+  pub solved-none : n ≤ 200 → Hopeless s → None ≡ numbers_of (solved n (listed cs))
+  unfolding numbers_of
   solved-none h none =
-      let small = listed_small lows highs gaps count in
-      let e = least_refuses n (listed lows highs gaps count) small (λ ds f. let r = fits_low n (listed lows highs gaps count) small ds f in none r.low r.low_meets r.low_most) in
+      let small = listed_small cs in
+      let e = least_refuses n (listed cs) small (λ ds f. let r = fits_low n (listed cs) small ds f in none r.low r.low_meets r.low_most) in
       ap numbers_of (sym (solved_in h ∙ e))
 
   -- numbers raised from 0 that meet every constraint are the least
-  pub solved-found : (ks : List ℕ) → n ≤ 200 → Raised n (listed lows highs gaps count) ks → ((i : ℕ) → i < count → MetAt n lows highs gaps ks i) → record { found = true; at = ks } ≡ numbers_of (solved n (listed lows highs gaps count))
+  pub solved-found : (ks : List ℕ) → RaisedIn s ks → ((i : ℕ) → i < length cs → MetAt s ks i) → Some ks ≡ numbers_of (solved n (listed cs))
   unfolding numbers_of constraint_at
-  solved-found ks h r m =
-      let same = get_or-first 200 n ks r.size h r.past in
-      let met : (c : Constraint) → Memᴰ c (listed lows highs gaps count) → c.high < n → get_or (take n ks) c.low 0 + c.gap ≤ get_or (take n ks) c.high 0 =
+  solved-found ks r m =
+      let few = r.few in
+      let same = get_or-first 200 n ks r.size few r.past in
+      let met : (c : Constraint) → Memᴰ c (listed cs) → c.high < n → get_or (take n ks) c.low 0 + c.gap ≤ get_or (take n ks) c.high 0 =
       λ c i b. let a = meets-all c i b in let x = same c.low in let y = same c.high in omega arith in
-      let fits : Fits n (listed lows highs gaps count) (take n ks) = record { for_all = length-take-le n ks (let z = r.size in omega arith); met = met } in
-      let e = least-is n (listed lows highs gaps count) (listed_small lows highs gaps count) (take n ks) fits (λ ds f u. let x = r.under (λ (w : ℕ). get_or ds w 0) f.met u in let y = same u in omega arith) in
-      let p = padded-first 200 n ks r.size h r.past in
-      (λ i. record { found = true; at = p i }) ∙ sym (ap numbers_of (solved_in h ∙ e))
+      let fits : Fits n (listed cs) (take n ks) = record { for_all = length-take-le n ks (let z = r.size in omega arith); met = met } in
+      let e = least-is n (listed cs) (listed_small cs) (take n ks) fits (λ ds f u. let x = r.under (λ (w : ℕ). get_or ds w 0) f.met u in let y = same u in omega arith) in
+      let p = padded-first 200 n ks r.size few r.past in
+      ap Some p ∙ sym (ap numbers_of (solved_in few ∙ e))
     where
-      meets-all : (c : Constraint) → Memᴰ c (listed lows highs gaps count) → c.high < n → get_or ks c.low 0 + c.gap ≤ get_or ks c.high 0
+      meets-all : (c : Constraint) → Memᴰ c (listed cs) → c.high < n → get_or ks c.low 0 + c.gap ≤ get_or ks c.high 0
       meets-all c i b =
-          let (k, l, e) = listed-mem lows highs gaps count c i in
-          subst (λ (d : Constraint). get_or ks d.low 0 + d.gap ≤ get_or ks d.high 0) e (m k l (let z : (constraint_at lows highs gaps k).high ≡ c.high = ap (λ (d : Constraint). d.high) e in omega arith))
+          let (k, l, e) = listed-mem cs c i in
+          subst (λ (d : Constraint). get_or ks d.low 0 + d.gap ≤ get_or ks d.high 0) e (m k l (let z : (constraint_at cs k).high ≡ c.high = ap (λ (d : Constraint). d.high) e in omega arith))
+
+-- of more than 200 numbers all are refused
+pub solved_large : (n : ℕ) (cs : List Constraint) → 200 < n → None ≡ numbers_of (solved n cs)
+unfolding solved numbers_of
+solved_large n cs h = rw (lt-leb n 200 h)

@@ -1,15 +1,14 @@
 -- The answer of the solver.
-use Rattle.std.specs.Prelude.{ℕ, List, true, false, cond, leb}
-use Rattle.lists.specs.Spans.{zeros, padded}
+use Rattle.std.specs.Prelude.{ℕ, List, cond, leb, Option, Some, None}
+use Rattle.lists.specs.Spans.{padded}
 use Rattle.model.specs.Outcome.{Outcome, accepted, refused}
 use Rattle.model.specs.Chart.{Constraint, least_numbers}
-use Rattle.solver.specs.declared.Numbers.{Numbers}
 
 -- The least numbers that meet the constraints, for up to 200 numbers; of more than 200 all are refused
 unfoldable pub solved : ℕ → List Constraint → Outcome (List ℕ)
 solved n cs = cond (leb n 200) (least_numbers n cs) (refused 11 0)
 
--- The solver's answer for an outcome: the numbers and zeros after them, or zeros
-unfoldable pub numbers_of : Outcome (List ℕ) → Numbers
-numbers_of (accepted ks) = record { found = true; at = padded 200 ks }
-numbers_of (refused k place) = record { found = false; at = zeros 200 }
+-- The solver's answer for an outcome: the numbers and zeros after them, or none
+unfoldable pub numbers_of : Outcome (List ℕ) → Option (List ℕ)
+numbers_of (accepted ks) = Some (padded 200 ks)
+numbers_of (refused k place) = None

@@ -1,27 +1,20 @@
 // The least solution of difference constraints: a first pass in an order that settles most numbers, then passes over all constraints, forward and back in turn, until no number rises or one passes n.
 #![tactic(auto)]
 
-ghost use Rattle.std.specs.Prelude.{◌≡◌, ◌<◌, ◌≤◌};
-ghost use Rattle.model.specs.Outcome.{refused};
+ghost use Rattle.std.specs.Prelude.{◌≡◌, ◌<◌, length};
 ghost use Rattle.constraints.specs.Constraints.{listed};
 ghost use Rattle.solver.specs.Solved.{solved, numbers_of};
-ghost use Rattle.solver.specs.Relaxing.{Raised, Passed, place_of};
+ghost use Rattle.solver.specs.Relaxing.{RaisedIn, Taken, Passed, place_of};
+
+use constraints::Constraint;
 
 mod first;
 
-// The numbers found, or zeros where there are none.
+// So many numbers, and the constraints on them.
 #[derive(Drop)]
-pub struct Numbers {
-    pub found: bool,
-    pub at: [u16; 200],
-}
-
-// What a pass leaves: whether a number would pass n, whether one rose, and the numbers.
-#[derive(Drop)]
-struct Round {
-    pub over: bool,
-    pub rose: bool,
-    pub at: [u16; 200],
+struct System<'a> {
+    pub n: usize,
+    pub constraints: &'a [Constraint],
 }
 
 // The constraint that a pass comes to after i others.
@@ -32,117 +25,59 @@ fn place(back: bool, count: usize, i: usize) -> usize
     if back { count - 1 - i } else { i }
 }
 
-// One pass: each constraint raises its higher number to what it asks.
-fn pass<'a>(
-    n: usize,
-    count: usize,
-    lows: &'a [u16],
-    highs: &'a [u16],
-    gaps: &'a [u8],
-    old: [u16; 200],
-    back: bool,
-) -> Round
-    requires n_bound { n ≤ 200 }
-    requires raised { Raised n (listed lows.now highs.now gaps.now count) old }
-    ensures { Passed n lows.now highs.now gaps.now count old result }
-{
-    let mut at = old;
-    let mut rose = false;
-    let mut i = 0;
-    while i < count {
-        let k = place(back, count, i);
-        i += 1;
-        let high = arrays::num(highs, k);
-        if high < n {
-            let due = constraints::due_at(lows, gaps, &at, k);
-            if arrays::num(&at, high) < due {
-                if n < due {
-                    return Round {
-                        over: true,
-                        rose,
-                        at,
-                    };
-                }
-                at[high] = due as u16;
+impl<'a> System<'a> {
+    // Takes constraint k: its higher number is raised to what it asks. Whether it rose; none where it would pass n.
+    fn raise(&self, at: &mut [u16; 200], k: usize) -> Option<bool>
+        requires { RaisedIn self.now at.old }
+        ensures { Taken self.now k at.old at.new result }
+    {
+        if k >= self.constraints.len() {
+            return Some(false);
+        }
+        let constraint = &self.constraints[k];
+        let high = usize::from(constraint.high);
+        if high >= self.n {
+            return Some(false);
+        }
+        let due = constraint.due(at);
+        if usize::from(at[high]) >= due {
+            return Some(false);
+        }
+        if due > self.n {
+            return None;
+        }
+        at[high] = due as u16;
+        Some(true)
+    }
+
+    // One pass: each constraint raises its higher number. Whether one rose; none where one would pass n.
+    fn pass(&self, at: &mut [u16; 200], back: bool) -> Option<bool>
+        requires { RaisedIn self.now at.old }
+        ensures { Passed self.now at.old at.new result }
+    {
+        let count = self.constraints.len();
+        let mut rose = false;
+        for i in 0..count {
+            if self.raise(at, place(back, count, i))? {
                 rose = true;
             }
         }
-    }
-    Round {
-        over: false,
-        rose,
-        at,
+        Some(rose)
     }
 }
 
-// Takes constraint k: its higher number is raised to what it asks, unless that is above n.
-fn raise<'a>(
-    at: &mut [u16],
-    n: usize,
-    count: usize,
-    lows: &'a [u16],
-    highs: &'a [u16],
-    gaps: &'a [u8],
-    k: usize,
-)
-    requires n_bound { n ≤ 200 }
-    requires raised { Raised n (listed lows.now highs.now gaps.now count) at.old }
-    ensures { Raised n (listed lows.now highs.now gaps.now count) at.new }
-{
-    if k >= count {
-        return;
-    }
-    let high = arrays::num(highs, k);
-    if high >= n {
-        return;
-    }
-    let due = constraints::due_at(lows, gaps, at, k);
-    if due > n {
-        return;
-    }
-    if arrays::num(at, high) < due {
-        arrays::set_word(at, high, due as u16);
-    }
-}
-
-// No numbers.
-fn nothing() -> Numbers
-    ensures { result ≡ numbers_of (refused 11 0) }
-{
-    Numbers {
-        found: false,
-        at: [0u16; 200],
-    }
-}
-
-// The least numbers, n of them, that meet the first constraints, as many as count says.
-pub fn solve<'a>(
-    n: usize,
-    count: usize,
-    lows: &'a [u16],
-    highs: &'a [u16],
-    gaps: &'a [u8],
-) -> Numbers
-    ensures { result ≡ numbers_of (solved n (listed lows.now highs.now gaps.now count)) }
+// The least numbers, n of them, that meet the constraints.
+pub fn solve(n: usize, constraints: &[Constraint]) -> Option<[u16; 200]>
+    ensures { result ≡ numbers_of (solved n (listed constraints.now)) }
 {
     if 200 < n {
-        return nothing();
+        return None;
     }
-    let mut at = first::first_pass(n, count, lows, highs, gaps);
+    let system = System { n, constraints };
+    let mut at = first::first_pass(&system);
     let mut back = false;
-    loop {
-        let p = pass(n, count, lows, highs, gaps, at, back);
-        if p.over {
-            return nothing();
-        }
-        let raised = p.at;
-        if !p.rose {
-            return Numbers {
-                found: true,
-                at: raised,
-            };
-        }
-        at = raised;
+    while system.pass(&mut at, back)? {
         back = !back;
     }
+    Some(at)
 }

@@ -1,16 +1,15 @@
 -- all_met meets its contract.
-use Rattle.constraints.proofs.Listed.{checks_hit, checks_on, checks_end}
-use Prim.Native.Nat.{ℕ}
-use mathlib.Core.Path.{ap, ◌∙◌}
-use lib.ListN.{get_or}
-use native.Mathlib.Omega.{arith}
+use Rattle.std.proofs.Common.{rules, tests}
+use mathlib.Core.Path.{◌∙◌}
+use Rattle.std.proofs.lemmas.Iterator.{YieldsList-from_slice}
+use Rattle.std.proofs.lemmas.Iterator.Search.{all_from_yields_List}
+use Rattle.model.specs.Chart.{meets}
+use Rattle.constraints.specs.Constraints.{constraint_of}
+use Rattle.constraints.specs.declared.Constraint.{Constraint}
+use Rattle.constraints.proofs.Listed.{all-listed}
 use Rattle.constraints.proofs.all_met.Goals as goal
 
-pub returns-then-num-due_at : goal.returns-then-num-due_at
-returns-then-num-due_at c = checks_hit c.loop-i.invariant c.loop-i-test.true (c.num-in-loop-i.ensures.value ∙ ap (λ (j : ℕ). get_or c.args.at.now j 0) c.num.ensures.value) c.due_at.ensures.value c.if-num-due_at.true
-
-pub loop-i-preserved : goal.loop-i-preserved
-loop-i-preserved c = checks_on c.loop-i.invariant c.loop-i-test.true (c.num-in-loop-i.ensures.value ∙ ap (λ (j : ℕ). get_or c.args.at.now j 0) c.num.ensures.value) c.due_at.ensures.value (omega arith) c.if-num-due_at.false
-
 pub returns : goal.returns
-returns c = checks_end c.loop-i.invariant c.loop-i-test.false
+returns c =
+    let xs = c.args.constraints.now in
+    all_from_yields_List (λ (x : Constraint). meets c.args.at.now (constraint_of x)) _ _ c.all.result c.all.ensures.ran (YieldsList-from_slice xs cc) (λ x b q k. search (rules, tests)) ∙ all-listed c.args.at.now xs

@@ -1,10 +1,9 @@
 -- What the loops of asks_of keep.
-use Prim.Native.Nat.{◌-◌, ◌*◌}
 use Rattle.placement.proofs.Walk.{Walks}
 use Rattle.placement.proofs.asks_of.Given as goal
 
 abbrev pub invariant-loop-u : goal.invariant-loop-u
-invariant-loop-u l = Walks l.starts l.sizes l.entries l.n l.labels l.xlows l.xhighs l.xgaps l.ylows l.yhighs l.ygaps l.marks l.count l.u l.i l.a l.k
+invariant-loop-u l = Walks l.rings.starts.now l.rings.sizes.now l.rings.entries.now l.rings.n l.labels l.x l.y l.marks l.count l.u 0 l.a
 
-abbrev pub decreases-loop-u : goal.decreases-loop-u
-decreases-loop-u l = (l.n - l.u) * 256 - l.i
+abbrev pub invariant-loop-i : goal.invariant-loop-i
+invariant-loop-i l = Walks l.rings.starts.now l.rings.sizes.now l.rings.entries.now l.rings.n l.labels l.x l.y l.marks l.count l.u l.i l.a

@@ -1,35 +1,39 @@
 -- chart_from meets its contract.
 use mathlib.Core.Path.{refl, ◌∙◌}
 use mathlib.Core.Bool.{true, false}
-use borrow.Author.Tests.{not-true, not-false}
-use Rattle.lists.specs.Spans.{zeros}
+use lib.ListN.{take}
 use Rattle.fit.proofs.Fits.{bounds_say}
-use Rattle.placement.proofs.Draw.{chart-not-x, chart-not-y, chart-drawn, axis_at, axis_kept}
+use Rattle.placement.proofs.Draw.{chart-joined, axis-is}
 use Rattle.placement.proofs.chart_from.Goals as goal
 
 pub asks_of-count-requires-clause-n_bound : goal.asks_of-count-requires-clause-n_bound
-unfolding zeros
-asks_of-count-requires-clause-n_bound c = let b = bounds_say c.args.sizes.now c.args.n c.requires.n_value in b.0
+asks_of-count-requires-clause-n_bound c = (bounds_say c.args.rings.now.sizes.now c.args.rings.now.n c.requires.n_value).0
 
 pub asks_of-count-requires-clause-n_bound_2 : goal.asks_of-count-requires-clause-n_bound_2
-unfolding zeros
-asks_of-count-requires-clause-n_bound_2 c = let b = bounds_say c.args.sizes.now c.args.n c.requires.n_value in b.1
+asks_of-count-requires-clause-n_bound_2 c = (bounds_say c.args.rings.now.sizes.now c.args.rings.now.n c.requires.n_value).1
 
-pub asks_of-count-requires-clause-xlows_value : goal.asks_of-count-requires-clause-xlows_value
-unfolding zeros
-asks_of-count-requires-clause-xlows_value c = let b = bounds_say c.args.sizes.now c.args.n c.requires.n_value in (refl, refl, refl)
+pub returns-in_err-xs : goal.returns-in_err-xs
+returns-in_err-xs c =
+    let r = c.args.rings.now in
+    let k = c.asks_of-count.result in
+    let small = (bounds_say r.sizes.now r.n c.requires.n_value).0 in
+    let x = c.in_err-xs.ensures ∙ axis-is r.n (take k c.asks_of-count.new.x) false r.sizes.now r.entries.now c.args.labels.now small c.asks_of-count.ensures.x in
+    c.from_residual.ensures ∙ chart-joined r.sizes.now r.entries.now r.n c.args.labels.now c.requires.n_value x refl
 
-pub asks_of-count-requires-clause-ylows_value : goal.asks_of-count-requires-clause-ylows_value
-unfolding zeros
-asks_of-count-requires-clause-ylows_value c = let b = bounds_say c.args.sizes.now c.args.n c.requires.n_value in (refl, refl, refl)
-
-pub returns-then-not-x : goal.returns-then-not-x
-returns-then-not-x c = c.undrawn.ensures ∙ chart-not-x c.args.sizes.now c.args.entries.now c.args.n c.args.labels.now c.requires.n_value (axis_kept c.args.n c.asks_of-count.new.xlows c.asks_of-count.new.xhighs c.asks_of-count.new.xgaps c.asks_of-count.result false c.args.sizes.now c.args.entries.now c.args.labels.now (bounds_say c.args.sizes.now c.args.n c.requires.n_value).0 c.asks_of-count.ensures.tied c.asks_of-count.ensures.x c.axis_of-x.ensures.at c.axis_of-x.ensures.kept) (not-true _ c.if-not-x.true)
-
-pub returns-then-not-y : goal.returns-then-not-y
-returns-then-not-y c = c.undrawn-then-not-y.ensures ∙ chart-not-y c.args.sizes.now c.args.entries.now c.args.n c.args.labels.now c.requires.n_value (axis_kept c.args.n c.asks_of-count.new.ylows c.asks_of-count.new.yhighs c.asks_of-count.new.ygaps c.asks_of-count.result true c.args.sizes.now c.args.entries.now c.args.labels.now (bounds_say c.args.sizes.now c.args.n c.requires.n_value).0 c.asks_of-count.ensures.tied c.asks_of-count.ensures.y c.axis_of-y.ensures.at c.axis_of-y.ensures.kept) (not-true _ c.if-not-y.true)
+pub returns-in_err-ys : goal.returns-in_err-ys
+returns-in_err-ys c =
+    let r = c.args.rings.now in
+    let k = c.asks_of-count.result in
+    let small = (bounds_say r.sizes.now r.n c.requires.n_value).0 in
+    let x = c.in_ok-xs.ensures ∙ axis-is r.n (take k c.asks_of-count.new.x) false r.sizes.now r.entries.now c.args.labels.now small c.asks_of-count.ensures.x in
+    let y = c.in_err-ys.ensures ∙ axis-is r.n (take k c.asks_of-count.new.y) true r.sizes.now r.entries.now c.args.labels.now small c.asks_of-count.ensures.y in
+    c.from_residual-in_err-ys.ensures ∙ chart-joined r.sizes.now r.entries.now r.n c.args.labels.now c.requires.n_value x y
 
 pub returns : goal.returns
 returns c =
-    c.squared_off.ensures
-    ∙ chart-drawn c.args.sizes.now c.args.entries.now c.args.n c.args.labels.now c.requires.n_value (axis_kept c.args.n c.asks_of-count.new.xlows c.asks_of-count.new.xhighs c.asks_of-count.new.xgaps c.asks_of-count.result false c.args.sizes.now c.args.entries.now c.args.labels.now (bounds_say c.args.sizes.now c.args.n c.requires.n_value).0 c.asks_of-count.ensures.tied c.asks_of-count.ensures.x c.axis_of-x.ensures.at c.axis_of-x.ensures.kept) (not-false _ c.if-not-x.false) (axis_kept c.args.n c.asks_of-count.new.ylows c.asks_of-count.new.yhighs c.asks_of-count.new.ygaps c.asks_of-count.result true c.args.sizes.now c.args.entries.now c.args.labels.now (bounds_say c.args.sizes.now c.args.n c.requires.n_value).0 c.asks_of-count.ensures.tied c.asks_of-count.ensures.y c.axis_of-y.ensures.at c.axis_of-y.ensures.kept) (not-false _ c.if-not-y.false) (axis_at c.args.n c.asks_of-count.new.xlows c.asks_of-count.new.xhighs c.asks_of-count.new.xgaps c.asks_of-count.result false c.args.sizes.now c.args.entries.now c.args.labels.now (bounds_say c.args.sizes.now c.args.n c.requires.n_value).0 c.asks_of-count.ensures.tied c.asks_of-count.ensures.x c.axis_of-x.ensures.at) (axis_at c.args.n c.asks_of-count.new.ylows c.asks_of-count.new.yhighs c.asks_of-count.new.ygaps c.asks_of-count.result true c.args.sizes.now c.args.entries.now c.args.labels.now (bounds_say c.args.sizes.now c.args.n c.requires.n_value).0 c.asks_of-count.ensures.tied c.asks_of-count.ensures.y c.axis_of-y.ensures.at)
+    let r = c.args.rings.now in
+    let k = c.asks_of-count.result in
+    let small = (bounds_say r.sizes.now r.n c.requires.n_value).0 in
+    let x = c.in_ok-xs.ensures ∙ axis-is r.n (take k c.asks_of-count.new.x) false r.sizes.now r.entries.now c.args.labels.now small c.asks_of-count.ensures.x in
+    let y = c.in_ok-ys.ensures ∙ axis-is r.n (take k c.asks_of-count.new.y) true r.sizes.now r.entries.now c.args.labels.now small c.asks_of-count.ensures.y in
+    c.squared_off.ensures ∙ chart-joined r.sizes.now r.entries.now r.n c.args.labels.now c.requires.n_value x y

@@ -1,9 +1,16 @@
 -- is_at meets its contract.
+use mathlib.Core.Path.{ap, ◌∙◌}
+use Prim.Native.Nat.{ℕ}
+use lib.ListN.{get_or}
 use Rattle.placement.proofs.Draw.{stands-yes, stands-no}
 use Rattle.placement.proofs.is_at.Goals as goal
 
-pub returns-then-num-a : goal.returns-then-num-a
-returns-then-num-a c = stands-yes c.args.xs.now c.args.ys.now c.args.u c.args.a c.args.b c.num.ensures.value c.if-num-a.true c.num-then-num-a.ensures.value
+pub returns-then-word-a : goal.returns-then-word-a
+returns-then-word-a c =
+    let p = c.args.drawn.now in
+    stands-yes p.xs p.ys c.args.u c.args.a c.args.b (c.word.ensures ∙ ap (λ (k : ℕ). get_or p.xs k 0) c.from-u.ensures) c.if-word-a.true (c.word-then-word-a.ensures ∙ ap (λ (k : ℕ). get_or p.ys k 0) c.from-u.ensures)
 
-pub returns-else-num-a : goal.returns-else-num-a
-returns-else-num-a c = stands-no c.args.xs.now c.args.ys.now c.args.u c.args.a c.args.b c.num.ensures.value c.if-num-a.false
+pub returns-else-word-a : goal.returns-else-word-a
+returns-else-word-a c =
+    let p = c.args.drawn.now in
+    stands-no p.xs p.ys c.args.u c.args.a c.args.b (c.word.ensures ∙ ap (λ (k : ℕ). get_or p.xs k 0) c.from-u.ensures) c.if-word-a.false

@@ -1,10 +1,10 @@
 -- squared_off meets its contract.
-use Rattle.placement.proofs.Draw.{drawn-no, drawn-yes}
-use mathlib.Core.Path.{refl, ◌∙◌}
+use mathlib.Core.Path.{sym, ◌∙◌}
+use Rattle.placement.proofs.Draw.{squared-yes, squared-no}
 use Rattle.placement.proofs.squared_off.Goals as goal
 
-pub returns-then-not-is_squared : goal.returns-then-not-is_squared
-returns-then-not-is_squared c = c.undrawn.ensures ∙ drawn-no _ c.args.xs c.args.ys c.is_squared.ensures c.if-not-is_squared.true
+pub returns-then-is_squared : goal.returns-then-is_squared
+returns-then-is_squared c = squared-yes c.args.xs c.args.ys (sym c.is_squared.ensures ∙ c.if-is_squared.true) c.from-north.ensures
 
-pub returns : goal.returns
-returns c = drawn-yes _ c.args.xs c.args.ys _ _ c.is_squared.ensures c.if-not-is_squared.false refl refl
+pub returns-else-is_squared : goal.returns-else-is_squared
+returns-else-is_squared c = squared-no c.args.xs c.args.ys (sym c.is_squared.ensures ∙ c.if-is_squared.false)

@@ -1,17 +1,18 @@
 -- solve meets its contract.
+use mathlib.Core.Path.{refl, ap, ◌∙◌}
+use Rattle.std.specs.Prelude.{Some}
+use Rattle.constraints.specs.Constraints.{listed}
 use Rattle.solver.proofs.Relax.{fewer, solved_large, solved-none, solved-found}
-use mathlib.Core.Path.{◌∙◌}
-use borrow.Author.Tests.{not-true, not-false}
 use Rattle.solver.proofs.solve.Goals as goal
 
 pub returns-then-n-gt200 : goal.returns-then-n-gt200
-returns-then-n-gt200 c = c.nothing.ensures ∙ solved_large _ c.args.lows.now c.args.highs.now c.args.gaps.now c.args.count c.if-n-gt200.true
+returns-then-n-gt200 c = solved_large c.args.n (listed c.args.constraints.now) c.if-n-gt200.true
 
-pub returns-then-p : goal.returns-then-p
-returns-then-p c = c.nothing-then-p.ensures ∙ solved-none _ c.args.lows.now c.args.highs.now c.args.gaps.now c.args.count c.if-n-gt200.false (c.pass-p.ensures.none c.if-p.true)
+pub returns-in_err-pass : goal.returns-in_err-pass
+returns-in_err-pass c = let p = c.in_err-pass.ensures in c.from_residual.ensures ∙ solved-none (record { n = c.args.n; constraints = c.args.constraints }) c.if-n-gt200.false (p.none refl)
 
-pub returns-then-not-p : goal.returns-then-not-p
-returns-then-not-p c = solved-found _ c.args.lows.now c.args.highs.now c.args.gaps.now c.args.count _ c.if-n-gt200.false (c.pass-p.ensures.raised c.if-p.false) (c.pass-p.ensures.still c.if-p.false (not-true _ c.if-not-p.true))
+pub loop-back-smaller : goal.loop-back-smaller
+loop-back-smaller c = let p = c.in_ok-pass.ensures in fewer c.loop-back.at p.raised (p.more (ap Some c.if-branch.true))
 
-pub loop-p-smaller : goal.loop-p-smaller
-loop-p-smaller c = fewer c.loop-p.at (c.pass-p.ensures.raised c.if-p.false) (c.pass-p.ensures.more c.if-p.false (not-false _ c.if-not-p.false))
+pub returns : goal.returns
+returns c = let p = c.in_ok-pass.ensures in solved-found (record { n = c.args.n; constraints = c.args.constraints }) c.pass.new.at p.raised (p.still (ap Some c.if-branch.false))

@@ -1,12 +1,11 @@
--- What the loops of solve keep.
-use Rattle.solver.specs.Relaxing.{Raised}
-use Rattle.rings.specs.Tables.{sum_of}
+-- What the loop of solve keeps.
 use Prim.Native.Nat.{◌-◌, ◌*◌}
-use Rattle.constraints.specs.Constraints.{listed}
+use Rattle.rings.specs.Tables.{sum_of}
+use Rattle.solver.specs.Relaxing.{RaisedIn}
 use Rattle.solver.proofs.solve.Given as goal
 
-abbrev pub invariant-loop-p : goal.invariant-loop-p
-invariant-loop-p l = Raised l.n (listed l.lows l.highs l.gaps l.count) l.at
+abbrev pub invariant-loop-back : goal.invariant-loop-back
+invariant-loop-back l = RaisedIn l.system l.at
 
-abbrev pub decreases-loop-p : goal.decreases-loop-p
-decreases-loop-p l = 200 * l.n - sum_of l.at
+abbrev pub decreases-loop-back : goal.decreases-loop-back
+decreases-loop-back l = 200 * l.n - sum_of l.at

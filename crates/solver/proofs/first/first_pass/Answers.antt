@@ -3,5 +3,5 @@ use mathlib.Core.Path.{refl}
 use Rattle.solver.proofs.Relax.{raised-start}
 use Rattle.solver.proofs.first.first_pass.Goals as goal
 
-pub follow-requires-clause-raised : goal.follow-requires-clause-raised
-follow-requires-clause-raised c = let few = c.requires in let ready = c.line_up-ready.ensures in let less = c.lesser-m.ensures in raised-start refl
+pub follow-requires : goal.follow-requires
+follow-requires c = raised-start c.requires refl

@@ -1,13 +1,7 @@
--- What the loops of follow keep.
-use mathlib.Core.Path.{◌≡◌}
-use Prim.Native.Nat.{◌+◌, ◌≤◌}
-use lib.ListN.{length}
-use Rattle.solver.specs.Relaxing.{Raised}
-use Rattle.constraints.specs.Constraints.{listed}
+-- What the loop of follow keeps.
+use Prim.Native.Nat.{◌≤◌}
+use Rattle.solver.specs.Relaxing.{RaisedIn}
 use Rattle.solver.proofs.first.follow.Given as goal
 
-abbrev pub invariant-loop-left : goal.invariant-loop-left
-invariant-loop-left l = ((length l.at ≡ length l.initial.at) × (length l.waits ≡ length l.initial.waits) × (length l.queue ≡ length l.initial.queue)) × ((l.done + l.left ≤ 1388) × (l.queued + l.left ≤ 1588)) × Raised l.n (listed l.lows l.highs l.gaps l.count) l.at
-
-abbrev pub decreases-loop-left : goal.decreases-loop-left
-decreases-loop-left l = l.left
+abbrev pub invariant-loop : goal.invariant-loop
+invariant-loop l = (l.done ≤ l.counter) × RaisedIn l.system l.at
