@@ -15,8 +15,10 @@ use Rattle.lists.proofs.Bools.{and_yes}
 use Rattle.model.specs.Outcome.{Outcome, accepted, refused, ◌>>◌, require}
 use Rattle.model.specs.File.{Cursor, Framed, frame, fits_ring}
 use Rattle.rings.specs.Lent.{words_at}
+use Rattle.std.specs.Prelude.{Option, Some, None, Err, ok_or}
+use Rattle.refusal.specs.declared.Refusal.{Refusal}
+use Rattle.refusal.specs.Refusals.{number_of, place_of}
 use Rattle.framing.specs.declared.Frame.{Frame}
-use Rattle.framing.specs.declared.Frame.TheVariants.{Body, Broken}
 use Rattle.framing.specs.Offsets.{cursor, word_at, frame_at, framed_of}
 
 -- a number of two bytes at the beginning of the rest
@@ -49,6 +51,10 @@ empty_end s at h = rw (drop_of_length-le s h)
 pub empty-before : (s : List ℕ) (at : ℕ) → at < length s → empty (drop at s) ≡ false
 empty-before s at h = rw (drop-cons s at 0 h)
 
+-- a record of this kind with a body of this size
+abbrev pub whole : ℕ → ℕ → Option Frame
+whole k m = Some (record { kind = k; size = m })
+
 -- ---- the record at an offset, framed
 module _ (s : List ℕ) (at : ℕ) where
   abbrev Left : ℕ
@@ -77,7 +83,7 @@ module _ (s : List ℕ) (at : ℕ) where
 
     by_test : (t : Bool) → Whole ≡ t
         → (require t 1 at >> Judged (take (Long - 2) (drop 4 (drop at s)), record { at = at + 2 + Long; rest = drop (2 + Long) (drop at s) }))
-        ≡ framed_of s at kind fits (cond t (Body (word_at s (at + 2)) (Long - 2)) Broken)
+        ≡ framed_of s at kind fits (cond t (whole (word_at s (at + 2)) (Long - 2)) None)
     unfolding framed_of
     by_test false q = refl
     by_test true q =
@@ -97,48 +103,54 @@ module _ (s : List ℕ) (at : ℕ) where
         sym (rw (length-drop, kind-same, long) (by_test Whole refl))
 
   -- each way out of the tests
-  pub at-past : length s < at → Broken ≡ frame_at s at
+  pub at-past : length s < at → None ≡ frame_at s at
   unfolding frame_at
   at-past h = rw (lt-leb 2 Left (omega arith))
 
-  pub at-short : Left < 2 → Broken ≡ frame_at s at
+  pub at-short : Left < 2 → None ≡ frame_at s at
   unfolding frame_at
   at-short h = rw (lt-leb 2 Left h)
 
-  pub at_low : 2 ≤ Left → Long < 2 → Broken ≡ frame_at s at
+  pub at_low : 2 ≤ Left → Long < 2 → None ≡ frame_at s at
   unfolding frame_at
   at_low h l = rw (le-leb 2 Left h, lt-leb 2 Long l)
 
-  pub at_long : 2 ≤ Left → 2 ≤ Long → Left - 2 < Long → Broken ≡ frame_at s at
+  pub at_long : 2 ≤ Left → 2 ≤ Long → Left - 2 < Long → None ≡ frame_at s at
   unfolding frame_at
   at_long h l f = rw (le-leb 2 Left h, le-leb 2 Long l, lt-leb Long (Left - 2) f)
 
-  pub at_whole : 2 ≤ Left → 2 ≤ Long → Long ≤ Left - 2 → Body (word_at s (at + 2)) (Long - 2) ≡ frame_at s at
+  pub at_whole : 2 ≤ Left → 2 ≤ Long → Long ≤ Left - 2 → whole (word_at s (at + 2)) (Long - 2) ≡ frame_at s at
   unfolding frame_at
   at_whole h l f = rw (le-leb 2 Left h, le-leb 2 Long l, le-leb Long (Left - 2) f)
 
 -- ---- what an answer about a record says where one is due
-module _ (s : List ℕ) (at kind : ℕ) (fits : ℕ → Bool) {f : Frame} (is : framed_of s at kind fits f ≡ frame (cursor s at) kind fits) where
-  pub as_broken : f ≡ Broken → refused 1 at ≡ frame (cursor s at) kind fits
+module _ (s : List ℕ) (at kind : ℕ) (fits : ℕ → Bool) {f : Option Frame} (is : framed_of s at kind fits f ≡ frame (cursor s at) kind fits) where
+  pub as_broken : f ≡ None → refused 1 at ≡ frame (cursor s at) kind fits
   unfolding framed_of
   as_broken e = sym (ap (framed_of s at kind fits) e) ∙ is
 
-  module _ (k m : ℕ) (e : f ≡ Body k m) where
-    pub as_whole : k ≡ kind → fits m ≡ true → accepted (stretch s (at + 4) m, cursor s (at + 4 + m)) ≡ frame (cursor s at) kind fits
+  module _ (r : Frame) (e : f ≡ Some r) where
+    pub as_whole : r.kind ≡ kind → fits r.size ≡ true → accepted (stretch s (at + 4) r.size, cursor s (at + 4 + r.size)) ≡ frame (cursor s at) kind fits
     unfolding framed_of
-    as_whole p q = sym (rw (eq-eqb k kind p, q) at (ap (framed_of s at kind fits) e)) ∙ is
+    as_whole p q = sym (rw (eq-eqb r.kind kind p, q) at (ap (framed_of s at kind fits) e)) ∙ is
 
-    pub as_kind : (k ≡ kind → ⊥) → refused 2 at ≡ frame (cursor s at) kind fits
+    pub as_kind : (r.kind ≡ kind → ⊥) → refused 2 at ≡ frame (cursor s at) kind fits
     unfolding framed_of
-    as_kind n = sym (rw (ne_eqb k kind n) at (ap (framed_of s at kind fits) e)) ∙ is
+    as_kind n = sym (rw (ne_eqb r.kind kind n) at (ap (framed_of s at kind fits) e)) ∙ is
 
-    pub as_size : fits m ≡ false → refused 2 at ≡ frame (cursor s at) kind fits
+    pub as_size : fits r.size ≡ false → refused 2 at ≡ frame (cursor s at) kind fits
     unfolding framed_of
-    as_size q = sym (ap (framed_of s at kind fits) e ∙ rw q (go (eqb k kind) (stretch s (at + 4) m, cursor s (at + 4 + m)))) ∙ is
+    as_size q = sym (ap (framed_of s at kind fits) e ∙ rw q (go (eqb r.kind kind) (stretch s (at + 4) r.size, cursor s (at + 4 + r.size)))) ∙ is
       where
         go : (t : Bool) (g : Framed) → (require (t && false) 2 at >> accepted g) ≡ refused 2 at
         go true g = refl
         go false g = refl
+
+-- the refusal of an offset where there is no record
+pub told_broken : {f : Option Frame} {e : Refusal} (at : ℕ) → f ≡ None → Err e ≡ ok_or f (Refusal.BrokenRecord at) → ◌≡◌ {A = Outcome Framed} (refused (number_of e) (place_of e)) (refused 1 at)
+told_broken {f} {e} at n q =
+    let same : e ≡ Refusal.BrokenRecord at = let r = q ∙ ap (λ (g : Option Frame). ok_or g (Refusal.BrokenRecord at)) n in cc in
+    ap {B = Outcome Framed} (λ (r : Refusal). refused (number_of r) (place_of r)) same
 
 -- ---- the size of a ring's body
 pub ring_odd : (n m : ℕ) → (m % 2 ≡ 0 → ⊥) → fits_ring n m ≡ false

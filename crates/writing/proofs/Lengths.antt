@@ -1,5 +1,5 @@
 -- The length of each part of a file.
-use Prim.Native.Nat.{ℕ, zero, suc, ◌+◌, ◌*◌}
+use Prim.Native.Nat.{ℕ, zero, suc, ◌+◌, ◌*◌, ◌≤◌, ◌<◌}
 use mathlib.Core.Path.{◌≡◌, refl, sym, ap, ◌∙◌}
 use mathlib.Core.List.{List, [], ◌∷◌, ◌++◌, map}
 use native.Mathlib.Omega.{arith}
@@ -14,9 +14,20 @@ use Rattle.model.specs.Plan.{count}
 use Rattle.model.specs.File.{entry, points, chart_out, rings_out, plan_out, encode}
 use Rattle.rings.specs.Tables.{start_of, starts_of, rows, table, held}
 use Rattle.rings.proofs.Rows.{start_first, start-more}
-use Rattle.writing.specs.Files.{kept, darts_held, labels_held, chart_held, sheet_held}
+use Rattle.std.proofs.Common.{Bor}
+use Rattle.rings.specs.declared.Table.{Table}
+use Rattle.writing.specs.Files.{kept, darts_held, labels_held, chart_held, plan_held, chart_of, sheet_with}
+use Rattle.charts.specs.declared.Points.{Points}
 use Rattle.writing.specs.declared.Parts.{Parts}
-use Rattle.writing.specs.declared.Parts.TheVariants.{PlanOnly, WithLabels, WithChart}
+
+-- rings whose sizes are bytes have few entries
+pub start-most : (s : List ℕ) (n : ℕ) → ((u : ℕ) → get_or s u 0 < 256) → start_of s n ≤ 255 * n
+start-most s zero h = let z = start_first s in omega arith
+start-most s (suc n) h =
+    let r = start-most s n h in
+    let m = start-more s n in
+    let b = h n in
+    omega arith
 
 -- the records of rings: four bytes and two for each entry
 length-rings : (f : ℕ → List ℕ) (sizes : List ℕ) → ((u : ℕ) → length (f u) ≡ get_or sizes u 0) → (u k : ℕ)
@@ -75,32 +86,34 @@ length-chart w h xs ys n k q =
     let l = length-entry 4 (bytes (chart_out (chart_held w h xs ys n))) in
     omega arith
 
--- ---- the parts of a file
--- the records of the plan
-abbrev pub plan_part : ℕ → List ℕ → List ℕ → List ℕ
-plan_part n sizes es = plan_out (held sizes es n)
+-- ---- the whole file, by its parts
+module _ (t : Table) where
+  -- the records of the plan
+  abbrev pub plan_part : List ℕ
+  plan_part = plan_out (plan_held t)
 
--- the record of the labels
-abbrev pub labels_part : ℕ → List ℕ → List ℕ → List ℕ
-labels_part n sizes ls = entry 3 (labels_held sizes ls n)
+  -- the record of the labels
+  abbrev pub labels_part : List ℕ → List ℕ
+  labels_part ls = entry 3 (labels_held t.sizes.now ls t.n)
 
--- the record of the chart
-abbrev pub chart_part : ℕ → ℕ → ℕ → List ℕ → List ℕ → List ℕ
-chart_part n w h xs ys = entry 4 (bytes (chart_out (chart_held w h xs ys n)))
+  -- the record of the chart
+  abbrev pub chart_part : Points → List ℕ
+  chart_part c = entry 4 (bytes (chart_out (chart_of c t.n)))
 
--- the whole file, by its parts
-module _ (n : ℕ) (sizes es ls : List ℕ) (w h : ℕ) (xs ys : List ℕ) where
   abbrev Long : Parts → ℕ
-  Long parts = length (encode (sheet_held parts n sizes es ls w h xs ys))
+  Long parts = length (encode (sheet_with t parts))
 
-  pub length-opened : {parts : Parts} {p : ℕ} → parts ≡ PlanOnly → p ≡ length (plan_part n sizes es) → p ≡ Long parts
-  unfolding encode sheet_held
+  pub length-opened : {parts : Parts} {p : ℕ} → parts ≡ Parts.Plan → p ≡ length plan_part → p ≡ Long parts
+  unfolding encode
   length-opened q e = e ∙ ap Long (sym q)
 
-  pub length-labelled : {parts : Parts} {p l : ℕ} → parts ≡ WithLabels → p ≡ length (plan_part n sizes es) → l ≡ length (labels_part n sizes ls) → p + l ≡ Long parts
-  unfolding encode sheet_held
-  length-labelled q e f = (λ i. e i + f i) ∙ sym (length-append (plan_part n sizes es) (labels_part n sizes ls)) ∙ ap Long (sym q)
+  pub length-labelled : {parts : Parts} {ls : Bor (List ℕ)} {p l : ℕ} → parts ≡ Parts.Labels ls → p ≡ length plan_part → l ≡ length (labels_part ls.now) → p + l ≡ Long parts
+  unfolding encode
+  length-labelled {ls = ls} q e f = (λ i. e i + f i) ∙ sym (length-append plan_part (labels_part ls.now)) ∙ ap Long (sym q)
 
-  pub length-charted : {parts : Parts} {p l c : ℕ} → parts ≡ WithChart → p ≡ length (plan_part n sizes es) → l ≡ length (labels_part n sizes ls) → c ≡ length (chart_part n w h xs ys) → p + l + c ≡ Long parts
-  unfolding encode sheet_held
-  length-charted q e f g = (λ i. e i + f i + g i) ∙ (λ i. sym (length-append (plan_part n sizes es) (labels_part n sizes ls)) i + length (chart_part n w h xs ys)) ∙ sym (length-append (plan_part n sizes es ++ labels_part n sizes ls) (chart_part n w h xs ys)) ∙ ap Long (sym q)
+  pub length-charted : {parts : Parts} {ls : Bor (List ℕ)} {d : Points} {p l c : ℕ} → parts ≡ Parts.Chart ls d → p ≡ length plan_part → l ≡ length (labels_part ls.now) → c ≡ length (chart_part d) → p + l + c ≡ Long parts
+  unfolding encode
+  length-charted {ls = ls} {d} q e f g =
+      let ps = plan_part in
+      let lp = labels_part ls.now in
+      (λ i. e i + f i + g i) ∙ (λ i. sym (length-append ps lp) i + length (chart_part d)) ∙ sym (length-append (ps ++ lp) (chart_part d)) ∙ ap Long (sym q)

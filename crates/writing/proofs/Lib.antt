@@ -1,4 +1,4 @@
 pub mod Emits
 pub mod Lengths
 pub mod Pieces
-pub mod Held
+pub mod Kept

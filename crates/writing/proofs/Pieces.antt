@@ -15,14 +15,16 @@ use Rattle.lists.proofs.Spans.{length-stretch}
 use Rattle.lists.proofs.Words.{length-bytes}
 use Rattle.model.specs.Outcome.{Outcome, accepted, refused}
 use Rattle.model.specs.Plan.{count}
-use Rattle.model.specs.File.{Sheet, entry, points, chart_out, rings_out, plan_out, encode}
+use Rattle.model.specs.File.{entry, points, chart_out, rings_out, plan_out, encode}
 use Rattle.model.specs.Calls.{plan_of, write_call}
 use Rattle.rings.specs.Tables.{start_of, starts_of, rows, table, held}
 use Rattle.rings.proofs.Rows.{count-rows}
-use Rattle.writing.specs.Files.{kept, darts_held, labels_held, chart_held, sheet_held, outcome_of, buffer_after}
+use Rattle.std.proofs.Common.{Bor, Ok, Err}
+use Rattle.refusal.specs.declared.Refusal.TheVariants as Refusal
+use Rattle.rings.specs.declared.Table.{Table}
+use Rattle.writing.specs.Files.{kept, darts_held, labels_held, chart_held, sheet_with, outcome_of, buffer_after}
+use Rattle.charts.specs.declared.Points.{Points}
 use Rattle.writing.specs.declared.Parts.{Parts}
-use Rattle.writing.specs.declared.Parts.TheVariants.{PlanOnly, WithLabels, WithChart}
-use Rattle.writing.specs.declared.Written.TheVariants.{Length, Short}
 use Rattle.writing.proofs.Emits.{sets_append, sets_front, bytes_two, bytes-cons}
 use Rattle.writing.proofs.Lengths.{length-body, plan_part, labels_part, chart_part}
 
@@ -100,48 +102,53 @@ chart_join d i w h xs ys n k {d₁} {d₂} {d₃} {e} {i₁} {i₂} {i₃} q p�
     whole pts = sym (append_assoc (bytes (w ∷ [])) (bytes (h ∷ [])) (bytes pts)) ∙ ap (λ (l : List ℕ). l ++ bytes pts) (sym (bytes-cons w (h ∷ [])))
 
 -- ---- the whole file
-module _ (n : ℕ) (sizes es ls : List ℕ) (w h : ℕ) (xs ys : List ℕ) where
-  abbrev Held : Parts → Sheet
-  Held parts = sheet_held parts n sizes es ls w h xs ys
+module _ (t : Table) where
+  abbrev File : Parts → List ℕ
+  File parts = encode (sheet_with t parts)
 
-  pub opened_join : (d : List ℕ) {parts : Parts} {d₁ : List ℕ} → parts ≡ PlanOnly → d₁ ≡ sets d 0 (plan_part n sizes es) → d₁ ≡ sets d 0 (encode (Held parts))
-  unfolding encode sheet_held
-  opened_join d is p = p ∙ ap (λ (s : Parts). sets d 0 (encode (Held s))) (sym is)
+  pub opened_join : (d : List ℕ) {parts : Parts} {d₁ : List ℕ} → parts ≡ Parts.Plan → d₁ ≡ sets d 0 (plan_part t) → d₁ ≡ sets d 0 (File parts)
+  unfolding encode
+  opened_join d is p = p ∙ ap (λ (s : Parts). sets d 0 (File s)) (sym is)
 
-  pub labelled_join : (d : List ℕ) {parts : Parts} {d₁ d₂ : List ℕ} {k : ℕ} → parts ≡ WithLabels → d₁ ≡ sets d 0 (plan_part n sizes es) → k ≡ length (plan_part n sizes es) → d₂ ≡ sets d₁ k (labels_part n sizes ls) → d₂ ≡ sets d 0 (encode (Held parts))
-  unfolding encode sheet_held
-  labelled_join d is p a q = sets_join d 0 (plan_part n sizes es) (labels_part n sizes ls) p (omega arith) q ∙ ap (λ (s : Parts). sets d 0 (encode (Held s))) (sym is)
+  pub labelled_join : (d : List ℕ) {parts : Parts} {ls : Bor (List ℕ)} {d₁ d₂ : List ℕ} {k : ℕ} → parts ≡ Parts.Labels ls → d₁ ≡ sets d 0 (plan_part t) → k ≡ length (plan_part t) → d₂ ≡ sets d₁ k (labels_part t ls.now) → d₂ ≡ sets d 0 (File parts)
+  unfolding encode
+  labelled_join d {ls = ls} is p a q = sets_join d 0 (plan_part t) (labels_part t ls.now) p (omega arith) q ∙ ap (λ (s : Parts). sets d 0 (File s)) (sym is)
 
-  pub charted_join : (d : List ℕ) {parts : Parts} {d₁ d₂ d₃ : List ℕ} {k m : ℕ} → parts ≡ WithChart → d₁ ≡ sets d 0 (plan_part n sizes es) → k ≡ length (plan_part n sizes es) → d₂ ≡ sets d₁ k (labels_part n sizes ls) → m ≡ length (labels_part n sizes ls) → d₃ ≡ sets d₂ (k + m) (chart_part n w h xs ys) → d₃ ≡ sets d 0 (encode (Held parts))
-  unfolding encode sheet_held
-  charted_join d is p a q b r = let s = length-append (plan_part n sizes es) (labels_part n sizes ls) in sets_join d 0 (plan_part n sizes es ++ labels_part n sizes ls) (chart_part n w h xs ys) (sets_join d 0 (plan_part n sizes es) (labels_part n sizes ls) p (omega arith) q) (omega arith) r ∙ ap (λ (t : Parts). sets d 0 (encode (Held t))) (sym is)
+  pub charted_join : (d : List ℕ) {parts : Parts} {ls : Bor (List ℕ)} {c : Points} {d₁ d₂ d₃ : List ℕ} {k m : ℕ} → parts ≡ Parts.Chart ls c → d₁ ≡ sets d 0 (plan_part t) → k ≡ length (plan_part t)
+      → d₂ ≡ sets d₁ k (labels_part t ls.now) → m ≡ length (labels_part t ls.now) → d₃ ≡ sets d₂ (k + m) (chart_part t c) → d₃ ≡ sets d 0 (File parts)
+  unfolding encode
+  charted_join d {ls = ls} {c} is p a q b r =
+      let ps = plan_part t in
+      let lp = labels_part t ls.now in
+      let s = length-append ps lp in
+      sets_join d 0 (ps ++ lp) (chart_part t c) (sets_join d 0 ps lp p (omega arith) q) (omega arith) r ∙ ap (λ (v : Parts). sets d 0 (File v)) (sym is)
 
   -- a sheet that has a plan is written where the buffer is long enough, and else refused
-  pub written : (parts : Parts) (d : List ℕ) → length (encode (Held parts)) ≤ length d → write_call (Held parts) d ≡ accepted (length (encode (Held parts)), encode (Held parts) ++ drop (length (encode (Held parts))) d)
-  unfolding write_call sheet_held plan_of
-  written PlanOnly d h = rw (le-leb _ _ h)
-  written WithLabels d h = rw (le-leb _ _ h)
-  written WithChart d h = rw (le-leb _ _ h)
+  pub written : (parts : Parts) (d : List ℕ) → length (File parts) ≤ length d → write_call (sheet_with t parts) d ≡ accepted (length (File parts), File parts ++ drop (length (File parts)) d)
+  unfolding write_call plan_of
+  written Parts.Plan d h = rw (le-leb _ _ h)
+  written (Parts.Labels ls) d h = rw (le-leb _ _ h)
+  written (Parts.Chart ls c) d h = rw (le-leb _ _ h)
 
-  pub short : (parts : Parts) (d : List ℕ) → length d < length (encode (Held parts)) → write_call (Held parts) d ≡ refused 16 (length (encode (Held parts)))
-  unfolding write_call sheet_held plan_of
-  short PlanOnly d h = rw (lt-leb _ _ h)
-  short WithLabels d h = rw (lt-leb _ _ h)
-  short WithChart d h = rw (lt-leb _ _ h)
+  pub short : (parts : Parts) (d : List ℕ) → length d < length (File parts) → write_call (sheet_with t parts) d ≡ refused 16 (length (File parts))
+  unfolding write_call plan_of
+  short Parts.Plan d h = rw (lt-leb _ _ h)
+  short (Parts.Labels ls) d h = rw (lt-leb _ _ h)
+  short (Parts.Chart ls c) d h = rw (lt-leb _ _ h)
 
   -- the answer and the buffer of a call that is accepted, and of one that is refused
-  module _ (parts : Parts) (d : List ℕ) {k : ℕ} (long : k ≡ length (encode (Held parts))) where
-    pub accepted_answer : {e : List ℕ} → k ≤ length d → e ≡ sets d 0 (encode (Held parts)) → (outcome_of (Length k) e ≡ write_call (Held parts) d) × (e ≡ buffer_after (write_call (Held parts) d) d)
+  module _ (parts : Parts) (d : List ℕ) {k : ℕ} (long : k ≡ length (File parts)) where
+    pub accepted_answer : {e : List ℕ} → k ≤ length d → e ≡ sets d 0 (File parts) → (outcome_of (Ok k) e ≡ write_call (sheet_with t parts) d) × (e ≡ buffer_after (write_call (sheet_with t parts) d) d)
     unfolding outcome_of buffer_after
     accepted_answer {e} h p =
-        let f = encode (Held parts) in
+        let f = File parts in
         let room : length f ≤ length d = omega arith in
         let same : e ≡ f ++ drop (length f) d = p ∙ sets_front d f room in
         (sym (written parts d room ∙ (λ i. accepted (sym long i, sym same i))), same ∙ ap (λ (o : Outcome (ℕ × List ℕ)). buffer_after o d) (sym (written parts d room)))
 
-    pub refused_answer : length d < k → (outcome_of (Short k) d ≡ write_call (Held parts) d) × (d ≡ buffer_after (write_call (Held parts) d) d)
+    pub refused_answer : length d < k → (outcome_of (Err (Refusal.ShortBuffer k)) d ≡ write_call (sheet_with t parts) d) × (d ≡ buffer_after (write_call (sheet_with t parts) d) d)
     unfolding outcome_of buffer_after
     refused_answer h =
-        let f = encode (Held parts) in
+        let f = File parts in
         let none : length d < length f = omega arith in
         (sym (short parts d none ∙ (λ i. refused 16 (sym long i))), ap (λ (o : Outcome (ℕ × List ℕ)). buffer_after o d) (sym (short parts d none)))

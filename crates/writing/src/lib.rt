@@ -7,22 +7,28 @@ ghost use Rattle.lists.specs.Spans.{stretch};
 ghost use Rattle.lists.specs.Words.{bytes};
 ghost use Rattle.model.specs.File.{entry, points, chart_out, rings_out, plan_out, encode};
 ghost use Rattle.model.specs.Calls.{write_call};
-ghost use Rattle.rings.specs.Tables.{table, held};
-ghost use Rattle.writing.specs.Files.{kept, darts_held, labels_held, chart_held, sheet_held, outcome_of, buffer_after};
+ghost use Rattle.records.specs.Records.{number_of};
+ghost use Rattle.rings.specs.Tables.{table};
+ghost use Rattle.writing.specs.Files.{kept, darts_held, labels_held, plan_held, chart_of, sheet_held, outcome_of, buffer_after};
 
-// The parts that a file has.
+use charts::Points;
+use records::Record;
+use refusal::Refusal;
+use rings::Table;
+
+// What follows the plan in a file: nothing, labels, or labels and a chart.
 #[derive(Clone, Copy)]
-pub enum Parts {
-    PlanOnly,
-    WithLabels,
-    WithChart,
+pub enum Parts<'a> {
+    Plan,
+    Labels { labels: &'a [u8] },
+    Chart { labels: &'a [u8], drawn: Points<'a> },
 }
 
-// The file's length, or the bytes needed where the buffer is short.
+// What is written: a plan in flat arrays, and what follows it.
 #[derive(Clone, Copy)]
-pub enum Written {
-    Length(usize),
-    Short(usize),
+pub struct Held<'a> {
+    pub plan: Table<'a>,
+    pub parts: Parts<'a>,
 }
 
 // How many contexts are written.
@@ -30,7 +36,7 @@ fn kept_of(n: usize) -> usize
     ensures value { result ≡ kept n }
     ensures upper_bound { result ≤ 200 }
 {
-    if n < 200 { n } else { 200 }
+    n.min(200)
 }
 
 // How many darts the rings have.
@@ -38,50 +44,31 @@ fn darts_of(sizes: &[u8], n: usize) -> usize
     ensures value { result ≡ darts_held sizes.now n }
     ensures upper_bound { result ≤ 51000 }
 {
-    let e = kept_of(n);
-    let mut sum = 0;
-    let mut u = 0;
-    while u < e {
-        sum += arrays::byte(sizes, u);
-        u += 1;
-    }
-    sum
+    fit::total_of(sizes, n)
 }
 
 // The length of the plan's records.
-fn plan_length(sizes: &[u8], n: usize) -> usize
-    ensures by_index { (es : List ℕ) → result ≡ length (plan_out (held sizes.now es n)) }
+fn plan_length(plan: &Table) -> usize
+    ensures value { result ≡ length (plan_out (plan_held plan.now)) }
     ensures upper_bound { result < 2 ^ 17 }
 {
-    6 + 4 * kept_of(n) + 2 * darts_of(sizes, n)
+    6 + 4 * kept_of(plan.n) + 2 * darts_of(plan.sizes, plan.n)
 }
 
 // The length of the record of the labels.
-fn labels_length(sizes: &[u8], n: usize) -> usize
-    ensures by_index { (ls : List ℕ) → result ≡ length (entry 3 (labels_held sizes.now ls n)) }
+fn labels_length(plan: &Table) -> usize
+    ensures by_index { (ls : List ℕ) → result ≡ length (entry 3 (labels_held plan.now.sizes.now ls plan.now.n)) }
     ensures upper_bound { result < 2 ^ 16 }
 {
-    4 + darts_of(sizes, n)
+    4 + darts_of(plan.sizes, plan.n)
 }
 
-// The length of the record of the chart.
-fn chart_length(n: usize) -> usize
-    ensures by_index { (w : ℕ) (h : ℕ) (xs : List ℕ) (ys : List ℕ) → result ≡ length (entry 4 (bytes (chart_out (chart_held w h xs ys n)))) }
+// The length of the record of the chart of n contexts.
+fn chart_length(drawn: &Points, n: usize) -> usize
+    ensures value { result ≡ length (entry 4 (bytes (chart_out (chart_of drawn.now n)))) }
     ensures upper_bound { result < 2 ^ 10 }
 {
     8 + 4 * kept_of(n)
-}
-
-// The length of the file.
-fn file_length(parts: Parts, n: usize, sizes: &[u8]) -> usize
-    ensures { (es : List ℕ) (ls : List ℕ) (w : ℕ) (h : ℕ) (xs : List ℕ) (ys : List ℕ) → result ≡ length (encode (sheet_held parts n sizes.now es ls w h xs ys)) }
-{
-    let plan = plan_length(sizes, n);
-    match parts {
-        Parts::PlanOnly => plan,
-        Parts::WithLabels => plan + labels_length(sizes, n),
-        Parts::WithChart => plan + labels_length(sizes, n) + chart_length(n),
-    }
 }
 
 // A byte at a place of the buffer; a place outside it is passed over.
@@ -89,9 +76,7 @@ fn put_byte(out: &mut [u8], at: usize, x: usize)
     requires { x < 2 ^ 8 }
     ensures { out.new ≡ set out.old at x }
 {
-    if at < out.len() {
-        out[at] = x as u8;
-    }
+    arrays::put(out, at, x as u8);
 }
 
 // A number in two bytes, little-endian.
@@ -108,10 +93,8 @@ fn put_words(out: &mut [u8], at: usize, a: &[u16], i: usize, k: usize)
     requires { (at < 2 ^ 39) × (i < 2 ^ 39) × (k < 2 ^ 16) }
     ensures { out.new ≡ sets out.old at (bytes (stretch a.now i k)) }
 {
-    let mut j = 0;
-    while j < k {
+    for j in 0..k {
         put_word(out, at + 2 * j, arrays::num(a, i + j));
-        j += 1;
     }
 }
 
@@ -120,33 +103,29 @@ fn put_bytes(out: &mut [u8], at: usize, a: &[u8], k: usize)
     requires { (at < 2 ^ 39) × (k < 2 ^ 16) }
     ensures { out.new ≡ sets out.old at (stretch a.now 0 k) }
 {
-    let mut i = 0;
-    while i < k {
-        put_byte(out, at + i, arrays::byte(a, i));
-        i += 1;
+    for i in 0..k {
+        put_byte(out, at + i, arrays::num(a, i));
     }
 }
 
-// A number of xs and a number of ys in turn, k times, two bytes each.
-fn put_points<'a>(out: &mut [u8], at: usize, xs: &'a [u16], ys: &'a [u16], k: usize)
+// The first k points, x before y, two bytes each.
+fn put_points(out: &mut [u8], at: usize, drawn: &Points, k: usize)
     requires { (at < 2 ^ 38) × (k < 2 ^ 16) }
-    ensures { out.new ≡ sets out.old at (bytes (points (stretch xs.now 0 k) (stretch ys.now 0 k))) }
+    ensures { out.new ≡ sets out.old at (bytes (points (stretch drawn.now.xs.now 0 k) (stretch drawn.now.ys.now 0 k))) }
 {
-    let mut j = 0;
-    while j < k {
-        put_word(out, at + 4 * j, arrays::num(xs, j));
-        put_word(out, at + 4 * j + 2, arrays::num(ys, j));
-        j += 1;
+    for j in 0..k {
+        put_word(out, at + 4 * j, arrays::num(drawn.xs, j));
+        put_word(out, at + 4 * j + 2, arrays::num(drawn.ys, j));
     }
 }
 
 // A record's head: its length, counting the kind and a body of k bytes, and its kind.
-fn put_head(out: &mut [u8], at: usize, kind: usize, k: usize)
-    requires { (at < 2 ^ 39) × (kind < 2 ^ 16) × (2 + k < 2 ^ 16) }
-    ensures { out.new ≡ sets out.old at (bytes ((2 + k) ∷ kind ∷ [])) }
+fn put_head(out: &mut [u8], at: usize, kind: Record, k: usize)
+    requires { (at < 2 ^ 39) × (2 + k < 2 ^ 16) }
+    ensures { out.new ≡ sets out.old at (bytes ((2 + k) ∷ number_of kind ∷ [])) }
 {
     put_word(out, at, 2 + k);
-    put_word(out, at + 2, kind);
+    put_word(out, at + 2, kind.number());
 }
 
 // The record of a ring of k entries, which begin at i.
@@ -154,106 +133,98 @@ fn put_ring(out: &mut [u8], at: usize, entries: &[u16], i: usize, k: usize)
     requires { (at < 2 ^ 38) × (i < 2 ^ 39) × (k < 2 ^ 8) }
     ensures { out.new ≡ sets out.old at (entry 2 (bytes (stretch entries.now i k))) }
 {
-    put_head(out, at, 2, 2 * k);
+    put_head(out, at, Record::Ring, 2 * k);
     put_words(out, at + 4, entries, i, k);
 }
 
-// The records of the rings of n contexts.
-fn put_rings<'a>(out: &mut [u8], at: usize, sizes: &'a [u8], entries: &'a [u16], n: usize)
+// The records of the rings of the first n contexts.
+fn put_rings(out: &mut [u8], at: usize, plan: &Table, n: usize)
     requires { (at < 2 ^ 37) × (n ≤ 200) }
-    ensures { out.new ≡ sets out.old at (rings_out (table sizes.now entries.now n).rings) }
+    ensures { out.new ≡ sets out.old at (rings_out (table plan.now.sizes.now plan.now.entries.now n).rings) }
 {
     let mut i = 0;
-    let mut u = 0;
-    while u < n {
-        let k = arrays::byte(sizes, u);
-        put_ring(out, at + 4 * u + 2 * i, entries, i, k);
+    for u in 0..n {
+        let k = arrays::num(plan.sizes, u);
+        put_ring(out, at + 4 * u + 2 * i, plan.entries, i, k);
         i += k;
-        u += 1;
     }
 }
 
 // The plan's records from a place of the buffer on; bytes outside it are passed over.
-fn write_plan<'a>(out: &mut [u8], at: u32, n: usize, sizes: &'a [u8], entries: &'a [u16])
-    ensures { out.new ≡ sets out.old at (plan_out (held sizes.now entries.now n)) }
+fn put_plan(out: &mut [u8], at: usize, plan: &Table)
+    requires { at < 2 ^ 36 }
+    ensures { out.new ≡ sets out.old at (plan_out (plan_held plan.now)) }
 {
-    let to = at as usize;
-    let count = kept_of(n);
-    put_head(out, to, 1, 2);
-    put_word(out, to + 4, count);
-    put_rings(out, to + 6, sizes, entries, count);
+    let count = kept_of(plan.n);
+    put_head(out, at, Record::Contexts, 2);
+    put_word(out, at + 4, count);
+    put_rings(out, at + 6, plan, count);
 }
 
 // The record of the labels from a place of the buffer on; bytes outside it are passed over.
-fn write_labels<'a>(out: &mut [u8], at: u32, n: usize, sizes: &'a [u8], labels: &'a [u8])
-    ensures { out.new ≡ sets out.old at (entry 3 (labels_held sizes.now labels.now n)) }
+fn put_labels(out: &mut [u8], at: usize, plan: &Table, labels: &[u8])
+    requires { at < 2 ^ 36 }
+    ensures { out.new ≡ sets out.old at (entry 3 (labels_held plan.now.sizes.now labels.now plan.now.n)) }
 {
-    let to = at as usize;
-    let k = darts_of(sizes, n);
-    put_head(out, to, 3, k);
-    put_bytes(out, to + 4, labels, k);
+    let k = darts_of(plan.sizes, plan.n);
+    put_head(out, at, Record::Labels, k);
+    put_bytes(out, at + 4, labels, k);
 }
 
-// The record of the chart from a place of the buffer on; bytes outside it are passed over.
-fn write_chart<'a>(out: &mut [u8], at: u32, n: usize, w: u16, h: u16, xs: &'a [u16], ys: &'a [u16])
-    ensures { out.new ≡ sets out.old at (entry 4 (bytes (chart_out (chart_held w h xs.now ys.now n)))) }
+// The record of the chart of n contexts from a place of the buffer on; bytes outside it are passed over.
+fn put_chart(out: &mut [u8], at: usize, drawn: &Points, n: usize)
+    requires { at < 2 ^ 36 }
+    ensures { out.new ≡ sets out.old at (entry 4 (bytes (chart_out (chart_of drawn.now n)))) }
 {
-    let to = at as usize;
     let k = kept_of(n);
-    put_head(out, to, 4, 4 + 4 * k);
-    put_word(out, to + 4, w as usize);
-    put_word(out, to + 6, h as usize);
-    put_points(out, to + 8, xs, ys, k);
+    put_head(out, at, Record::Chart, 4 + 4 * k);
+    put_word(out, at + 4, usize::from(drawn.w));
+    put_word(out, at + 6, usize::from(drawn.h));
+    put_points(out, at + 8, drawn, k);
 }
 
-// The whole file from the buffer's beginning on; bytes outside the buffer are passed over.
-fn put_file<'a>(
-    out: &mut [u8],
-    parts: Parts,
-    n: usize,
-    sizes: &'a [u8],
-    entries: &'a [u16],
-    labels: &'a [u8],
-    w: u16,
-    h: u16,
-    xs: &'a [u16],
-    ys: &'a [u16],
-)
-    ensures { out.new ≡ sets out.old 0 (encode (sheet_held parts n sizes.now entries.now labels.now w h xs.now ys.now)) }
-{
-    write_plan(out, 0, n, sizes, entries);
-    let plan = plan_length(sizes, n);
-    match parts {
-        Parts::PlanOnly => {}
-        Parts::WithLabels => write_labels(out, plan as u32, n, sizes, labels),
-        Parts::WithChart => {
-            write_labels(out, plan as u32, n, sizes, labels);
-            let end = plan + labels_length(sizes, n);
-            write_chart(out, end as u32, n, w, h, xs, ys);
+impl<'a> Held<'a> {
+    // The length of the file.
+    fn length(&self) -> usize
+        ensures { result ≡ length (encode (sheet_held self.now)) }
+    {
+        let plan = plan_length(&self.plan);
+        match self.parts {
+            Parts::Plan => plan,
+            Parts::Labels { .. } => plan + labels_length(&self.plan),
+            Parts::Chart { drawn, .. } => {
+                plan + labels_length(&self.plan) + chart_length(&drawn, self.plan.n)
+            }
+        }
+    }
+
+    // The whole file from the buffer's beginning on; bytes outside the buffer are passed over.
+    fn put(&self, out: &mut [u8])
+        ensures { out.new ≡ sets out.old 0 (encode (sheet_held self.now)) }
+    {
+        put_plan(out, 0, &self.plan);
+        let plan = plan_length(&self.plan);
+        match self.parts {
+            Parts::Plan => {}
+            Parts::Labels { labels } => put_labels(out, plan, &self.plan, labels),
+            Parts::Chart { labels, drawn } => {
+                put_labels(out, plan, &self.plan, labels);
+                let end = plan + labels_length(&self.plan);
+                put_chart(out, end, &drawn, self.plan.n);
+            }
         }
     }
 }
 
-// The file of the sheet that the arrays hold; a buffer that is short stays as it is, and so do the bytes after the file.
-pub fn write_file<'a>(
-    out: &mut [u8],
-    parts: Parts,
-    n: usize,
-    sizes: &'a [u8],
-    entries: &'a [u16],
-    labels: &'a [u8],
-    w: u16,
-    h: u16,
-    xs: &'a [u16],
-    ys: &'a [u16],
-) -> Written
-    ensures out_after { outcome_of result out.new ≡ write_call (sheet_held parts n sizes.now entries.now labels.now w h xs.now ys.now) out.old }
-    ensures out_after_2 { out.new ≡ buffer_after (write_call (sheet_held parts n sizes.now entries.now labels.now w h xs.now ys.now) out.old) out.old }
+// The file of what is held, into the buffer: its length. A buffer that is short stays as it is, and so do the bytes after the file.
+pub fn write_file(out: &mut [u8], held: &Held) -> Result<usize, Refusal>
+    ensures out_after { outcome_of result out.new ≡ write_call (sheet_held held.now) out.old }
+    ensures out_after_2 { out.new ≡ buffer_after (write_call (sheet_held held.now) out.old) out.old }
 {
-    let need = file_length(parts, n, sizes);
+    let need = held.length();
     if out.len() < need {
-        return Written::Short(need);
+        return Err(Refusal::ShortBuffer(need));
     }
-    put_file(out, parts, n, sizes, entries, labels, w, h, xs, ys);
-    Written::Length(need)
+    held.put(out);
+    Ok(need)
 }

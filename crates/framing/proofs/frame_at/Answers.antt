@@ -1,9 +1,8 @@
 -- frame_at meets its contract.
 use Prim.Native.Nat.{◌-◌}
 use mathlib.Core.Path.{ap, ◌∙◌}
-use Rattle.framing.specs.declared.Frame.TheVariants.{Body}
 use Rattle.framing.specs.Offsets.{framed_of}
-use Rattle.framing.proofs.Offsets.{frame_same, at-past, at-short, at_low, at_long, at_whole}
+use Rattle.framing.proofs.Offsets.{whole, frame_same, at-past, at-short, at_low, at_long, at_whole}
 use native.Mathlib.Omega.{arith}
 use Rattle.framing.proofs.frame_at.Goals as goal
 
@@ -59,12 +58,12 @@ pub returns-clause-value : goal.returns-clause-value
 returns-clause-value c =
     let a = c.args in
     let w = c.word_at-long.ensures.value in
-    let e = (λ i. Body (c.word_at.ensures.value i) (w i - 2)) ∙ at_whole a.file.now a.at (omega arith) (omega arith) (omega arith) in
+    let e = (λ i. whole (c.word_at.ensures.value i) (w i - 2)) ∙ at_whole a.file.now a.at (omega arith) (omega arith) (omega arith) in
     e
 
 pub returns-clause-by_index : goal.returns-clause-by_index
 returns-clause-by_index c =
     let a = c.args in
     let w = c.word_at-long.ensures.value in
-    let e = (λ i. Body (c.word_at.ensures.value i) (w i - 2)) ∙ at_whole a.file.now a.at (omega arith) (omega arith) (omega arith) in
+    let e = (λ i. whole (c.word_at.ensures.value i) (w i - 2)) ∙ at_whole a.file.now a.at (omega arith) (omega arith) (omega arith) in
     λ kind fits. ap (framed_of a.file.now a.at kind fits) e ∙ frame_same a.file.now a.at kind fits

@@ -1,37 +1,37 @@
 -- frame_plan meets its contract.
-use mathlib.Core.Path.{sym, ap, ◌∙◌}
-use Rattle.framing.specs.declared.Due.{Due}
-use Rattle.framing.specs.Offsets.{rings_as}
-use Rattle.framing.specs.Layouts.{plan_from}
-use Rattle.framing.proofs.Layouts.{plan-low, plan-high, plan-refused, plan_there, lays_refused, lays_as}
+use mathlib.Core.Path.{ap, ◌∙◌}
+use Rattle.std.proofs.lemmas.Result.{err_from_is_err_and}
+use Rattle.framing.specs.Layouts.{laid, plan_from}
+use Rattle.framing.proofs.Layouts.{plan-low, plan-high, plan-refused, plan-cut, plan_there}
 use Rattle.framing.proofs.frame_plan.Goals as goal
 
 pub returns-then-n-lt5 : goal.returns-then-n-lt5
 returns-then-n-lt5 c =
     let f = c.args.file.now in
-    let w = c.word_at-n.ensures.value in
-    lays_refused f 3 0 c.refused.ensures (ap (plan_from f) (sym w) ∙ plan-low f _ c.if-n-lt5.true)
+    plan-low f _ c.if-n-lt5.true ∙ ap (plan_from f) c.word_at-n.ensures.value
 
 pub returns-then-n-gt200 : goal.returns-then-n-gt200
 returns-then-n-gt200 c =
     let f = c.args.file.now in
-    let w = c.word_at-n.ensures.value in
-    lays_refused f 3 0 c.refused-then-n-gt200.ensures (ap (plan_from f) (sym w) ∙ plan-high f _ c.if-n-lt5.false c.if-n-gt200.true)
+    plan-high f _ c.if-n-lt5.false c.if-n-gt200.true ∙ ap (plan_from f) c.word_at-n.ensures.value
 
-pub returns-in-Refused : goal.returns-in-Refused
-returns-in-Refused c =
+pub returns-in_err-sizes : goal.returns-in_err-sizes
+returns-in_err-sizes c =
     let f = c.args.file.now in
-    let w = c.word_at-n.ensures.value in
-    let n = c.word_at-n.result in
-    let walk = c.walk_rings-walk.result in
-    let e = sym (ap (λ (d : Due). rings_as f n d walk.sizes walk.at) c.in-Refused.is) ∙ c.walk_rings-walk.ensures.result_value in
-    lays_refused f _ _ c.refused-in-Refused.ensures (ap (plan_from f) (sym w) ∙ plan-refused f n _ _ c.if-n-lt5.false c.if-n-gt200.false e)
+    let p = err_from_is_err_and c.from_residual.result c.from_residual.ensures.1 in
+    rw (p.1, p.2) (plan-refused f c.word_at-n.result _ _ c.if-n-lt5.false c.if-n-gt200.false c.in_err-sizes.ensures.result_value ∙ ap (plan_from f) c.word_at-n.ensures.value)
 
-pub returns-in-There : goal.returns-in-There
-returns-in-There c =
+pub returns-in_err-parts : goal.returns-in_err-parts
+returns-in_err-parts c =
     let f = c.args.file.now in
-    let w = c.word_at-n.ensures.value in
-    let n = c.word_at-n.result in
-    let walk = c.walk_rings-walk.result in
-    let e = sym (ap (λ (d : Due). rings_as f n d walk.sizes walk.at) c.in-There.is) ∙ c.walk_rings-walk.ensures.result_value in
-    lays_as (plan_there f n walk.sizes walk.at c.if-n-lt5.false c.if-n-gt200.false e ∙ ap (plan_from f) w) c.frame_labels.ensures
+    let w = c.in_ok-sizes.field-0 in
+    let e = c.from_residual-in_err-parts in
+    let p = err_from_is_err_and e.result e.ensures.1 in
+    rw (p.1, p.2) (plan-cut f c.word_at-n.result w.sizes w.at c.if-n-lt5.false c.if-n-gt200.false c.in_ok-sizes.ensures.result_value _ _ c.in_err-parts.ensures.value ∙ ap (plan_from f) c.word_at-n.ensures.value)
+
+pub returns : goal.returns
+unfolding laid
+returns c =
+    let f = c.args.file.now in
+    let w = c.in_ok-sizes.field-0 in
+    plan_there f c.word_at-n.result w.sizes w.at c.if-n-lt5.false c.if-n-gt200.false c.in_ok-sizes.ensures.result_value c.in_ok-parts.parts c.in_ok-parts.ensures.value ∙ ap (plan_from f) c.word_at-n.ensures.value

@@ -2,5 +2,5 @@
 use Rattle.writing.proofs.Lengths.{length-chart}
 use Rattle.writing.proofs.chart_length.Goals as goal
 
-pub returns-clause-by_index : goal.returns-clause-by_index
-returns-clause-by_index c = λ w h xs ys. length-chart w h xs ys _ _ c.kept_of.ensures.value
+pub returns-clause-value : goal.returns-clause-value
+returns-clause-value c = let d = c.args.drawn.now in length-chart d.w d.h d.xs.now d.ys.now _ _ c.kept_of.ensures.value

@@ -1,22 +1,17 @@
 -- darts_of meets its contract.
-use mathlib.Core.Path.{◌≡◌, ap, ◌∙◌}
-use Prim.Native.Nat.{◌+◌}
-use Rattle.rings.specs.Tables.{start_of}
-use Rattle.rings.proofs.Rows.{start_first, start-next}
-use Rattle.writing.specs.Files.{kept, darts_held}
+use Rattle.writing.specs.Files.{darts_held}
+use Rattle.writing.proofs.Lengths.{start-most}
 use native.Mathlib.Omega.{arith}
+use Rattle.std.proofs.Common.{min}
 use Rattle.writing.proofs.darts_of.Goals as goal
-
-pub loop-u-init : goal.loop-u-init
-loop-u-init c = (omega arith, omega arith, start_first c.args.sizes.now)
-
-pub loop-u-preserved : goal.loop-u-preserved
-loop-u-preserved c = let l = c.loop-u in (omega arith, omega arith, start-next c.args.sizes.now l.u (l.u + 1) c.byte-sum.result l.sum (omega arith) l.invariant.2 c.byte-sum.ensures.value)
 
 pub returns-clause-value : goal.returns-clause-value
 unfolding darts_held
-returns-clause-value c =
-    let l = c.loop-u in
-    let all = c.kept_of-e.ensures.value in
-    let done : l.u ≡ kept c.args.n = omega arith in
-    l.invariant.2 ∙ ap (start_of c.args.sizes.now) done
+returns-clause-value c = c.total_of.ensures.value
+
+pub returns-clause-upper_bound : goal.returns-clause-upper_bound
+returns-clause-upper_bound c =
+    let a = c.args in
+    let most = start-most a.sizes.now (min a.n 200) (λ u. (c.type_inv.sizes u).fits) in
+    let is = c.total_of.ensures.value in
+    omega arith

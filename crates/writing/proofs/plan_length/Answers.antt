@@ -2,5 +2,5 @@
 use Rattle.writing.proofs.Lengths.{length-plan}
 use Rattle.writing.proofs.plan_length.Goals as goal
 
-pub returns-clause-by_index : goal.returns-clause-by_index
-returns-clause-by_index c = λ es. length-plan c.args.sizes.now es _ _ _ c.kept_of.ensures.value c.darts_of.ensures.value
+pub returns-clause-value : goal.returns-clause-value
+returns-clause-value c = let p = c.args.plan.now in length-plan p.sizes.now p.entries.now _ _ _ c.kept_of.ensures.value c.darts_of.ensures.value

@@ -6,6 +6,3 @@ use Rattle.writing.proofs.put_bytes.Given as goal
 
 abbrev pub invariant-loop-i : goal.invariant-loop-i
 invariant-loop-i l = (l.i ≤ l.k) × Emits l.initial.out l.at (stretch l.a 0 l.k) l.out (l.at + l.i) (stretch l.a l.i (l.k - l.i))
-
-abbrev pub decreases-loop-i : goal.decreases-loop-i
-decreases-loop-i l = l.k - l.i

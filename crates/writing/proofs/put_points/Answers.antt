@@ -18,9 +18,9 @@ loop-j-preserved c =
     let two = bytes_two x in
     let four = length-append (bytes (x ∷ [])) (bytes (y ∷ [])) in
     let also = bytes_two y in
-    let more = points-more a.xs.now a.ys.now a.k l.j (l.j + 1) x y (omega arith) refl c.num.ensures.value c.num-in-loop-j.ensures.value in
+    let more = points-more a.drawn.now.xs.now a.drawn.now.ys.now a.k l.j (l.j + 1) x y (omega arith) refl c.num.ensures.value c.num-in-loop-j.ensures.value in
     let both = sets_join l.out (a.at + 4 * l.j) (bytes (x ∷ [])) (bytes (y ∷ [])) c.put_word.ensures (omega arith) c.put_word-in-loop-j.ensures in
     (omega arith, emits_on l.invariant.1 (bytes (x ∷ []) ++ bytes (y ∷ [])) more both (omega arith))
 
 pub returns : goal.returns
-returns c = let a = c.args in emits_end c.loop-j.invariant.1 (points-done a.xs.now a.ys.now _ _ (omega arith))
+returns c = let a = c.args in emits_end c.loop-j.invariant.1 (points-done a.drawn.now.xs.now a.drawn.now.ys.now _ _ (omega arith))

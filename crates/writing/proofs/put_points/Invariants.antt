@@ -1,5 +1,5 @@
 -- What the loops of put_points keep.
-use Prim.Native.Nat.{◌+◌, ◌-◌, ◌*◌, ◌≤◌}
+use Prim.Native.Nat.{◌+◌, ◌*◌, ◌≤◌}
 use Rattle.lists.specs.Spans.{stretch}
 use Rattle.lists.specs.Words.{bytes}
 use Rattle.model.specs.File.{points}
@@ -7,7 +7,4 @@ use Rattle.writing.proofs.Emits.{Emits, points_from}
 use Rattle.writing.proofs.put_points.Given as goal
 
 abbrev pub invariant-loop-j : goal.invariant-loop-j
-invariant-loop-j l = (l.j ≤ l.k) × Emits l.initial.out l.at (bytes (points (stretch l.xs 0 l.k) (stretch l.ys 0 l.k))) l.out (l.at + 4 * l.j) (points_from l.xs l.ys l.k l.j)
-
-abbrev pub decreases-loop-j : goal.decreases-loop-j
-decreases-loop-j l = l.k - l.j
+invariant-loop-j l = (l.j ≤ l.k) × Emits l.initial.out l.at (bytes (points (stretch l.drawn.xs.now 0 l.k) (stretch l.drawn.ys.now 0 l.k))) l.out (l.at + 4 * l.j) (points_from l.drawn.xs.now l.drawn.ys.now l.k l.j)

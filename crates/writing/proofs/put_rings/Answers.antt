@@ -20,22 +20,22 @@ pub loop-u-init : goal.loop-u-init
 loop-u-init c =
     let a = c.args in
     let all : a.n - 0 ≡ a.n = omega arith in
-    (omega arith, omega arith, start_first a.sizes.now, emits_start (omega arith) (ap (λ (k : ℕ). rings_out (map (table_row a.sizes.now a.entries.now) (from 0 k))) all))
+    (omega arith, omega arith, start_first a.plan.now.sizes.now, emits_start (omega arith) (ap (λ (k : ℕ). rings_out (map (table_row a.plan.now.sizes.now a.plan.now.entries.now) (from 0 k))) all))
 
 pub loop-u-preserved : goal.loop-u-preserved
 loop-u-preserved c =
     let a = c.args in
     let l = c.loop-u in
-    let k = c.byte-k.result in
-    let r = stretch a.entries.now l.i k in
+    let k = c.num-k.result in
+    let r = stretch a.plan.now.entries.now l.i k in
     let head = length-entry 2 (bytes r) in
     let body = length-bytes r in
-    let size = length-stretch a.entries.now l.i k in
-    let here = table-row a.sizes.now a.entries.now l.u l.i k (omega arith) l.invariant.2 c.byte-k.ensures.value in
-    let more = rings-more (table_row a.sizes.now a.entries.now) a.n l.u (l.u + 1) r (omega arith) refl here in
-    (omega arith, omega arith, start-next a.sizes.now l.u (l.u + 1) k l.i (omega arith) l.invariant.2 c.byte-k.ensures.value, emits_on l.invariant.3 (entry 2 (bytes r)) more c.put_ring.ensures (omega arith))
+    let size = length-stretch a.plan.now.entries.now l.i k in
+    let here = table-row a.plan.now.sizes.now a.plan.now.entries.now l.u l.i k (omega arith) l.invariant.2 c.num-k.ensures.value in
+    let more = rings-more (table_row a.plan.now.sizes.now a.plan.now.entries.now) a.n l.u (l.u + 1) r (omega arith) refl here in
+    (omega arith, omega arith, start-next a.plan.now.sizes.now l.u (l.u + 1) k l.i (omega arith) l.invariant.2 c.num-k.ensures.value, emits_on l.invariant.3 (entry 2 (bytes r)) more c.put_ring.ensures (omega arith))
 
 pub returns : goal.returns
 returns c =
     let a = c.args in
-    emits_end c.loop-u.invariant.3 (rings-done (table_row a.sizes.now a.entries.now) a.n c.loop-u.u (omega arith)) ∙ ap (sets a.out.now a.at) (table-rings a.sizes.now a.entries.now a.n)
+    emits_end c.loop-u.invariant.3 (rings-done (table_row a.plan.now.sizes.now a.plan.now.entries.now) a.n c.loop-u.u (omega arith)) ∙ ap (sets a.out.now a.at) (table-rings a.plan.now.sizes.now a.plan.now.entries.now a.n)

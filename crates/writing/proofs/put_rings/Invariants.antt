@@ -10,7 +10,4 @@ use Rattle.writing.proofs.Pieces.{table_row}
 use Rattle.writing.proofs.put_rings.Given as goal
 
 abbrev pub invariant-loop-u : goal.invariant-loop-u
-invariant-loop-u l = (l.u ≤ l.n) × (l.i ≤ 255 * l.u) × (l.i ≡ start_of l.sizes l.u) × Emits l.initial.out l.at (rings_out (map (table_row l.sizes l.entries) (from 0 l.n))) l.out (l.at + 4 * l.u + 2 * l.i) (rings_out (map (table_row l.sizes l.entries) (from l.u (l.n - l.u))))
-
-abbrev pub decreases-loop-u : goal.decreases-loop-u
-decreases-loop-u l = l.n - l.u
+invariant-loop-u l = (l.u ≤ l.n) × (l.i ≤ 255 * l.u) × (l.i ≡ start_of l.plan.sizes.now l.u) × Emits l.initial.out l.at (rings_out (map (table_row l.plan.sizes.now l.plan.entries.now) (from 0 l.n))) l.out (l.at + 4 * l.u + 2 * l.i) (rings_out (map (table_row l.plan.sizes.now l.plan.entries.now) (from l.u (l.n - l.u))))

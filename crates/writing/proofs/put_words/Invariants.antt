@@ -7,6 +7,3 @@ use Rattle.writing.proofs.put_words.Given as goal
 
 abbrev pub invariant-loop-j : goal.invariant-loop-j
 invariant-loop-j l = (l.j ≤ l.k) × Emits l.initial.out l.at (bytes (stretch l.a l.i l.k)) l.out (l.at + 2 * l.j) (bytes (stretch l.a (l.i + l.j) (l.k - l.j)))
-
-abbrev pub decreases-loop-j : goal.decreases-loop-j
-decreases-loop-j l = l.k - l.j

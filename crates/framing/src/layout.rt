@@ -1,0 +1,25 @@
+// Where everything stands in a file: a plan, and behind it labels and a chart, as far as the file has them.
+
+ghost use Rattle.std.specs.Prelude.{◌≡◌, ◌≤◌};
+ghost use Rattle.lists.specs.Spans.{stretch, padded};
+ghost use Rattle.framing.specs.Parts.{Near, Near-prop};
+
+// What follows the plan: nothing, labels, or labels and a chart. Each number is an offset: of the label bytes, and of the chart's numbers.
+#[derive(Clone, Copy)]
+pub enum Parts {
+    Plan,
+    Labels { labels: usize },
+    Chart { labels: usize, chart: usize },
+}
+
+// The layout of a file that is not refused: the number of contexts, the number of entries of each ring, with 0 past the last context, and what follows the plan.
+#[derive(Clone, Copy)]
+pub struct Layout {
+    pub n: usize,
+    pub sizes: [u8; 200],
+    pub parts: Parts,
+    pub ghost enough: { 5 ≤ n },
+    pub ghost few: { n ≤ 200 },
+    pub ghost tidy: { sizes ≡ padded 200 (stretch sizes 0 n) },
+    pub ghost near: { Near parts } by { Near-prop parts },
+}
