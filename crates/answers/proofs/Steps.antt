@@ -1,33 +1,47 @@
--- What an answer struct tells in each of its cases, and the number that is given for it.
-use Rattle.std.proofs.Common.{◌≡◌, ℕ, ◌+◌, ◌*◌, ◌%◌, ◌^◌, ◌<◌, sym, ap, ◌∙◌, arith}
-use Rattle.model.specs.Outcome.{Outcome, accepted, refused, passed}
-use Rattle.model.proofs.Outcomes.{then_at, then_off}
-use Rattle.sheet.specs.declared.Outcome as told
+-- What a result tells in each of its cases, and the number that is given for it.
+use Rattle.std.proofs.Common.{◌≡◌, refl, ℕ, ◌+◌, ◌*◌, ◌%◌, ◌^◌, ◌<◌, sym, ap, ◌∙◌, arith}
+use Rattle.std.specs.Prelude.{Ok, Err}
+use Rattle.std.specs.declared.result.Result.{Result}
+use Rattle.model.specs.Outcome.{Outcome, accepted, refused, ◌>>=◌}
+use Rattle.model.specs.File as file
+use Rattle.refusal.specs.declared.Refusal.{Refusal}
+use Rattle.refusal.specs.Refusals.{told, number_of, place_of}
+use Rattle.sheet.specs.declared.Sheet.{Sheet}
 use Rattle.sheet.specs.Sheets.{reads}
-use Rattle.sheet.specs.Answers.{answer_as}
+use Rattle.sheet.specs.Answers.{packed_as}
+use Rattle.sheet.proofs.Packed.{Held, reads-packed}
 use Rattle.answers.specs.Codes.{code, wrapped, given, in_turn}
 
--- ---- what an answer tells
+-- ---- what a result tells
 -- a refusal
-pub given-off : (o : told.Outcome) (k at : ℕ) → answer_as o.answer ≡ refused k at → given o ≡ refused k at
+pub given-off : (r : Result Sheet Refusal) (f : Refusal) → r ≡ Err f → given r ≡ refused (number_of f) (place_of f)
 unfolding given
-given-off o k at e = then_off (answer_as o.answer) k at (accepted (reads o.sheet)) e
+given-off r f e = ap given e
 
 -- a sheet
-pub given-at : (o : told.Outcome) → answer_as o.answer ≡ passed → given o ≡ accepted (reads o.sheet)
+pub given-at : (r : Result Sheet Refusal) (s : Sheet) → r ≡ Ok s → given r ≡ accepted (reads s)
 unfolding given
-given-at o e = then_at (answer_as o.answer) tt (accepted (reads o.sheet)) e
+given-at r s e = ap given e
+
+-- what a call of the model gives, where what it accepts fits into the struct
+pub given-packed : (r : Result Sheet Refusal) (o : Outcome file.Sheet) → told r ≡ packed_as o → ((t : file.Sheet) → o ≡ accepted t → Held t) → given r ≡ o
+unfolding given packed_as
+given-packed r o e h = ap (λ (q : Outcome Sheet). q >>= λ (s : Sheet). accepted (reads s)) e ∙ go o h
+  where
+    go : (p : Outcome file.Sheet) → ((t : file.Sheet) → p ≡ accepted t → Held t) → (packed_as p >>= λ (s : Sheet). accepted (reads s)) ≡ p
+    go (accepted t) k = ap accepted (reads-packed t (k t refl))
+    go (refused n at) k = refl
 
 -- ---- two in a row
--- the first is refused
-pub turn-off : (f s : told.Outcome) (k at : ℕ) → answer_as f.answer ≡ refused k at → given f ≡ in_turn (given f) (given s)
-unfolding in_turn
-turn-off f s k at e = let q = given-off f k at e in q ∙ sym (then_off (given f) k at (given s) q)
+-- the first is refused: `?` hands its refusal on
+pub turn-off : (f : Result Sheet Refusal) (e : Refusal) (s : Outcome file.Sheet) → f ≡ Err e → given (Err e) ≡ in_turn (given f) s
+unfolding in_turn given
+turn-off f e s q = sym (ap (λ (r : Result Sheet Refusal). in_turn (given r) s) q)
 
--- the first is accepted
-pub turn_on : (f s : told.Outcome) → answer_as f.answer ≡ passed → given s ≡ in_turn (given f) (given s)
-unfolding in_turn
-turn_on f s e = sym (then_at (given f) (reads f.sheet) (given s) (given-at f e))
+-- the first is accepted: the second counts
+pub turn_on : (f : Result Sheet Refusal) (t : Sheet) (s : Outcome file.Sheet) → f ≡ Ok t → s ≡ in_turn (given f) s
+unfolding in_turn given
+turn_on f t s q = sym (ap (λ (r : Result Sheet Refusal). in_turn (given r) s) q)
 
 -- ---- the number
 -- of a refusal

@@ -1,10 +1,12 @@
 -- A call's answer as one number, and what answers and structs tell in a row.
 use Rattle.std.specs.Prelude.{◌≡◌, ℕ, ◌+◌, ◌*◌, ◌/◌, ◌%◌, ◌^◌}
-use Rattle.model.specs.Outcome.{Outcome, accepted, refused, ◌>>◌}
-use Rattle.model.specs.File.{Sheet}
-use Rattle.sheet.specs.declared.Outcome as struct
+use Rattle.std.specs.declared.result.Result.{Result}
+use Rattle.model.specs.Outcome.{Outcome, accepted, refused, ◌>>=◌, ◌>>◌}
+use Rattle.model.specs.File as file
+use Rattle.refusal.specs.declared.Refusal.{Refusal}
+use Rattle.refusal.specs.Refusals.{told}
+use Rattle.sheet.specs.declared.Sheet.{Sheet}
 use Rattle.sheet.specs.Sheets.{reads}
-use Rattle.sheet.specs.Answers.{answer_as}
 
 -- The answer as one number, number × 2^48 + value: number 0 is acceptance, another a refusal with its place as the value
 unfoldable pub code : Outcome ℕ → ℕ
@@ -30,10 +32,10 @@ pub record Unpacks (o : Outcome ℕ) : Type 0 where
 unfoldable pub wrapped : Outcome ℕ → ℕ
 wrapped o = code o % 2 ^ 64
 
--- what an answer and a struct tell: the sheet, or the refusal
-unfoldable pub given : struct.Outcome → Outcome Sheet
-given o = answer_as o.answer >> accepted (reads o.sheet)
+-- what a result tells: the sheet that its struct holds, or the refusal
+unfoldable pub given : Result Sheet Refusal → Outcome file.Sheet
+given r = told r >>= λ (s : Sheet). accepted (reads s)
 
 -- two outcomes in a row: the first refusal, or what the second gives
-unfoldable pub in_turn : Outcome Sheet → Outcome Sheet → Outcome Sheet
+unfoldable pub in_turn : Outcome file.Sheet → Outcome file.Sheet → Outcome file.Sheet
 in_turn first second = first >> second

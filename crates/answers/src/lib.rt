@@ -1,25 +1,23 @@
-// A call's answer as one number, and two outcomes in a row.
+// A call's answer as one number.
 #![tactic(auto)]
 
 ghost use Rattle.std.specs.Prelude.{◌≡◌, ◌+◌, ◌*◌, ◌%◌, ◌^◌};
-ghost use Rattle.answers.specs.Codes.{given, in_turn};
+ghost use Rattle.model.specs.Outcome.{refused};
+ghost use Rattle.refusal.specs.Refusals.{number_of, place_of};
+ghost use Rattle.answers.specs.Codes.{wrapped};
 
-use sheet::{Answer, Outcome};
+use refusal::Refusal;
 
-// A refusal as one number: number × 2^48 + place.
-pub fn refusal(number: u8, place: usize) -> u64
+// A number and a place as one number: number × 2^48 + place.
+pub fn joined(number: u8, place: usize) -> u64
     ensures { result ≡ (number * 2 ^ 48 + place) % 2 ^ 64 }
 {
-    std::num::wrapping_add_u64(number as u64 * 281474976710656, place as u64)
+    (u64::from(number) * 281474976710656).wrapping_add(place as u64)
 }
 
-// Of two outcomes in a row, the one that counts: the first if it is a refusal, else the second.
-pub fn followed(first: Outcome, second: Outcome) -> Outcome
-    ensures { given result ≡ in_turn (given first) (given second) }
+// A refusal as one number.
+pub fn refusal(refusal: Refusal) -> u64
+    ensures { result ≡ wrapped (refused (number_of refusal) (place_of refusal)) }
 {
-    let answer = first.answer;
-    match answer {
-        Answer::Refused(_, _) => first,
-        Answer::Accepted => second,
-    }
+    joined(refusal.number(), refusal.place())
 }

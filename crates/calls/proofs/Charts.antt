@@ -2,23 +2,20 @@
 use Prim.Native.Nat.{ℕ, ◌≤◌, ◌<◌}
 use mathlib.Core.Path.{◌≡◌, sym, ap, ◌∙◌}
 use mathlib.Core.List.{List}
-use mathlib.Core.Bool.{Bool, true, false, cond}
-use native.Mathlib.Omega.{arith}
-use lib.ListN.{length, take}
+use mathlib.Core.Bool.{Bool, true, cond}
 use lib.Dec.{leb}
 use borrow.Author.Tests.{le-leb}
 use Rattle.lists.proofs.Bools.{yes_and}
-use Rattle.lists.proofs.Spans.{stretch_part}
-use Rattle.lists.specs.Spans.{stretch}
+use Rattle.lists.specs.Spans.{stretch, padded}
 use Rattle.model.specs.Outcome.{Outcome, accepted, refused, ◌>>=◌}
 use Rattle.model.specs.Plan.{Plan}
 use Rattle.model.specs.Chart.{Chart, chart, least_placement, slope}
 use Rattle.model.specs.File as file
 use Rattle.model.specs.Calls.{labels_of, chart_call}
 use Rattle.rings.specs.Tables.{start_of, table, in_bounds}
+use Rattle.std.specs.Prelude.{Ok}
 use Rattle.placement.specs.declared.Drawn.{Drawn}
-use Rattle.charts.specs.Charts.{chart_on}
-use Rattle.placement.specs.Drawing.{chart_for, drawn_as, drawn_of}
+use Rattle.placement.specs.Drawing.{chart_for, drawn_of}
 use Rattle.sheet.specs.declared.Sheet.{Sheet}
 use Rattle.sheet.specs.declared.Stage.TheVariants.{Charted}
 use Rattle.sheet.specs.Sheets.{held_count, held_plan, held_labels, fits, reads, pack, packed}
@@ -26,18 +23,13 @@ use Rattle.sheet.specs.Sheets.{rank, stage_read}
 use Rattle.model.proofs.Outcomes.{bind_at, bind_off}
 use Rattle.sheet.proofs.Reading.{labels_early, labels_there, few, room}
 
-pub take-front : (l : List ℕ) (k : ℕ) → k ≤ length l → take k l ≡ stretch l 0 k
-take-front l k h = sym (stretch_part l 0 k (omega arith))
-
 module _ (s : Sheet) where
   -- the chart that is worked out is the chart of what the struct holds
-  pub chart_for_lem : (n k : ℕ) → fits s ≡ true → n ≡ s.n → k ≡ start_of s.sizes s.n → k ≤ length s.labels → chart_for s.sizes s.entries n (take k s.labels) ≡ chart (held_plan s) (held_labels s)
-  unfolding chart_for in_bounds chart held_plan held_labels held_count
-  chart_for_lem n k f e q h =
-      let bounds = yes_and (leb s.n 200) (leb (start_of s.sizes s.n) 1186) (le-leb s.n 200 (few s f)) (le-leb (start_of s.sizes s.n) 1186 (room s f)) in
-      (λ i. chart_for s.sizes s.entries (e i) (take-front s.labels k h i))
-      ∙ ap (λ (t : Bool). cond t (least_placement slope (table s.sizes s.entries s.n) (stretch s.labels 0 k)) (refused 11 0)) bounds
-      ∙ ap (λ (j : ℕ). least_placement slope (table s.sizes s.entries s.n) (stretch s.labels 0 j)) q
+  pub chart_for_lem : fits s ≡ true → chart_for s.sizes s.entries s.n (held_labels s) ≡ chart (held_plan s) (held_labels s)
+  unfolding chart_for in_bounds chart held_plan
+  chart_for_lem f =
+      ap (λ (t : Bool). cond t (least_placement slope (table s.sizes s.entries s.n) (held_labels s)) (refused 11 0))
+      (yes_and (leb s.n 200) (leb (start_of s.sizes s.n) 1186) (le-leb s.n 200 (few s f)) (le-leb (start_of s.sizes s.n) 1186 (room s f)))
 
   -- the steps of the call
   abbrev stored : Plan × List ℕ → Outcome file.Sheet
@@ -51,27 +43,18 @@ module _ (s : Sheet) where
   unfolding chart_call
   chart-call_there h = bind_at (labels_of (reads s)) (held_plan s, held_labels s) stored (labels_there s h)
 
-  module _ (h : 2 ≤ rank (stage_read s)) (d : Drawn) (said : drawn_as d s.n ≡ chart (held_plan s) (held_labels s)) where
+  module _ (h : 2 ≤ rank (stage_read s)) where
     -- 11
-    pub chart-call-none : d.found ≡ false → chart_call (reads s) ≡ refused 11 0
-    unfolding drawn_as
-    chart-call-none e =
-        let none : chart (held_plan s) (held_labels s) ≡ refused 11 0 = sym said ∙ ap (λ (t : Bool). cond t (accepted (chart_on s.n d.w d.h d.xs d.ys)) (refused 11 0)) e in
-        chart-call_there h ∙ bind_off (chart (held_plan s) (held_labels s)) 11 0 (λ (c : Chart). accepted (file.charted (held_plan s) (held_labels s) c)) none
+    pub chart-call-none : (k at : ℕ) → refused k at ≡ chart (held_plan s) (held_labels s) → chart_call (reads s) ≡ refused k at
+    chart-call-none k at e = chart-call_there h ∙ bind_off (chart (held_plan s) (held_labels s)) k at (λ (c : Chart). accepted (file.charted (held_plan s) (held_labels s) c)) (sym e)
 
-    abbrev found : Chart
-    found = chart_on s.n d.w d.h d.xs d.ys
-
-    pub chart-drawn : d.found ≡ true → chart (held_plan s) (held_labels s) ≡ accepted found
-    unfolding drawn_as
-    chart-drawn e = sym said ∙ ap (λ (t : Bool). cond t (accepted found) (refused 11 0)) e
-
-    pub chart-call-drawn : d.found ≡ true → chart_call (reads s) ≡ accepted (file.charted (held_plan s) (held_labels s) found)
-    chart-call-drawn e = chart-call_there h ∙ bind_at (chart (held_plan s) (held_labels s)) found (λ (c : Chart). accepted (file.charted (held_plan s) (held_labels s) c)) (chart-drawn e)
+    pub chart-call-drawn : (c : Chart) → accepted c ≡ chart (held_plan s) (held_labels s) → chart_call (reads s) ≡ accepted (file.charted (held_plan s) (held_labels s) c)
+    chart-call-drawn c e = chart-call_there h ∙ bind_at (chart (held_plan s) (held_labels s)) c (λ (d : Chart). accepted (file.charted (held_plan s) (held_labels s) d)) (sym e)
 
   -- the struct with a chart, from the struct with labels
-  pub chart-stored : (t : Sheet) (d : Drawn) (c : Chart) → t ≡ packed (file.labelled (held_plan s) (stretch s.labels 0 (held_count s))) → d ≡ drawn_of (accepted c)
+  pub chart-stored : (t : Sheet) (d : Drawn) (c : Chart) → t ≡ packed (file.labelled (held_plan s) (stretch s.labels 0 (held_count s))) → Ok d ≡ drawn_of (accepted c)
       → ◌≡◌ {A = Sheet} (record { stage = Charted; n = t.n; sizes = t.sizes; entries = t.entries; labels = t.labels; w = d.w; h = d.h; xs = d.xs; ys = d.ys }) (packed (file.charted (held_plan s) (held_labels s) c))
   unfolding packed pack drawn_of held_labels
-  chart-stored t d c same p =
+  chart-stored t d c same e =
+      let p : d ≡ record { w = c.w; h = c.h; xs = padded 200 c.xs; ys = padded 200 c.ys } = cc in
       λ i. record { stage = Charted; n = (same i).n; sizes = (same i).sizes; entries = (same i).entries; labels = (same i).labels; w = (p i).w; h = (p i).h; xs = (p i).xs; ys = (p i).ys }

@@ -1,17 +1,18 @@
 -- A struct rebuilt from what it holds: the sizes and the entries of its rings, and zeros behind them.
-use Prim.Native.Nat.{ℕ}
+use Prim.Native.Nat.{ℕ, ◌-◌, ◌≤◌}
 use mathlib.Core.Path.{◌≡◌, sym, ap, ◌∙◌}
-use mathlib.Core.List.{List, [], map, append-nil}
+use mathlib.Core.List.{List, [], ◌++◌, map, append-nil}
 use mathlib.Core.Bool.{true}
-use lib.ListN.{length, get_or}
-use Rattle.lists.specs.Ranges.{from}
+use native.Mathlib.Omega.{arith}
+use lib.ListN.{length, take, replicate}
+use lib.Seq.{length-take-le}
 use Rattle.lists.specs.Parts.{concat}
 use Rattle.lists.specs.Spans.{stretch, zeros, padded}
-use Rattle.lists.proofs.Loops.{Fills}
+use Rattle.lists.proofs.Spans.{stretch_part}
 use Rattle.lists.proofs.Stretches.{stretch-front}
 use Rattle.model.specs.File as file
 use Rattle.rings.specs.Tables.{start_of}
-use Rattle.rings.proofs.Joined.{entries-stretch, table_sizes, table-entries}
+use Rattle.rings.proofs.Joined.{table_sizes, table-entries}
 use Rattle.sheet.specs.declared.Sheet.{Sheet}
 use Rattle.sheet.specs.declared.Stage.TheVariants.{Labelled}
 use Rattle.sheet.specs.Sheets.{held_plan, fits, pack, no_chart, packed}
@@ -21,9 +22,13 @@ use Rattle.sheet.proofs.Reading.{few, count_held}
 pub stretch-all : (l : List ℕ) → stretch l 0 (length l) ≡ l
 stretch-all l = ap (λ (m : List ℕ). stretch m 0 (length l)) (sym (append-nil l)) ∙ stretch-front l []
 
--- an array that was filled with the first k entries of another
-pub filled-front : {m i : ℕ} (a : List ℕ) {b : List ℕ} (k : ℕ) → Fills m (λ (j : ℕ). get_or a j 0) i b → i ≡ k → b ≡ padded m (stretch a 0 k)
-filled-front {m} a k f q = f.same ∙ ap (λ (j : ℕ). padded m (map (λ (u : ℕ). get_or a u 0) (from 0 j))) q ∙ ap (padded m) (entries-stretch a 0 k)
+-- an array with the first k entries of another, and zeros behind them
+pub fronted : (m : ℕ) (a : List ℕ) (k : ℕ) → k ≤ length a → take k a ++ replicate (m - k) 0 ≡ padded m (stretch a 0 k)
+unfolding padded zeros
+fronted m a k h =
+    let e : take k a ≡ stretch a 0 k = sym (stretch_part a 0 k (omega arith)) in
+    let n : k ≡ length (stretch a 0 k) = sym (length-take-le k a h) ∙ ap length e in
+    λ i. e i ++ replicate (m - n i) 0
 
 -- the struct that is built
 pub rebuilt : (s : Sheet) (n : ℕ) (a b ls : List ℕ) → fits s ≡ true → n ≡ s.n → a ≡ padded 200 (stretch s.sizes 0 n) → b ≡ padded 1186 (stretch s.entries 0 (start_of s.sizes s.n))

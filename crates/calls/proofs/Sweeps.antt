@@ -1,23 +1,22 @@
 -- Sweep, after the stage: the labels that the sweep gives for the plan, stored, or its refusal.
 use Prim.Native.Nat.{ℕ, ◌≤◌, ◌<◌}
-use mathlib.Core.Path.{◌≡◌, sym, ap, ◌∙◌}
-use mathlib.Core.List.{List, []}
+use mathlib.Core.Path.{◌≡◌, refl, sym, ap, ◌∙◌}
+use mathlib.Core.List.{List}
 use mathlib.Core.Bool.{Bool, cond}
 use lib.ListN.{length}
 use Rattle.lists.proofs.Padded.{stretch-padded}
 use Rattle.lists.specs.Spans.{stretch, padded}
-use Rattle.model.specs.Outcome.{Outcome, accepted, refused, ◌>>=◌, taken}
+use Rattle.model.specs.Outcome.{Outcome, accepted, refused, ◌>>=◌}
 use Rattle.model.specs.Plan.{Plan}
 use Rattle.model.specs.Sweep.{sweep}
 use Rattle.model.specs.File as file
 use Rattle.model.specs.Calls.{plan_of, sweep_call}
-use Rattle.model.proofs.Outcomes.{bind_at, bind_off}
+use Rattle.model.proofs.Outcomes.{not-both, same-value, bind_at, bind_off}
 use Rattle.model.proofs.LabelCounts.{sweep_long}
-use Rattle.sweep.specs.declared.SweepAnswer.{SweepAnswer}
-use Rattle.sweep.specs.declared.SweepAnswer.TheVariants.{Labelled}
-use Rattle.sweep.specs.Swept.{outcome_of, sweep_of}
+use Rattle.steps.specs.Run.{in_array}
+use Rattle.sweep.specs.Swept.{sweep_of}
 use Rattle.sheet.specs.declared.Sheet.{Sheet}
-use Rattle.sheet.specs.Sheets.{held_count, held_plan, fits, reads, stage_read, rank, packed}
+use Rattle.sheet.specs.Sheets.{held_count, held_plan, fits, reads, stage_read, rank}
 use Rattle.sheet.proofs.Reading.{plan_early, plan_there, fits_there, entries-held}
 
 module _ (s : Sheet) where
@@ -40,15 +39,24 @@ module _ (s : Sheet) where
     unfolding sweep_of fits
     sweep-fit = ap (λ (t : Bool). cond t (sweep p) (refused 13 0)) (fits_there s h)
 
-    module _ (a : SweepAnswer) (said : outcome_of a (taken [] (sweep_of p)) ≡ sweep_of p) where
-      pub sweep-refused : (b : SweepAnswer) (k at : ℕ) → a ≡ b → outcome_of b (taken [] (sweep_of p)) ≡ refused k at → sweep_call (reads s) ≡ refused k at
-      sweep-refused b k at e f = swept_there ∙ bind_off (sweep p) k at (stored p) (sym sweep-fit ∙ sym said ∙ ap (λ (x : SweepAnswer). outcome_of x (taken [] (sweep_of p))) e ∙ f)
+    pub sweep-refused : (k at : ℕ) → refused k at ≡ in_array (sweep_of p) → sweep_call (reads s) ≡ refused k at
+    unfolding in_array
+    sweep-refused k at e = swept_there ∙ bind_off (sweep p) k at (stored p) (sym sweep-fit ∙ go (sweep_of p) e)
+      where
+        go : (o : Outcome (List ℕ)) → refused k at ≡ in_array o → o ≡ refused k at
+        go (accepted ls) q = not-both q
+        go (refused l there) q = sym q
 
-      pub sweep-labelled : (m : List ℕ) (t : Sheet) → a ≡ Labelled → m ≡ padded 1186 (taken [] (sweep_of p)) → t ≡ packed (file.labelled p (stretch m 0 (held_count s)))
-          → (sweep_call (reads s) ≡ accepted (file.labelled p (taken [] (sweep_of p)))) × (t ≡ packed (file.labelled p (taken [] (sweep_of p))))
-      unfolding outcome_of stored
-      sweep-labelled m t e l q =
-          let ls = taken [] (sweep_of p) in
-          let given : sweep p ≡ accepted ls = sym sweep-fit ∙ sym said ∙ ap (λ (x : SweepAnswer). outcome_of x ls) e in
-          let long : held_count s ≡ length ls = sym (entries-held s (fits_there s h)) ∙ sym (sweep_long p ls given) in
-          (swept_there ∙ bind_at (sweep p) ls (stored p) given, q ∙ ap (λ (x : List ℕ). packed (file.labelled p x)) ((λ i. stretch (l i) 0 (long i)) ∙ stretch-padded 1186 ls))
+    -- the labels that are given stand first in their array
+    pub sweep-labelled : (m : List ℕ) → accepted m ≡ in_array (sweep_of p) → sweep_call (reads s) ≡ accepted (file.labelled p (stretch m 0 (held_count s)))
+    unfolding in_array stored
+    sweep-labelled m e = swept_there ∙ go (sweep_of p) refl e
+      where
+        go : (o : Outcome (List ℕ)) → sweep_of p ≡ o → accepted m ≡ in_array o → (sweep p >>= stored p) ≡ accepted (file.labelled p (stretch m 0 (held_count s)))
+        go (refused k at) f q = not-both (sym q)
+        go (accepted ls) f q =
+            let given : sweep p ≡ accepted ls = sym sweep-fit ∙ f in
+            let long : held_count s ≡ length ls = sym (entries-held s (fits_there s h)) ∙ sym (sweep_long p ls given) in
+            let same : m ≡ padded 1186 ls = same-value q in
+            let there : stretch m 0 (held_count s) ≡ ls = (λ i. stretch (same i) 0 (long i)) ∙ stretch-padded 1186 ls in
+            bind_at (sweep p) ls (stored p) given ∙ ap (λ (l : List ℕ). accepted (file.labelled p l)) (sym there)

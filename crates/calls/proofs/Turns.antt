@@ -14,9 +14,7 @@ use Rattle.model.specs.File as file
 use Rattle.model.specs.Calls.{labels_of, turn_call}
 use Rattle.model.proofs.Outcomes.{bind_at, bind_off}
 use Rattle.rings.specs.Tables.{start_of, in_bounds}
-use Rattle.turn.specs.declared.TurnAnswer.{TurnAnswer}
-use Rattle.turn.specs.declared.TurnAnswer.TheVariants.{Labelled}
-use Rattle.turn.specs.Turned.{labels_in, turn_of, outcome_of}
+use Rattle.turn.specs.Turned.{labels_in, turn_of}
 use Rattle.sheet.specs.declared.Sheet.{Sheet}
 use Rattle.sheet.specs.Sheets.{held_count, held_plan, held_labels, reads, stage_read, rank}
 use Rattle.sheet.proofs.Reading.{labels_early, labels_there, fits_there, few, room}
@@ -44,13 +42,10 @@ module _ (s : Sheet) (items : List ℕ) (direction : ℕ) where
         let f = fits_there s q in
         ap (λ (t : Bool). cond t worked (refused 13 0)) (yes_and (leb s.n 200) (leb (start_of s.sizes s.n) 1186) (le-leb s.n 200 (few s f)) (le-leb (start_of s.sizes s.n) 1186 (room s f)))
 
-    module _ (q : 1 ≤ rank (stage_read s)) (a : TurnAnswer) (m : List ℕ) (said : outcome_of a (labels_in s.sizes s.n m) ≡ turn_of s.sizes s.entries s.n s.labels items direction) where
-      gives : (b : TurnAnswer) → a ≡ b → worked ≡ outcome_of b (labels_in s.sizes s.n m)
-      gives b e = sym (turn-fit q) ∙ sym said ∙ ap (λ (x : TurnAnswer). outcome_of x (labels_in s.sizes s.n m)) e
+    module _ (q : 1 ≤ rank (stage_read s)) where
+      pub turn-refused : (k at : ℕ) → refused k at ≡ turn_of s.sizes s.entries s.n s.labels items direction → turn_call (reads s) items direction ≡ refused k at
+      turn-refused k at e = turn_there ∙ bind_off worked k at (λ (ms : List ℕ). accepted (file.labelled (held_plan s) ms)) (sym (turn-fit q) ∙ sym e)
 
-      pub turn-refused : (b : TurnAnswer) (k at : ℕ) → a ≡ b → outcome_of b (labels_in s.sizes s.n m) ≡ refused k at → turn_call (reads s) items direction ≡ refused k at
-      turn-refused b k at e f = turn_there ∙ bind_off worked k at (λ (ms : List ℕ). accepted (file.labelled (held_plan s) ms)) (gives b e ∙ f)
-
-      pub turn-labelled : a ≡ Labelled → turn_call (reads s) items direction ≡ accepted (file.labelled (held_plan s) (stretch m 0 (held_count s)))
-      unfolding outcome_of labels_in held_count
-      turn-labelled e = turn_there ∙ bind_at worked (stretch m 0 (start_of s.sizes s.n)) (λ (ms : List ℕ). accepted (file.labelled (held_plan s) ms)) (gives Labelled e)
+      pub turn-labelled : (m : List ℕ) → accepted (labels_in s.sizes s.n m) ≡ turn_of s.sizes s.entries s.n s.labels items direction → turn_call (reads s) items direction ≡ accepted (file.labelled (held_plan s) (stretch m 0 (held_count s)))
+      unfolding labels_in held_count
+      turn-labelled m e = turn_there ∙ bind_at worked (stretch m 0 (start_of s.sizes s.n)) (λ (ms : List ℕ). accepted (file.labelled (held_plan s) ms)) (sym (turn-fit q) ∙ sym e)

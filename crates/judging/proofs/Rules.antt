@@ -2,15 +2,11 @@
 use Prim.Native.Nat.{ℕ, ◌≤◌, ◌<◌, min}
 use mathlib.Core.Path.{◌≡◌, refl, sym, ap, ◌∙◌}
 use mathlib.Core.List.{List}
-use mathlib.Core.Bool.{Bool, true, false, cond, not}
+use mathlib.Core.Bool.{Bool, true, false, cond}
 use native.Mathlib.Omega.{arith}
-use lib.ListN.{length, take, drop, take-append-drop}
-use lib.Seq.{length-take-le}
-use borrow.Author.Tests.{le-leb, lt-leb, not-true, not-false}
+use borrow.Author.Tests.{le-leb, lt-leb}
 use Rattle.lists.specs.Ranges.{lowest}
-use Rattle.lists.specs.Spans.{stretch}
-use Rattle.lists.proofs.Stretches.{stretch-front}
-use Rattle.model.specs.Outcome.{Outcome, accepted, refused, passed, require, rule, ◌>>=◌, ◌>>◌}
+use Rattle.model.specs.Outcome.{Outcome, refused, passed, require, rule, ◌>>=◌, ◌>>◌}
 use Rattle.model.specs.Plan.{Plan, count, bad_border, bad_face}
 use Rattle.model.specs.Labels.{breaks, label_rules}
 use Rattle.model.specs.Chart.{Chart, chart, same_chart}
@@ -18,15 +14,18 @@ use Rattle.model.specs.File as file
 use Rattle.rings.specs.Tables as flat
 use Rattle.rings.specs.Tables.{start_of, starts_of, table, in_bounds}
 use Rattle.rings.proofs.Rows.{count-rows}
-use Rattle.fit.proofs.Fits.{all-counted}
+use Rattle.std.specs.Prelude.{Ok, Err}
+use Rattle.std.specs.declared.result.Result.{Result}
+use Rattle.refusal.specs.declared.Refusal.{Refusal}
+use Rattle.refusal.specs.Refusals.{number_of, place_of}
 use Rattle.charts.specs.Charts.{chart_on}
-use Rattle.placement.specs.Drawing.{chart_for, drawn_as}
 use Rattle.placement.specs.declared.Drawn.{Drawn}
+use Rattle.placement.specs.Drawing.{chart_for, drawn_as}
 use Rattle.sheet.specs.declared.Sheet.{Sheet}
 use Rattle.sheet.specs.declared.Stage.{Stage}
 use Rattle.sheet.specs.declared.Stage.TheVariants.{Empty, Open, Labelled, Charted}
-use Rattle.sheet.specs.Sheets.{held_count, held_plan, held_labels, held, fits, reads, stage_read, rank}
-use Rattle.sheet.proofs.Reading.{reads-stage, fits_there, count_held, few, room}
+use Rattle.sheet.specs.Sheets.{held_plan, held, fits, reads, stage_read, rank}
+use Rattle.sheet.proofs.Reading.{reads-stage, fits_there, count_held}
 use Rattle.judging.specs.Rules.{flat_rules, chart_rules, flat_of, rules_from_10, rules_from_8}
 
 -- ---- one rule, by its place
@@ -77,28 +76,19 @@ module _ (sizes es : List ℕ) (n : ℕ) (ls : List ℕ) (few : n ≤ 200) (room
   unfolding chart_for in_bounds chart
   chart_for_lem = rw (le-leb n 200 few, le-leb (start_of sizes n) 1186 room)
 
-  module _ (r : Drawn) (is : drawn_as r n ≡ chart_for sizes es n ls) (c : Chart) where
-    abbrev Drew : Chart
-    Drew = chart_on n r.w r.h r.xs r.ys
-
-    told : (t : Bool) → r.found ≡ t → cond t (accepted Drew) (refused 11 0) ≡ chart (table sizes es n) ls
-    unfolding drawn_as
-    told t e = ap (λ (q : Bool). cond q (accepted Drew) (refused 11 0)) (sym e) ∙ is ∙ chart_for_lem
-
+  module _ (r : Result Drawn Refusal) (is : drawn_as r n ≡ chart_for sizes es n ls) (c : Chart) where
     abbrev Compare : Outcome Chart → Outcome (Unit {0})
     Compare o = o >>= λ (d : Chart). require (same_chart c d) 12 0
 
-    pub eleven_refused : not r.found ≡ true → refused 11 0 ≡ chart_rules (table sizes es n) ls c
+    -- no chart: its refusal
+    pub undrawn : (f : Refusal) → r ≡ Err f → refused (number_of f) (place_of f) ≡ chart_rules (table sizes es n) ls c
     unfolding chart_rules
-    eleven_refused e = ap Compare (told false (not-true r.found e))
+    undrawn f e = ap Compare (ap (λ (q : Result Drawn Refusal). drawn_as q n) (sym e) ∙ is ∙ chart_for_lem)
 
-    pub twelve_refused : not r.found ≡ false → {t : Bool} → t ≡ same_chart c Drew → t ≡ false → refused 12 0 ≡ chart_rules (table sizes es n) ls c
+    -- a chart: it is compared
+    pub compared : (p : Drawn) → r ≡ Ok p → {t : Bool} → t ≡ same_chart c (chart_on n p.w p.h p.xs p.ys) → require t 12 0 ≡ chart_rules (table sizes es n) ls c
     unfolding chart_rules
-    twelve_refused e q f = ap (λ (t : Bool). require t 12 0) (sym f ∙ q) ∙ ap Compare (told true (not-false r.found e))
-
-    pub chart-kept : not r.found ≡ false → {t : Bool} → t ≡ same_chart c Drew → t ≡ true → passed ≡ chart_rules (table sizes es n) ls c
-    unfolding chart_rules
-    chart-kept e q f = ap (λ (t : Bool). require t 12 0) (sym f ∙ q) ∙ ap Compare (told true (not-false r.found e))
+    compared p e q = ap (λ (t : Bool). require t 12 0) q ∙ ap Compare (ap (λ (q : Result Drawn Refusal). drawn_as q n) (sym e) ∙ is ∙ chart_for_lem)
 
 -- ---- one part of the rules before another
 pub first-refused : {A : Type 0} (a : Outcome (Unit {0})) (b : Outcome A) {k at : ℕ} → refused k at ≡ a → refused k at ≡ (a >> b)
@@ -106,19 +96,6 @@ first-refused a b e = ap (λ (o : Outcome (Unit {0})). o >> b) e
 
 pub first-passed : {A : Type 0} (a : Outcome (Unit {0})) (b : Outcome A) {x : Outcome A} → passed ≡ a → x ≡ b → x ≡ (a >> b)
 first-passed a b e f = f ∙ ap (λ (o : Outcome (Unit {0})). o >> b) e
-
--- ---- the labels of a struct, lent as the first part of its array
-module _ (s : Sheet) (f : fits s ≡ true) {k : ℕ} (e : k ≡ start_of s.sizes (min s.n 200)) (long : 1186 ≡ length s.labels) where
-  -- the array reaches as far
-  pub labels_reach : k ≤ length s.labels
-  labels_reach = let t = all-counted s.sizes (few s f) e in let h = room s f in omega arith
-
-  pub labels-front : take k s.labels ≡ held_labels s
-  unfolding held_labels held_count
-  labels-front =
-      sym (stretch-front (take k s.labels) (drop k s.labels))
-      ∙ (λ i. stretch (take-append-drop k s.labels i) 0 (length-take-le k s.labels labels_reach i))
-      ∙ ap (stretch s.labels 0) (all-counted s.sizes (few s f) e)
 
 -- ---- the rules of a struct, by its stage
 module _ (s : Sheet) where

@@ -1,166 +1,120 @@
 // The rules 8 to 12 of a sheet, as far as its stage has come. Each function takes every value of the struct: one whose plan does not fit counts as a fresh sheet.
 #![tactic(auto)]
 
-ghost use Rattle.std.specs.Prelude.{◌≡◌, true, ◌≤◌, length, take};
+ghost use Rattle.std.specs.Prelude.{◌≡◌, true, ◌≤◌};
 ghost use Rattle.model.specs.Labels.{label_rules};
 ghost use Rattle.model.specs.File.{charted};
-ghost use Rattle.rings.specs.Tables.{start_of, starts_of, table};
-ghost use Rattle.charts.specs.Charts.{chart_on};
+ghost use Rattle.refusal.specs.Refusals.{told};
+ghost use Rattle.rings.specs.Tables.{start_of, plan_of, table_of};
+ghost use Rattle.charts.specs.Charts.{chart_in};
 ghost use Rattle.sheet.specs.Sheets.{held_plan, held_labels, held_chart, fits, reads};
-ghost use Rattle.sheet.specs.Answers.{answer_as};
 ghost use Rattle.judging.specs.Rules.{flat_rules, chart_rules, rules_from_10, rules_from_8};
 
-use sheet::{Answer, Sheet, Stage};
+use charts::Points;
+use refusal::Refusal;
+use rings::{Rings, Table};
+use sheet::{Sheet, Stage};
 
-// 8 and 9 in flat arrays, where the rings begin at these starts.
-fn flat_rules<'a>(starts: &'a [u16], sizes: &'a [u8], entries: &'a [u16], n: usize) -> Answer
-    requires { starts.now ≡ starts_of sizes.now }
-    ensures { answer_as result ≡ flat_rules n (table sizes.now entries.now n) }
+// 8 and 9 of rings in flat arrays.
+fn flat_rules(rings: &Rings) -> Result<(), Refusal>
+    ensures { told result ≡ flat_rules rings.now.n (plan_of rings.now) }
 {
-    let eight = faces::rule8_place(starts, sizes, entries, n);
+    let eight = faces::rule8_place(rings);
     if eight < 4 {
-        return Answer::Refused(8, eight);
+        return Err(Refusal::BadBorder(eight));
     }
-    let nine = faces::rule9_place(starts, sizes, entries, n);
-    if nine < n {
-        return Answer::Refused(9, nine);
+    let nine = faces::rule9_place(rings);
+    if nine < rings.n {
+        return Err(Refusal::BadFace(nine));
     }
-    Answer::Accepted
+    Ok(())
 }
 
-// 10 in flat arrays.
-fn label_rule<'a>(sizes: &'a [u8], entries: &'a [u16], n: usize, labels: &'a [u8]) -> Answer
-    requires { n ≤ 200 }
-    ensures { answer_as result ≡ label_rules (table sizes.now entries.now n) labels.now }
+// 10 of a plan with these labels.
+fn label_rule(plan: &Table, labels: &[u8]) -> Result<(), Refusal>
+    requires { plan.now.n ≤ 200 }
+    ensures { told result ≡ label_rules (table_of plan.now) labels.now }
 {
-    let ten = conditions::rules_place(sizes, entries, n, labels);
-    if ten < n {
-        return Answer::Refused(10, ten);
+    let ten = conditions::rules_place(plan, labels);
+    if ten < plan.n {
+        return Err(Refusal::BadLabels(ten));
     }
-    Answer::Accepted
+    Ok(())
 }
 
-// 11 and 12 in flat arrays: the chart given is the plan's chart.
-fn chart_rule<'a>(
-    sizes: &'a [u8],
-    entries: &'a [u16],
-    n: usize,
-    labels: &'a [u8],
-    w: u16,
-    h: u16,
-    xs: &'a [u16],
-    ys: &'a [u16],
-) -> Answer
-    requires n_bound { n ≤ 200 }
-    requires n_bound_2 { start_of sizes.now n ≤ 1186 }
-    ensures { answer_as result ≡ chart_rules (table sizes.now entries.now n) labels.now (chart_on n w h xs.now ys.now) }
+// 11 and 12 of a plan with these labels: the chart given is the plan's chart.
+fn chart_rule(plan: &Table, labels: &[u8], chart: &Points) -> Result<(), Refusal>
+    requires few { plan.now.n ≤ 200 }
+    requires room { start_of plan.now.sizes.now plan.now.n ≤ 1186 }
+    ensures { told result ≡ chart_rules (table_of plan.now) labels.now (chart_in plan.now.n chart.now) }
 {
-    let drawn = placement::chart_of(sizes, entries, n, labels);
-    if !drawn.found {
-        return Answer::Refused(11, 0);
+    let drawn = placement::chart_of(plan, labels)?;
+    if charts::same_chart(plan.n, chart, &drawn.points()) {
+        Ok(())
+    } else {
+        Err(Refusal::OtherChart)
     }
-    let dx = drawn.xs;
-    let dy = drawn.ys;
-    if charts::same_chart(n, w, h, xs, ys, drawn.w, drawn.h, &dx, &dy) {
-        return Answer::Accepted;
-    }
-    Answer::Refused(12, 0)
 }
 
 // 8 and 9 of a sheet.
-fn flat_part(sheet: Sheet) -> Answer
-    ensures { answer_as result ≡ flat_rules sheet.n (held_plan sheet) }
+fn flat_part(sheet: &Sheet) -> Result<(), Refusal>
+    ensures { told result ≡ flat_rules sheet.now.n (held_plan sheet.now) }
 {
-    let sizes = sheet.sizes;
-    let entries = sheet.entries;
-    let starts = rings::starts_of(&sizes);
-    flat_rules(&starts, &sizes, &entries, sheet.n as usize)
-}
-
-// The first k labels.
-fn first_labels(labels: &[u8], k: usize) -> &[u8]
-    requires { k ≤ length labels.now }
-    ensures { result.now ≡ take k labels.now }
-{
-    &labels[..k]
+    let starts = rings::starts_of(&sheet.sizes);
+    flat_rules(&sheet::table_of(sheet).rings(&starts))
 }
 
 // 10 of a sheet whose plan fits.
-fn label_part(sheet: Sheet) -> Answer
-    requires { fits sheet ≡ true }
-    ensures { answer_as result ≡ label_rules (held_plan sheet) (held_labels sheet) }
+fn label_part(sheet: &Sheet) -> Result<(), Refusal>
+    requires { fits sheet.now ≡ true }
+    ensures { told result ≡ label_rules (held_plan sheet.now) (held_labels sheet.now) }
 {
-    let n = sheet.n as usize;
-    let sizes = sheet.sizes;
-    let entries = sheet.entries;
-    let labels = sheet.labels;
-    let count = fit::total_of(&sizes, n);
-    label_rule(&sizes, &entries, n, first_labels(&labels, count))
+    label_rule(&sheet::table_of(sheet), sheet::labels_of(sheet))
 }
 
 // 11 and 12 of a sheet whose plan fits.
-fn chart_part(sheet: Sheet) -> Answer
-    requires { fits sheet ≡ true }
-    ensures { answer_as result ≡ chart_rules (held_plan sheet) (held_labels sheet) (held_chart sheet) }
+fn chart_part(sheet: &Sheet) -> Result<(), Refusal>
+    requires { fits sheet.now ≡ true }
+    ensures { told result ≡ chart_rules (held_plan sheet.now) (held_labels sheet.now) (held_chart sheet.now) }
 {
-    let n = sheet.n as usize;
-    let sizes = sheet.sizes;
-    let entries = sheet.entries;
-    let labels = sheet.labels;
-    let xs = sheet.xs;
-    let ys = sheet.ys;
-    let count = fit::total_of(&sizes, n);
     chart_rule(
-        &sizes,
-        &entries,
-        n,
-        first_labels(&labels, count),
-        sheet.w,
-        sheet.h,
-        &xs,
-        &ys,
+        &sheet::table_of(sheet),
+        sheet::labels_of(sheet),
+        &sheet::points_of(sheet),
     )
 }
 
 // 10 of a sheet whose plan fits, then 11 and 12.
-fn charted_part(sheet: Sheet) -> Answer
-    requires { fits sheet ≡ true }
-    ensures { answer_as result ≡ rules_from_10 (charted (held_plan sheet) (held_labels sheet) (held_chart sheet)) }
+fn charted_part(sheet: &Sheet) -> Result<(), Refusal>
+    requires { fits sheet.now ≡ true }
+    ensures { told result ≡ rules_from_10 (charted (held_plan sheet.now) (held_labels sheet.now) (held_chart sheet.now)) }
 {
-    let judged = label_part(sheet);
-    match judged {
-        Answer::Refused(number, place) => Answer::Refused(number, place),
-        Answer::Accepted => chart_part(sheet),
-    }
+    label_part(sheet)?;
+    chart_part(sheet)
 }
 
 // 10 to 12 of a sheet: of its labels and its chart, where it has them.
-pub fn rules_from_10(sheet: Sheet) -> Answer
-    ensures { answer_as result ≡ rules_from_10 (reads sheet) }
+pub fn rules_from_10(sheet: &Sheet) -> Result<(), Refusal>
+    ensures { told result ≡ rules_from_10 (reads sheet.now) }
 {
-    let reached = sheet.stage;
-    if sheet::rank_of(reached) < 2 {
-        return Answer::Accepted;
+    if sheet.stage < Stage::Labelled {
+        return Ok(());
     }
-    let stage = sheet::stage_of(sheet);
-    match stage {
-        Stage::Empty => Answer::Accepted,
-        Stage::Open => Answer::Accepted,
+    match sheet::stage_of(sheet) {
+        Stage::Empty => Ok(()),
+        Stage::Open => Ok(()),
         Stage::Labelled => label_part(sheet),
         Stage::Charted => charted_part(sheet),
     }
 }
 
 // 8 to 12 of a sheet: 8 and 9 of its plan, then 10 to 12.
-pub fn rules_from_8(sheet: Sheet) -> Answer
-    ensures { answer_as result ≡ rules_from_8 (reads sheet) }
+pub fn rules_from_8(sheet: &Sheet) -> Result<(), Refusal>
+    ensures { told result ≡ rules_from_8 (reads sheet.now) }
 {
-    if sheet::rank_of(sheet::stage_of(sheet)) < 1 {
-        return Answer::Accepted;
+    if sheet::stage_of(sheet) < Stage::Open {
+        return Ok(());
     }
-    let judged = flat_part(sheet);
-    match judged {
-        Answer::Refused(number, place) => Answer::Refused(number, place),
-        Answer::Accepted => rules_from_10(sheet),
-    }
+    flat_part(sheet)?;
+    rules_from_10(sheet)
 }

@@ -1,15 +1,13 @@
 -- Same: 13 for the first sheet or the second, then the comparison of n, w, h and points.
-use Prim.Native.Nat.{ℕ, ◌≤◌, ◌<◌}
+use Prim.Native.Nat.{◌≤◌, ◌<◌}
 use mathlib.Core.Path.{◌≡◌, sym, ap, ◌∙◌}
-use mathlib.Core.Bool.{Bool, false, ◌&&◌}
+use mathlib.Core.Bool.{Bool, ◌&&◌}
 use lib.Dec.{eqb}
-use borrow.Author.Tests.{eq-eqb, ne_eqb}
 use Rattle.model.specs.Outcome.{Outcome, accepted, refused, ◌>>=◌}
 use Rattle.model.specs.Plan.{Plan, count}
 use Rattle.model.specs.Chart.{Chart, same_chart}
 use Rattle.model.specs.Calls.{chart_of, same_call}
 use Rattle.model.proofs.Outcomes.{bind_at, bind_off}
-use Rattle.charts.specs.Charts.{chart_on}
 use Rattle.sheet.specs.declared.Sheet.{Sheet}
 use Rattle.sheet.specs.Sheets.{held_plan, held_chart, reads, stage_read, rank}
 use Rattle.sheet.proofs.Reading.{chart_early, chart_there, count_held}
@@ -18,9 +16,9 @@ module _ (a b : Sheet) where
   abbrev compared : Plan × Chart → Outcome Bool
   compared t = chart_of (reads b) >>= λ (u : Plan × Chart). accepted (eqb (count t.0) (count u.0) && same_chart t.1 u.1)
 
-  pub same_early : rank (stage_read a) < 3 → refused 13 0 ≡ same_call (reads a) (reads b)
+  pub same_early : rank (stage_read a) < 3 → same_call (reads a) (reads b) ≡ refused 13 0
   unfolding same_call
-  same_early h = sym (bind_off (chart_of (reads a)) 13 0 compared (chart_early a h))
+  same_early h = bind_off (chart_of (reads a)) 13 0 compared (chart_early a h)
 
   same_first : 3 ≤ rank (stage_read a) → same_call (reads a) (reads b) ≡ compared (held_plan a, held_chart a)
   unfolding same_call
@@ -29,21 +27,10 @@ module _ (a b : Sheet) where
   abbrev answered : Plan × Chart → Outcome Bool
   answered u = accepted (eqb (count (held_plan a)) (count u.0) && same_chart (held_chart a) u.1)
 
-  pub same_early_second : 3 ≤ rank (stage_read a) → rank (stage_read b) < 3 → refused 13 0 ≡ same_call (reads a) (reads b)
-  same_early_second h k = sym (same_first h ∙ bind_off (chart_of (reads b)) 13 0 answered (chart_early b k))
+  pub same_early_second : 3 ≤ rank (stage_read a) → rank (stage_read b) < 3 → same_call (reads a) (reads b) ≡ refused 13 0
+  same_early_second h k = same_first h ∙ bind_off (chart_of (reads b)) 13 0 answered (chart_early b k)
 
   pub same_there : (t : Bool) → 3 ≤ rank (stage_read a) → 3 ≤ rank (stage_read b) → t ≡ (eqb a.n b.n && same_chart (held_chart a) (held_chart b)) → accepted t ≡ same_call (reads a) (reads b)
   same_there t h k e =
       ap accepted e
       ∙ sym (same_first h ∙ bind_at (chart_of (reads b)) (held_plan b, held_chart b) answered (chart_there b k) ∙ λ i. accepted (eqb (count_held a i) (count_held b i) && same_chart (held_chart a) (held_chart b)))
-
-  -- two sheets of other sizes, and of the same size
-  pub other_size : (a.n ≡ b.n → ⊥) → false ≡ (eqb a.n b.n && same_chart (held_chart a) (held_chart b))
-  other_size h = sym (ap (λ (t : Bool). t && same_chart (held_chart a) (held_chart b)) (ne_eqb a.n b.n h))
-
-  pub same_size : (t : Bool) → a.n ≡ b.n → t ≡ same_chart (chart_on a.n a.w a.h a.xs a.ys) (chart_on a.n b.w b.h b.xs b.ys) → t ≡ (eqb a.n b.n && same_chart (held_chart a) (held_chart b))
-  unfolding chart_on held_chart
-  same_size t q p =
-      p
-      ∙ ap (λ (k : ℕ). same_chart (held_chart a) (chart_on k b.w b.h b.xs b.ys)) q
-      ∙ sym (ap (λ (v : Bool). v && same_chart (held_chart a) (held_chart b)) (eq-eqb a.n b.n q))

@@ -1,12 +1,14 @@
--- The parts that a file of a stage has.
-use Rattle.writing.specs.declared.Parts.{Parts}
-use Rattle.writing.specs.declared.Parts.TheVariants.{PlanOnly, WithLabels, WithChart}
+-- What a file of a stage holds.
+use Rattle.model.specs.File as file
+use Rattle.rings.specs.Tables as flat
+use Rattle.writing.specs.Files.{labels_held, chart_held}
+use Rattle.sheet.specs.declared.Sheet.{Sheet}
 use Rattle.sheet.specs.declared.Stage.{Stage}
 use Rattle.sheet.specs.declared.Stage.TheVariants.{Empty, Open, Labelled, Charted}
 
--- at EMPTY there is no file, and the answer is not used
-unfoldable pub parts_of : Stage → Parts
-parts_of Empty = PlanOnly
-parts_of Open = PlanOnly
-parts_of Labelled = WithLabels
-parts_of Charted = WithChart
+-- the plan alone, the plan with its labels, or these with their chart; at EMPTY there is no file, and the answer is not used
+unfoldable pub written_at : Stage → Sheet → file.Sheet
+written_at Empty s = file.opened (flat.held s.sizes s.entries s.n)
+written_at Open s = file.opened (flat.held s.sizes s.entries s.n)
+written_at Labelled s = file.labelled (flat.held s.sizes s.entries s.n) (labels_held s.sizes s.labels s.n)
+written_at Charted s = file.charted (flat.held s.sizes s.entries s.n) (labels_held s.sizes s.labels s.n) (chart_held s.w s.h s.xs s.ys s.n)

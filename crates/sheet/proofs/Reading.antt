@@ -3,20 +3,34 @@ use Prim.Native.Nat.{ℕ, ◌≤◌, ◌<◌, min}
 use mathlib.Core.Path.{◌≡◌, refl, sym, ap, ◌∙◌}
 use mathlib.Core.Bool.{Bool, true, false, cond}
 use native.Mathlib.Omega.{arith}
-use Rattle.model.specs.Outcome.{Outcome, accepted, refused, passed}
+use lib.ListN.{length, take, drop, take-append-drop}
+use lib.Seq.{length-take-le}
+use Rattle.lists.specs.Spans.{stretch}
+use Rattle.lists.proofs.Stretches.{stretch-front}
+use lib.Dec.{leb, ltb}
+use borrow.Author.Tests.{leb-true, leb-false, lt-leb}
+use Rattle.std.specs.Prelude.{Ok, Err}
+use Rattle.std.specs.Ordering.{partial_lt}
+use Rattle.std.proofs.lemmas.Bool.Decides.{nat_tests}
+use Rattle.model.specs.Outcome.{Outcome, accepted, refused, passed, require, taken, ◌>>◌}
+use Rattle.std.specs.declared.result.Result.{Result}
+use Rattle.refusal.specs.declared.Refusal.{Refusal}
+use Rattle.refusal.specs.Refusals.{told}
 use Rattle.model.specs.Plan.{count, entry_count}
 use Rattle.model.specs.File as file
 use Rattle.model.specs.Calls.{plan_of, labels_of, chart_of}
-use Rattle.rings.specs.Tables.{start_of, starts_of, table}
+use Rattle.rings.specs.declared.Rings as rings
+use Rattle.rings.specs.Tables as flat
+use Rattle.rings.specs.Tables.{start_of, starts_of, rows, table}
 use Rattle.rings.proofs.Rows.{count-rows}
-use Rattle.fit.specs.Fits.{fit}
-use Rattle.fit.proofs.Fits.{fit-says, total-is}
+use Rattle.fit.proofs.Fits.{fit-says, total-is, all-counted}
+use Rattle.model.proofs.Outcomes.{not-both, require-passed}
+use Rattle.sheet.specs.contracts.StagePartialOrd.TheImpl.{partial_cmp-value}
 use Rattle.sheet.specs.declared.Sheet.{Sheet}
 use Rattle.sheet.specs.declared.Stage.{Stage}
-use Rattle.sheet.specs.declared.Answer.{Answer}
 use Rattle.sheet.specs.declared.Stage.TheVariants.{Empty, Open, Labelled, Charted}
 use Rattle.sheet.specs.Sheets.{held_count, held_plan, held_labels, held_chart, held, fits, reads, stage_read, rank, packed}
-use Rattle.sheet.specs.Answers.{answer_as, answer_of, after}
+use Rattle.sheet.specs.Answers.{packed_as, answer_of, after}
 
 -- ---- a struct reads by the stage that counts
 pub reads-stage : (s : Sheet) → reads s ≡ held (stage_read s) s
@@ -97,6 +111,11 @@ module _ (s : Sheet) where
       go true e h = e
       go false e h = absurd (omega arith)
 
+  -- and the stage that stands counts
+  pub stage_there : 1 ≤ rank (stage_read s) → stage_read s ≡ s.stage
+  unfolding stage_read
+  stage_there h = ap (λ (b : Bool). cond b s.stage Empty) (fits_there h)
+
   -- the plan has n contexts
   pub count_held : count (held_plan s) ≡ s.n
   unfolding held_plan table
@@ -116,28 +135,96 @@ module _ (s : Sheet) where
   unfolding held_plan held_count
   entries-held f = total-is s.sizes s.entries s.n (few f)
 
-  -- the plan that the code reads
-  pub table-held : {n : ℕ} → n ≡ s.n → table s.sizes s.entries n ≡ held_plan s
-  unfolding held_plan
-  table-held e = ap (table s.sizes s.entries) e
+  -- rings that begin where the plan's rings begin
+  pub rings-held : (r : rings.Rings) → r.starts.now ≡ starts_of s.sizes → r.sizes.now ≡ s.sizes → r.entries.now ≡ s.entries → r.n ≡ s.n → flat.plan_of r ≡ held_plan s
+  unfolding held_plan table
+  rings-held r a b c d = λ i. rows (a i) (b i) (c i) (d i)
 
   -- how many entries the code counts
   pub total-held : {n k : ℕ} → fits s ≡ true → n ≡ s.n → k ≡ start_of s.sizes (min n 200) → k ≡ start_of s.sizes s.n
   total-held {n} f e q = q ∙ ap (start_of s.sizes) (let h = few f in omega arith)
 
-  -- the number that the code finds
-  pub ranked : {g : Stage} {k : ℕ} → g ≡ stage_read s → k ≡ rank g → k ≡ rank (stage_read s)
-  ranked e q = q ∙ ap rank e
+-- ---- the labels, lent as the first part of their array
+pub labels_lent : (s : Sheet) {k m : ℕ} → length s.labels ≡ 1186 → k ≡ start_of s.sizes (min s.n 200) → m ≡ min k 1186 → fits s ≡ true → take m s.labels ≡ held_labels s
+unfolding held_labels held_count
+labels_lent s {k} {m} long e q f =
+    let t = all-counted s.sizes (few s f) e in
+    let h = room s f in
+    sym (stretch-front (take m s.labels) (drop m s.labels))
+    ∙ (λ i. stretch (take-append-drop m s.labels i) 0 (length-take-le m s.labels (omega arith) i))
+    ∙ ap (stretch s.labels 0) (let same : m ≡ k = omega arith in same ∙ t)
 
-  pub fits_flag : (n : ℕ) (b : Bool) → n ≡ s.n → b ≡ fit (table s.sizes s.entries n) → b ≡ fits s
-  unfolding fits held_plan
-  fits_flag n b e q = q ∙ ap (λ (k : ℕ). fit (table s.sizes s.entries k)) e
+-- ---- the stage that a call needs
+-- the stages stand in the order of their numbers
+pub below : (g h : Stage) → partial_lt partial_cmp-value.it g h ≡ ltb (rank g) (rank h)
+unfolding rank
+below Empty Empty = refl
+below Empty Open = refl
+below Empty Labelled = refl
+below Empty Charted = refl
+below Open Empty = refl
+below Open Open = refl
+below Open Labelled = refl
+below Open Charted = refl
+below Labelled Empty = refl
+below Labelled Open = refl
+below Labelled Labelled = refl
+below Labelled Charted = refl
+below Charted Empty = refl
+below Charted Open = refl
+below Charted Labelled = refl
+below Charted Charted = refl
 
--- ---- what a refused and what an accepted call answers and leaves
-pub answer_refused : (s t : Sheet) (a : Answer) (o : Outcome file.Sheet) (k at : ℕ) → o ≡ refused k at → answer_as a ≡ refused k at → t ≡ s → (answer_as a ≡ answer_of o) × (t ≡ after s o)
-unfolding answer_of after
-answer_refused s t a o k at e p q = (p ∙ ap answer_of (sym e), q ∙ ap (after s) (sym e))
+-- whether a stage is reached, by that order
+pub stage_order : (g h : Stage) → cond (partial_lt partial_cmp-value.it h g) (refused 13 0) passed ≡ require (leb (rank g) (rank h)) 13 0
+stage_order g h = ap (λ (b : Bool). cond b (refused 13 0) passed) (below h g) ∙ turned (rank g) (rank h)
+  where
+    turned : (a b : ℕ) → cond (ltb b a) (refused 13 0) passed ≡ require (leb a b) 13 0
+    turned a b = grind (arith, nat_tests)
 
-pub answer_accepted : (s t : Sheet) (a : Answer) (o : Outcome file.Sheet) (u : file.Sheet) → o ≡ accepted u → answer_as a ≡ passed → t ≡ packed u → (answer_as a ≡ answer_of o) × (t ≡ after s o)
-unfolding answer_of after
-answer_accepted s t a o u e p q = (p ∙ ap answer_of (sym e), q ∙ ap (after s) (sym e))
+module _ (s : Sheet) (g : Stage) (r : Result (Unit {0}) Refusal) (q : told r ≡ require (leb (rank g) (rank (stage_read s))) 13 0) where
+  -- it is reached
+  pub stage_reached : (u : Unit {0}) → r ≡ Ok u → rank g ≤ rank (stage_read s)
+  stage_reached u e = leb-true (rank g) (rank (stage_read s)) (require-passed (leb (rank g) (rank (stage_read s))) 13 0 (sym q ∙ ap told e))
+
+  -- it is too early
+  pub stage_missed : (f : Refusal) → r ≡ Err f → rank (stage_read s) < rank g
+  stage_missed f e = go (leb (rank g) (rank (stage_read s))) refl
+    where
+      go : (b : Bool) → leb (rank g) (rank (stage_read s)) ≡ b → rank (stage_read s) < rank g
+      go true t = not-both (sym (ap told e) ∙ q ∙ ap (λ (b : Bool). require b 13 0) t)
+      go false t = leb-false (rank g) (rank (stage_read s)) t
+
+  -- and the refusal is 13, whatever the call answers else
+  pub stage_refused : {A : Type 0} → (f : Refusal) → r ≡ Err f → told {A = A} (Err f) ≡ refused 13 0
+  stage_refused {A} f e =
+      let k = stage_missed f e in
+      ap (λ (o : Outcome (Unit {0})). o >> other)
+      (sym (ap told e) ∙ q ∙ ap (λ (b : Bool). require b 13 0) (lt-leb (rank g) (rank (stage_read s)) k))
+    where
+      other : Outcome A
+      other = refused 13 0
+
+-- ---- what a call gives
+-- where the model's call is refused
+pub packed-off : {o : Outcome file.Sheet} {k at : ℕ} → o ≡ refused k at → packed_as o ≡ refused k at
+unfolding packed_as
+packed-off e = ap packed_as e
+
+-- where it is accepted
+pub packed-at : {o : Outcome file.Sheet} {t : file.Sheet} → o ≡ accepted t → packed_as o ≡ accepted (packed t)
+unfolding packed_as
+packed-at e = ap packed_as e
+
+-- The result tells the answer, and with the sheet before the call the sheet after it
+pub told-answers : (s : Sheet) (r : Result Sheet Refusal) (o : Outcome file.Sheet) → told r ≡ packed_as o → (answer_of (told r) ≡ answer_of o) × (taken s (told r) ≡ after s o)
+unfolding packed_as answer_of after taken
+told-answers s r o e = (ap answer_of e ∙ answers o, ap (taken s) e ∙ leaves o)
+  where
+    answers : (o : Outcome file.Sheet) → answer_of (packed_as o) ≡ answer_of o
+    answers (accepted t) = refl
+    answers (refused k at) = refl
+
+    leaves : (o : Outcome file.Sheet) → taken s (packed_as o) ≡ after s o
+    leaves (accepted t) = refl
+    leaves (refused k at) = refl

@@ -1,14 +1,20 @@
 // The sheet: plan, labels and chart in flat arrays, passed and returned by value.
 #![tactic(auto)]
 
-ghost use Rattle.std.specs.Prelude.{◌≡◌};
-ghost use Rattle.model.specs.Outcome.{refused, passed};
+ghost use Rattle.std.specs.Prelude.{◌≡◌, true, min, take, leb};
+ghost use Rattle.model.specs.Outcome.{require};
 ghost use Rattle.model.specs.File.{fresh};
-ghost use Rattle.sheet.specs.Sheets.{packed, stage_read, rank};
-ghost use Rattle.sheet.specs.Answers.{answer_as};
+ghost use Rattle.refusal.specs.Refusals.{told};
+ghost use Rattle.rings.specs.Tables.{start_of, table_of};
+ghost use Rattle.charts.specs.Charts.{chart_in};
+ghost use Rattle.sheet.specs.Sheets.{packed, held_plan, held_labels, held_chart, fits, stage_read, rank};
+
+use charts::Points;
+use refusal::Refusal;
+use rings::Table;
 
 // How far a sheet has come.
-#[derive(Clone, Copy)]
+#[derive(Clone, Copy, PartialEq, Eq, PartialOrd, Ord)]
 pub enum Stage {
     Empty,
     Open,
@@ -30,50 +36,6 @@ pub struct Sheet {
     pub ys: [u16; 200],
 }
 
-// What open, offer, sweep, turn and chart answer: accepted, or the refusal's number and place.
-#[derive(Clone, Copy)]
-pub enum Answer {
-    Accepted,
-    Refused(u8, usize),
-}
-
-// The answer, and the sheet afterwards.
-#[derive(Clone, Copy)]
-pub struct Outcome {
-    pub answer: Answer,
-    pub sheet: Sheet,
-}
-
-// What write answers: the file's length, or the refusal.
-#[derive(Clone, Copy)]
-pub enum Written {
-    Length(usize),
-    Refused(u8, usize),
-}
-
-// What scan answers: three contexts that enclose others, none, or the refusal.
-#[derive(Clone, Copy)]
-pub enum Scanned {
-    Triple(usize, usize, usize),
-    Nothing,
-    Refused(u8, usize),
-}
-
-// What same answers.
-#[derive(Clone, Copy)]
-pub enum Compared {
-    Same,
-    Different,
-    Refused(u8, usize),
-}
-
-// What ring answers: offset and length of the ring's body in the file, or the refusal.
-#[derive(Clone, Copy)]
-pub enum RingAnswer {
-    Part(usize, usize),
-    Refused(u8, usize),
-}
-
 // A fresh sheet.
 pub fn fresh_sheet() -> Sheet
     ensures { result ≡ packed fresh }
@@ -91,16 +53,54 @@ pub fn fresh_sheet() -> Sheet
     }
 }
 
-// The stage that counts: Empty where the plan does not fit.
-pub fn stage_of(sheet: Sheet) -> Stage
-    ensures { result ≡ stage_read sheet }
+// The sheet's plan, whether it fits or not.
+pub fn table_of(sheet: &Sheet) -> Table
+    ensures sizes { result.sizes.now ≡ sheet.now.sizes }
+    ensures entries { result.entries.now ≡ sheet.now.entries }
+    ensures n { result.n ≡ sheet.now.n }
+    ensures plan { table_of result ≡ held_plan sheet.now }
 {
-    let sizes = sheet.sizes;
-    let entries = sheet.entries;
-    if fit::is_fit(&sizes, &entries, numbers::wide_word(sheet.n)) {
-        return sheet.stage;
+    Table {
+        sizes: &sheet.sizes,
+        entries: &sheet.entries,
+        n: usize::from(sheet.n),
     }
-    Stage::Empty
+}
+
+// The chart in the sheet's arrays, whether one stands or not.
+pub fn points_of(sheet: &Sheet) -> Points
+    ensures w { result.w ≡ sheet.now.w }
+    ensures h { result.h ≡ sheet.now.h }
+    ensures xs { result.xs.now ≡ sheet.now.xs }
+    ensures ys { result.ys.now ≡ sheet.now.ys }
+    ensures chart { chart_in sheet.now.n result ≡ held_chart sheet.now }
+{
+    Points {
+        w: sheet.w,
+        h: sheet.h,
+        xs: &sheet.xs,
+        ys: &sheet.ys,
+    }
+}
+
+// The labels of the sheet, one for each entry of its plan, as far as the array reaches.
+pub fn labels_of(sheet: &Sheet) -> &[u8]
+    ensures front { result.now ≡ take (start_of sheet.now.sizes (min sheet.now.n 200)) sheet.now.labels }
+    ensures held { fits sheet.now ≡ true → result.now ≡ held_labels sheet.now }
+{
+    let total = fit::total_of(&sheet.sizes, usize::from(sheet.n));
+    &sheet.labels[..total.min(1186)]
+}
+
+// The stage that counts: Empty where the plan does not fit.
+pub fn stage_of(sheet: &Sheet) -> Stage
+    ensures { result ≡ stage_read sheet.now }
+{
+    if fit::is_fit(&table_of(sheet)) {
+        sheet.stage
+    } else {
+        Stage::Empty
+    }
 }
 
 // The number of a stage.
@@ -115,24 +115,13 @@ pub fn rank_of(stage: Stage) -> usize
     }
 }
 
-// A refusal, which leaves the sheet as it was.
-pub fn refuse(sheet: Sheet, number: u8, place: usize) -> Outcome
-    ensures answer_value { answer_as result.answer ≡ refused number place }
-    ensures sheet_value { result.sheet ≡ sheet }
+// Nothing where the sheet has come as far as this stage; else the refusal of a stage too early.
+pub fn require_stage(sheet: &Sheet, stage: Stage) -> Result<(), Refusal>
+    ensures { told result ≡ require (leb (rank stage) (rank (stage_read sheet.now))) 13 0 }
 {
-    Outcome {
-        answer: Answer::Refused(number, place),
-        sheet,
-    }
-}
-
-// An accepted call, which leaves this sheet.
-pub fn accept(sheet: Sheet) -> Outcome
-    ensures answer_value { answer_as result.answer ≡ passed }
-    ensures sheet_value { result.sheet ≡ sheet }
-{
-    Outcome {
-        answer: Answer::Accepted,
-        sheet,
+    if stage_of(sheet) < stage {
+        Err(Refusal::TooEarly)
+    } else {
+        Ok(())
     }
 }

@@ -1,8 +1,11 @@
 -- Faces counted one after another: over the entries of a ring, and over all contexts.
-use Rattle.std.proofs.Common.{◌≡◌, ℕ, suc, ◌+◌, ◌-◌, ◌<◌, ◌≤◌, Bool, true, false, cond, ◌&&◌, T, eqb, ltb, List, [], ◌∷◌, ◌++◌, map, length, get_or, ℤ, pos, negsuc, nat_abs, sym, refl, ap, ◌∙◌, add-one, arith, le-ltb, lt-ltb, eq-eqb, le-leb}
+use Rattle.std.proofs.Common.{◌^◌, subst, ◌≡◌, ℕ, suc, ◌+◌, ◌-◌, ◌<◌, ◌≤◌, Bool, true, false, cond, ◌&&◌, eqb, ltb, List, [], ◌∷◌, ◌++◌, map, length, get_or, ℤ, pos, negsuc, nat_abs, sym, refl, ap, ◌∙◌, add-one, arith, le-ltb, lt-ltb, eq-eqb}
 use mathlib.Core.List.{map-map}
-use mathlib.Core.Bool.{false≢true}
-use lib.Signed.{le_z, non_neg}
+use lib.Signed.{mag}
+use Rattle.std.specs.Prelude.{Ok, Err}
+use Rattle.std.specs.declared.result.Result.{Result}
+use Rattle.std.specs.Result.{OkIff, result_unwrap_or}
+use Rattle.std.specs.Int.{FitsUnsignedBits}
 use Rattle.lists.specs.Ranges.{from}
 use Rattle.lists.specs.Parts.{concat}
 use Rattle.lists.specs.Spans.{span}
@@ -15,16 +18,16 @@ use Rattle.survey.specs.declared.Areas.{Areas}
 use Rattle.survey.specs.Surveys.{natural, no_area, with_area, counted, faces_on, surveyed}
 use Rattle.survey.proofs.Walks.{face_of}
 
--- ---- a signed number, where it is not negative and where it is
-pub natural-yes : (z : ℤ) → T (non_neg z) → nat_abs z ≡ natural z
+-- ---- a signed number as one without a sign, or 0
+pub natural_from : (z y : ℤ) {E : Type 0} (r : Result ℕ E) → y ≡ z → mag z < 2 ^ 63 → OkIff r (FitsUnsignedBits 64 y) (nat_abs y) → result_unwrap_or r 0 ≡ natural z
 unfolding natural
-natural-yes (pos k) h = refl
-natural-yes (negsuc k) h = absurd h
-
-pub natural-no : (z : ℤ) → le_z (pos 0) z ≡ false → 0 ≡ natural z
-unfolding natural
-natural-no (pos k) h = absurd (false≢true (sym h ∙ le-leb 0 k (omega arith)))
-natural-no (negsuc k) h = refl
+natural_from z y r q h o = go z r h (subst (λ (x : ℤ). OkIff r (FitsUnsignedBits 64 x) (nat_abs x)) q o)
+  where
+    go : (z : ℤ) {E : Type 0} (r : Result ℕ E) → mag z < 2 ^ 63 → OkIff r (FitsUnsignedBits 64 z) (nat_abs z) → result_unwrap_or r 0 ≡ natural z
+    go (pos k) (Ok x) h o = o.1
+    go (pos k) (Err d) h o = absurd (o (omega arith))
+    go (negsuc k) (Ok x) h o = absurd o.0
+    go (negsuc k) (Err d) h o = refl
 
 -- ---- faces in two parts
 counted-both : (k : Chart) (l m : List Face) (s : Areas) → counted k (l ++ m) s ≡ counted k m (counted k l s)

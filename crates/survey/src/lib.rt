@@ -1,14 +1,17 @@
 // What a look at a sheet's plan and chart finds without the engine's calls: the areas of the inner faces, and whether three contexts enclose others.
 #![tactic(auto)]
 
-ghost use Rattle.std.specs.Prelude.{◌≡◌, ◌&&◌, [], ◌∷◌, length, ◌==◌, slice_index};
-ghost use Rattle.model.specs.Plan.{ring, adjacent, step, on_inner_face, faces_from};
+ghost use Rattle.std.specs.Prelude.{◌≡◌, ◌&&◌, [], ◌∷◌, ◌==◌};
+ghost use Rattle.model.specs.Plan.{step, on_inner_face, faces_from};
 ghost use Rattle.model.specs.Scan.{enclosing};
 ghost use Rattle.model.specs.Geometry.{area};
+ghost use Rattle.rings.specs.Tables.{plan_of};
 ghost use Rattle.areas.specs.Corners.{points};
 ghost use Rattle.sheet.specs.Sheets.{held_plan};
 ghost use Rattle.survey.specs.Surveys.{natural, with_area, counted, faces_on, surveyed};
 
+use charts::Points;
+use rings::Rings;
 use sheet::Sheet;
 
 // The inner faces of a chart: how many there are, how many of them are positive, the least and the sum of their doubled areas, where a negative one counts as 0.
@@ -20,155 +23,130 @@ pub struct Areas {
     pub sum: usize,
 }
 
-// How many neighbours u has.
-fn ring_size(sheet: Sheet, u: usize) -> usize
-    ensures { result ≡ length (ring (held_plan sheet) u) }
-{
-    let sizes = sheet.sizes;
-    rings::size_of(&sizes, numbers::wide_word(sheet.n), u)
-}
-
-// The i-th neighbour in u's ring; 0 past its end.
-fn neighbour_at(sheet: Sheet, u: usize, i: usize) -> usize
-    ensures { result ≡ slice_index (ring (held_plan sheet) u) i }
-{
-    let sizes = sheet.sizes;
-    let entries = sheet.entries;
-    let starts = rings::starts_of(&sizes);
-    rings::neighbour_at(&starts, &sizes, &entries, numbers::wide_word(sheet.n), u, i)
-}
-
-// Is v in u's ring?
-fn is_neighbour(sheet: Sheet, u: usize, v: usize) -> bool
-    ensures { result ≡ adjacent (held_plan sheet) u v }
-{
-    let sizes = sheet.sizes;
-    let entries = sheet.entries;
-    let starts = rings::starts_of(&sizes);
-    search::is_adjacent(&starts, &sizes, &entries, numbers::wide_word(sheet.n), u, v)
+// A plan's rings, and where the contexts stand.
+#[derive(Clone, Copy)]
+struct Drawn<'a> {
+    rings: Rings<'a>,
+    points: Points<'a>,
 }
 
 // The context after v on the face of the dart from u to v.
-fn third_of(sheet: Sheet, u: usize, v: usize) -> usize
-    ensures { result ≡ (step (held_plan sheet) (u, v)).1 }
+#[tactic(auto, unfolding(model::specs::Plan::step))]
+fn third_of(rings: &Rings, u: usize, v: usize) -> usize
+    ensures { result ≡ (step (plan_of rings.now) (u, v)).1 }
 {
-    let sizes = sheet.sizes;
-    let entries = sheet.entries;
-    let starts = rings::starts_of(&sizes);
-    search::next_of(&starts, &sizes, &entries, numbers::wide_word(sheet.n), v, u)
+    search::next_of(rings, v, u)
 }
 
 // Is the walk that begins with the dart from u to v an inner face, and w its third context?
-fn is_face(sheet: Sheet, u: usize, v: usize, w: usize) -> bool
-    ensures { result ≡ (on_inner_face (held_plan sheet) (u, v) && (step (held_plan sheet) (u, v)).1 == w) }
+#[tactic(auto, using(crate::proofs::Walks::face_tests))]
+fn is_face(rings: &Rings, u: usize, v: usize, w: usize) -> bool
+    ensures { result ≡ (on_inner_face (plan_of rings.now) (u, v) && (step (plan_of rings.now) (u, v)).1 == w) }
 {
-    if faces::is_outer(u, v) {
-        return false;
-    }
-    if third_of(sheet, u, v) != w {
-        return false;
-    }
-    if third_of(sheet, v, w) != u {
-        return false;
-    }
-    third_of(sheet, w, u) == v
+    !faces::is_outer(u, v)
+        && third_of(rings, u, v) == w
+        && third_of(rings, v, w) == u
+        && third_of(rings, w, u) == v
 }
 
 // Are a, b, c neighbours of each other and no inner face, walked either way?
-pub fn encloses(sheet: Sheet, a: usize, b: usize, c: usize) -> bool
-    ensures { result ≡ enclosing (held_plan sheet) (a, b, c) }
+#[tactic(auto, using(crate::proofs::Walks::enclosing_tests))]
+fn rings_enclose(rings: &Rings, a: usize, b: usize, c: usize) -> bool
+    ensures { result ≡ enclosing (plan_of rings.now) (a, b, c) }
 {
-    if !is_neighbour(sheet, a, b) {
-        return false;
-    }
-    if !is_neighbour(sheet, a, c) {
-        return false;
-    }
-    if !is_neighbour(sheet, b, c) {
-        return false;
-    }
-    if is_face(sheet, a, b, c) {
-        return false;
-    }
-    !is_face(sheet, a, c, b)
+    search::is_adjacent(rings, a, b)
+        && search::is_adjacent(rings, a, c)
+        && search::is_adjacent(rings, b, c)
+        && !is_face(rings, a, b, c)
+        && !is_face(rings, a, c, b)
+}
+
+// Are a, b, c neighbours of each other on the sheet's plan and no inner face, walked either way?
+pub fn encloses(sheet: &Sheet, a: usize, b: usize, c: usize) -> bool
+    ensures { result ≡ enclosing (held_plan sheet.now) (a, b, c) }
+{
+    let plan = sheet::table_of(sheet);
+    let starts = rings::starts_of(plan.sizes);
+    rings_enclose(&plan.rings(&starts), a, b, c)
 }
 
 // A number, or 0 where it is negative.
 fn natural(area: i64) -> usize
     ensures { result ≡ natural area }
 {
-    if 0 <= area { area as usize } else { 0 }
+    usize::try_from(area).unwrap_or(0)
 }
 
-// The doubled area of the triangle u, v, w; 0 where it is negative.
-fn area_at(sheet: Sheet, u: usize, v: usize, w: usize) -> usize
-    ensures { result ≡ natural (area (points sheet.xs sheet.ys) (u ∷ v ∷ w ∷ [])) }
-{
-    let xs = sheet.xs;
-    let ys = sheet.ys;
-    natural(areas::area_of(&xs, &ys, u, v, w))
-}
-
-// The areas with one more face.
-fn with_area(areas: Areas, area: usize) -> Areas
-    ensures { result ≡ with_area area areas }
-{
-    Areas {
-        faces: std::num::wrapping_add_usize(areas.faces, 1),
-        positive: std::num::wrapping_add_usize(areas.positive, numbers::lesser(area, 1)),
-        least: numbers::lesser(areas.least, area),
-        sum: std::num::wrapping_add_usize(areas.sum, area),
+impl Areas {
+    // The areas with one more face.
+    #[tactic(auto, unfolding(crate::specs::Surveys::with_area))]
+    fn with(self, area: usize) -> Areas
+        ensures { result ≡ with_area area self }
+    {
+        Areas {
+            faces: self.faces.wrapping_add(1),
+            positive: self.positive.wrapping_add(area.min(1)),
+            least: self.least.min(area),
+            sum: self.sum.wrapping_add(area),
+        }
     }
 }
 
-// The areas with the inner face whose walk begins with the dart from u to v, where u is its lowest context.
-fn with_dart(areas: Areas, sheet: Sheet, u: usize, v: usize) -> Areas
-    ensures { result ≡ counted (points sheet.xs sheet.ys) (faces_on (held_plan sheet) u v) areas }
-{
-    let w = third_of(sheet, u, v);
-    if v <= u {
-        return areas;
+impl<'a> Drawn<'a> {
+    // The doubled area of the triangle u, v, w; 0 where it is negative.
+    fn area_at(&self, u: usize, v: usize, w: usize) -> usize
+        ensures { result ≡ natural (area (points self.now.points.xs.now self.now.points.ys.now) (u ∷ v ∷ w ∷ [])) }
+    {
+        natural(areas::area_of(&self.points, u, v, w))
     }
-    if w <= u {
-        return areas;
-    }
-    if is_face(sheet, u, v, w) {
-        return with_area(areas, area_at(sheet, u, v, w));
-    }
-    areas
-}
 
-// The areas with the inner faces whose lowest context is u.
-fn with_context(areas: Areas, sheet: Sheet, u: usize) -> Areas
-    ensures { result ≡ counted (points sheet.xs sheet.ys) (faces_from (held_plan sheet) u) areas }
-{
-    let k = ring_size(sheet, u);
-    let mut all = areas;
-    let mut i = 0;
-    while i < k {
-        let more = with_dart(all, sheet, u, neighbour_at(sheet, u, i));
-        all = more;
-        i += 1;
+    // The areas with the inner face whose walk begins with the dart from u to v, where u is its lowest context.
+    fn with_dart(&self, areas: Areas, u: usize, v: usize) -> Areas
+        ensures { result ≡ counted (points self.now.points.xs.now self.now.points.ys.now) (faces_on (plan_of self.now.rings) u v) areas }
+    {
+        if v <= u {
+            return areas;
+        }
+        let w = third_of(&self.rings, u, v);
+        if w <= u {
+            return areas;
+        }
+        if is_face(&self.rings, u, v, w) {
+            return areas.with(self.area_at(u, v, w));
+        }
+        areas
     }
-    all
+
+    // The areas with the inner faces whose lowest context is u.
+    fn with_context(&self, areas: Areas, u: usize) -> Areas
+        ensures { result ≡ counted (points self.now.points.xs.now self.now.points.ys.now) (faces_from (plan_of self.now.rings) u) areas }
+    {
+        let mut all = areas;
+        for i in 0..self.rings.size_of(u) {
+            all = self.with_dart(all, u, self.rings.neighbour_at(u, i));
+        }
+        all
+    }
 }
 
 // The areas of the inner faces of a sheet's chart.
-pub fn areas_of(sheet: Sheet) -> Areas
-    ensures { result ≡ surveyed (held_plan sheet) (points sheet.xs sheet.ys) }
+pub fn areas_of(sheet: &Sheet) -> Areas
+    ensures { result ≡ surveyed (held_plan sheet.now) (points sheet.now.xs sheet.now.ys) }
 {
-    let n = numbers::wide_word(sheet.n);
+    let plan = sheet::table_of(sheet);
+    let starts = rings::starts_of(plan.sizes);
+    let drawn = Drawn {
+        rings: plan.rings(&starts),
+        points: sheet::points_of(sheet),
+    };
     let mut areas = Areas {
         faces: 0,
         positive: 0,
         least: 4294967296,
         sum: 0,
     };
-    let mut u = 0;
-    while u < n {
-        let more = with_context(areas, sheet, u);
-        areas = more;
-        u += 1;
+    for u in 0..plan.n {
+        areas = drawn.with_context(areas, u);
     }
     areas
 }

@@ -1,66 +1,54 @@
 -- chart meets its contract.
-use mathlib.Core.Path.{ap, ◌∙◌}
-use Rattle.model.specs.File.{charted}
-use Rattle.model.specs.Calls.{chart_call}
+use Rattle.std.proofs.Common.{◌≡◌, ℕ, Err, rules, sym, ap, ◌∙◌, arith}
+use Rattle.model.specs.Outcome.{accepted}
+use Rattle.refusal.specs.Refusals.{told, number_of, place_of}
+use Rattle.sheet.specs.declared.Stage.TheVariants.{Labelled}
+use Rattle.sheet.specs.Sheets.{rank, held_plan, held_labels}
+use Rattle.sheet.proofs.Reading.{stage_reached, stage_missed, stage_refused, fits_there, packed-off, packed-at}
+use Rattle.calls.proofs.Charts.{chart_for_lem, chart-call_early, chart-call-none, chart-call-drawn}
 use Rattle.charts.specs.Charts.{chart_on}
-use Rattle.placement.specs.Drawing.{drawn_of}
-use Rattle.sheet.specs.Sheets.{held_plan, held_labels, reads}
-use Rattle.sheet.proofs.Reading.{ranked, fits_there}
-use Rattle.sheet.proofs.Reading.{answer_refused, answer_accepted}
-use Rattle.calls.proofs.Charts.{chart-call_early, chart-call-none, chart-drawn, chart-call-drawn}
-use native.Mathlib.Omega.{arith}
+use Rattle.placement.specs.Drawing.{chart_for, drawn_of}
+use Rattle.model.specs.Chart.{chart}
 use Rattle.calls.proofs.chart.Goals as goal
 
-pub returns-then-rank_of-lt2-clause-answer_value : goal.returns-then-rank_of-lt2-clause-answer_value
-returns-then-rank_of-lt2-clause-answer_value c =
+pub returns-in_err-require_stage : goal.returns-in_err-require_stage
+unfolding rank
+returns-in_err-require_stage c =
     let s = c.args.sheet in
-    let k = ranked s c.stage_of.ensures c.rank_of.ensures in
-    (answer_refused s c.refuse.result.sheet c.refuse.result.answer (chart_call (reads s)) 13 0 (chart-call_early s (omega arith)) c.refuse.ensures.answer_value c.refuse.ensures.sheet_value).0
+    let f = c.in_err-require_stage.field-0.0 in
+    let r : c.from_residual.result ≡ Err f = search rules in
+    let q = c.require_stage.ensures in
+    let e = stage_refused s Labelled c.require_stage.result q f c.in_err-require_stage.was in
+    ap told r ∙ e ∙ sym (packed-off (chart-call_early s (stage_missed s Labelled c.require_stage.result q f c.in_err-require_stage.was)))
 
-pub returns-then-rank_of-lt2-clause-sheet_value : goal.returns-then-rank_of-lt2-clause-sheet_value
-returns-then-rank_of-lt2-clause-sheet_value c =
+pub returns-in_err-drawn : goal.returns-in_err-drawn
+unfolding rank
+returns-in_err-drawn c =
     let s = c.args.sheet in
-    let k = ranked s c.stage_of.ensures c.rank_of.ensures in
-    (answer_refused s c.refuse.result.sheet c.refuse.result.answer (chart_call (reads s)) 13 0 (chart-call_early s (omega arith)) c.refuse.ensures.answer_value c.refuse.ensures.sheet_value).1
-
-pub chart_held-drawn-requires : goal.chart_held-drawn-requires
-chart_held-drawn-requires c =
-    let s = c.args.sheet in
-    let k = ranked s c.stage_of.ensures c.rank_of.ensures in
-    fits_there s (omega arith)
+    let f = c.in_err-drawn.field-0.0 in
+    let r : c.from_residual-in_err-drawn.result ≡ Err f = search rules in
+    let h = stage_reached s Labelled c.require_stage.result c.require_stage.ensures c.in_ok-require_stage.field-0 c.in_ok-require_stage.was in
+    let g = fits_there s (omega arith) in
+    let t = c.table_of.ensures in
+    let same = (λ i. chart_for (t.sizes i) (t.entries i) (t.n i) (c.labels_of.ensures.held g i)) ∙ chart_for_lem s g in
+    ap told r ∙ sym (packed-off (chart-call-none s h (number_of f) (place_of f) (c.in_err-drawn.ensures.n_value ∙ same)))
 
 pub with_chart-requires : goal.with_chart-requires
+unfolding rank
 with_chart-requires c =
-    let s = c.args.sheet in
-    let k = ranked s c.stage_of.ensures c.rank_of.ensures in
-    fits_there s (omega arith)
+    let h = stage_reached c.args.sheet Labelled c.require_stage.result c.require_stage.ensures c.in_ok-require_stage.field-0 c.in_ok-require_stage.was in
+    fits_there c.args.sheet (omega arith)
 
-pub returns-then-drawn-clause-answer_value : goal.returns-then-drawn-clause-answer_value
-returns-then-drawn-clause-answer_value c =
+pub returns : goal.returns
+unfolding rank
+returns c =
     let s = c.args.sheet in
-    let k = ranked s c.stage_of.ensures c.rank_of.ensures in
-    let d = c.chart_held-drawn.result in
+    let d = c.in_ok-drawn.drawn in
+    let h = stage_reached s Labelled c.require_stage.result c.require_stage.ensures c.in_ok-require_stage.field-0 c.in_ok-require_stage.was in
+    let g = fits_there s (omega arith) in
+    let t = c.table_of.ensures in
+    let same = (λ i. chart_for (t.sizes i) (t.entries i) (t.n i) (c.labels_of.ensures.held g i)) ∙ chart_for_lem s g in
     let ch = chart_on s.n d.w d.h d.xs d.ys in
-    let drawn = c.chart_held-drawn.ensures.value ∙ ap drawn_of (chart-drawn s (omega arith) d c.chart_held-drawn.ensures.n_value c.if-drawn.true) in
-    (answer_accepted s c.accept.result.sheet c.accept.result.answer (chart_call (reads s)) (charted (held_plan s) (held_labels s) ch) (chart-call-drawn s (omega arith) d c.chart_held-drawn.ensures.n_value c.if-drawn.true) c.accept.ensures.answer_value (c.accept.ensures.sheet_value ∙ c.with_chart.ensures ch drawn)).0
-
-pub returns-then-drawn-clause-sheet_value : goal.returns-then-drawn-clause-sheet_value
-returns-then-drawn-clause-sheet_value c =
-    let s = c.args.sheet in
-    let k = ranked s c.stage_of.ensures c.rank_of.ensures in
-    let d = c.chart_held-drawn.result in
-    let ch = chart_on s.n d.w d.h d.xs d.ys in
-    let drawn = c.chart_held-drawn.ensures.value ∙ ap drawn_of (chart-drawn s (omega arith) d c.chart_held-drawn.ensures.n_value c.if-drawn.true) in
-    (answer_accepted s c.accept.result.sheet c.accept.result.answer (chart_call (reads s)) (charted (held_plan s) (held_labels s) ch) (chart-call-drawn s (omega arith) d c.chart_held-drawn.ensures.n_value c.if-drawn.true) c.accept.ensures.answer_value (c.accept.ensures.sheet_value ∙ c.with_chart.ensures ch drawn)).1
-
-pub returns-clause-answer_value : goal.returns-clause-answer_value
-returns-clause-answer_value c =
-    let s = c.args.sheet in
-    let k = ranked s c.stage_of.ensures c.rank_of.ensures in
-    (answer_refused s c.refuse-2.result.sheet c.refuse-2.result.answer (chart_call (reads s)) 11 0 (chart-call-none s (omega arith) c.chart_held-drawn.result c.chart_held-drawn.ensures.n_value c.if-drawn.false) c.refuse-2.ensures.answer_value c.refuse-2.ensures.sheet_value).0
-
-pub returns-clause-sheet_value : goal.returns-clause-sheet_value
-returns-clause-sheet_value c =
-    let s = c.args.sheet in
-    let k = ranked s c.stage_of.ensures c.rank_of.ensures in
-    (answer_refused s c.refuse-2.result.sheet c.refuse-2.result.answer (chart_call (reads s)) 11 0 (chart-call-none s (omega arith) c.chart_held-drawn.result c.chart_held-drawn.ensures.n_value c.if-drawn.false) c.refuse-2.ensures.answer_value c.refuse-2.ensures.sheet_value).1
+    let there : accepted ch ≡ chart (held_plan s) (held_labels s) = sym (ap (λ (n : ℕ). accepted (chart_on n d.w d.h d.xs d.ys)) t.n) ∙ c.in_ok-drawn.ensures.n_value ∙ same in
+    let drawn = sym c.in_ok-drawn.was ∙ c.chart_of.ensures.value ∙ ap drawn_of (same ∙ sym there) in
+    ap accepted (c.with_chart.ensures ch drawn) ∙ sym (packed-at (chart-call-drawn s h ch there))

@@ -1,96 +1,51 @@
 -- turn meets its contract.
-use mathlib.Core.Path.{refl, ◌∙◌}
-use Rattle.lists.specs.Spans.{stretch}
-use Rattle.model.specs.File.{labelled}
-use Rattle.model.specs.Calls.{turn_call}
-use Rattle.turn.specs.declared.TurnAnswer.TheVariants.{BadList, Broken, Unfit}
-use Rattle.turn.specs.Turned.{outcome_of}
-use Rattle.sheet.specs.Sheets.{held_count, held_plan, reads}
-use Rattle.sheet.proofs.Reading.{ranked, fits_there, answer_refused, answer_accepted}
+use Rattle.std.proofs.Common.{◌≡◌, Err, rules, sym, ap, ◌∙◌, arith}
+use Rattle.model.specs.Outcome.{accepted}
+use Rattle.refusal.specs.Refusals.{told, number_of, place_of}
+use Rattle.turn.specs.Turned.{labels_in, turn_of}
+use Rattle.sheet.specs.declared.Stage.TheVariants.{Labelled}
+use Rattle.sheet.specs.Sheets.{rank}
+use Rattle.sheet.proofs.Reading.{stage_reached, stage_missed, stage_refused, fits_there, packed-off, packed-at}
 use Rattle.calls.proofs.Turns.{turn_early, turn-refused, turn-labelled}
-use native.Mathlib.Omega.{arith}
 use Rattle.calls.proofs.turn.Goals as goal
 
-pub returns-then-rank_of-lt2-clause-answer_value : goal.returns-then-rank_of-lt2-clause-answer_value
-returns-then-rank_of-lt2-clause-answer_value c =
+pub returns-in_err-require_stage : goal.returns-in_err-require_stage
+unfolding rank
+returns-in_err-require_stage c =
     let a = c.args in
     let s = a.sheet in
-    let k = ranked s c.stage_of.ensures c.rank_of.ensures in
-    (answer_refused s c.refuse.result.sheet c.refuse.result.answer (turn_call (reads s) a.items.now a.direction) 13 0 (turn_early s a.items.now a.direction (omega arith)) c.refuse.ensures.answer_value c.refuse.ensures.sheet_value).0
+    let f = c.in_err-require_stage.field-0.0 in
+    let r : c.from_residual.result ≡ Err f = search rules in
+    let q = c.require_stage.ensures in
+    let e = stage_refused s Labelled c.require_stage.result q f c.in_err-require_stage.was in
+    ap told r ∙ e ∙ sym (packed-off (turn_early s a.items.now a.direction (stage_missed s Labelled c.require_stage.result q f c.in_err-require_stage.was)))
 
-pub returns-then-rank_of-lt2-clause-sheet_value : goal.returns-then-rank_of-lt2-clause-sheet_value
-returns-then-rank_of-lt2-clause-sheet_value c =
+pub returns-in_err-turned : goal.returns-in_err-turned
+unfolding rank
+returns-in_err-turned c =
     let a = c.args in
     let s = a.sheet in
-    let k = ranked s c.stage_of.ensures c.rank_of.ensures in
-    (answer_refused s c.refuse.result.sheet c.refuse.result.answer (turn_call (reads s) a.items.now a.direction) 13 0 (turn_early s a.items.now a.direction (omega arith)) c.refuse.ensures.answer_value c.refuse.ensures.sheet_value).1
+    let f = c.in_err-turned.field-0.0 in
+    let r : c.from_residual-in_err-turned.result ≡ Err f = search rules in
+    let h = stage_reached s Labelled c.require_stage.result c.require_stage.ensures c.in_ok-require_stage.field-0 c.in_ok-require_stage.was in
+    let t = c.table_of.ensures in
+    let e = c.in_err-turned.ensures.answer ∙ λ i. turn_of (t.sizes i) (t.entries i) (t.n i) s.labels a.items.now a.direction in
+    ap told r ∙ sym (packed-off (turn-refused s a.items.now a.direction h (omega arith) (number_of f) (place_of f) e))
 
 pub with_labels-requires : goal.with_labels-requires
+unfolding rank
 with_labels-requires c =
-    let s = c.args.sheet in
-    let k = ranked s c.stage_of.ensures c.rank_of.ensures in
-    fits_there s (omega arith)
+    let h = stage_reached c.args.sheet Labelled c.require_stage.result c.require_stage.ensures c.in_ok-require_stage.field-0 c.in_ok-require_stage.was in
+    fits_there c.args.sheet (omega arith)
 
-pub returns-in-Labelled-clause-answer_value : goal.returns-in-Labelled-clause-answer_value
-returns-in-Labelled-clause-answer_value c =
+pub returns : goal.returns
+unfolding rank
+returns c =
     let a = c.args in
     let s = a.sheet in
-    let k = ranked s c.stage_of.ensures c.rank_of.ensures in
-    let e = turn-labelled s a.items.now a.direction (omega arith) (omega arith) c.turn_held-turned.result.answer c.turn_held-turned.result.labels c.turn_held-turned.ensures c.in-Labelled.is in
-    (answer_accepted s c.accept.result.sheet c.accept.result.answer (turn_call (reads s) a.items.now a.direction) (labelled (held_plan s) (stretch c.turn_held-turned.result.labels 0 (held_count s))) e c.accept.ensures.answer_value (c.accept.ensures.sheet_value ∙ c.with_labels.ensures)).0
-
-pub returns-in-Labelled-clause-sheet_value : goal.returns-in-Labelled-clause-sheet_value
-returns-in-Labelled-clause-sheet_value c =
-    let a = c.args in
-    let s = a.sheet in
-    let k = ranked s c.stage_of.ensures c.rank_of.ensures in
-    let e = turn-labelled s a.items.now a.direction (omega arith) (omega arith) c.turn_held-turned.result.answer c.turn_held-turned.result.labels c.turn_held-turned.ensures c.in-Labelled.is in
-    (answer_accepted s c.accept.result.sheet c.accept.result.answer (turn_call (reads s) a.items.now a.direction) (labelled (held_plan s) (stretch c.turn_held-turned.result.labels 0 (held_count s))) e c.accept.ensures.answer_value (c.accept.ensures.sheet_value ∙ c.with_labels.ensures)).1
-
-pub returns-in-BadList-clause-answer_value : goal.returns-in-BadList-clause-answer_value
-unfolding outcome_of
-returns-in-BadList-clause-answer_value c =
-    let a = c.args in
-    let s = a.sheet in
-    let k = ranked s c.stage_of.ensures c.rank_of.ensures in
-    (answer_refused s c.refuse-in-BadList.result.sheet c.refuse-in-BadList.result.answer (turn_call (reads s) a.items.now a.direction) 15 _ (turn-refused s a.items.now a.direction (omega arith) (omega arith) c.turn_held-turned.result.answer c.turn_held-turned.result.labels c.turn_held-turned.ensures (BadList _) 15 _ c.in-BadList.is refl) c.refuse-in-BadList.ensures.answer_value c.refuse-in-BadList.ensures.sheet_value).0
-
-pub returns-in-BadList-clause-sheet_value : goal.returns-in-BadList-clause-sheet_value
-unfolding outcome_of
-returns-in-BadList-clause-sheet_value c =
-    let a = c.args in
-    let s = a.sheet in
-    let k = ranked s c.stage_of.ensures c.rank_of.ensures in
-    (answer_refused s c.refuse-in-BadList.result.sheet c.refuse-in-BadList.result.answer (turn_call (reads s) a.items.now a.direction) 15 _ (turn-refused s a.items.now a.direction (omega arith) (omega arith) c.turn_held-turned.result.answer c.turn_held-turned.result.labels c.turn_held-turned.ensures (BadList _) 15 _ c.in-BadList.is refl) c.refuse-in-BadList.ensures.answer_value c.refuse-in-BadList.ensures.sheet_value).1
-
-pub returns-in-Broken-clause-answer_value : goal.returns-in-Broken-clause-answer_value
-unfolding outcome_of
-returns-in-Broken-clause-answer_value c =
-    let a = c.args in
-    let s = a.sheet in
-    let k = ranked s c.stage_of.ensures c.rank_of.ensures in
-    (answer_refused s c.refuse-in-Broken.result.sheet c.refuse-in-Broken.result.answer (turn_call (reads s) a.items.now a.direction) 10 _ (turn-refused s a.items.now a.direction (omega arith) (omega arith) c.turn_held-turned.result.answer c.turn_held-turned.result.labels c.turn_held-turned.ensures (Broken _) 10 _ c.in-Broken.is refl) c.refuse-in-Broken.ensures.answer_value c.refuse-in-Broken.ensures.sheet_value).0
-
-pub returns-in-Broken-clause-sheet_value : goal.returns-in-Broken-clause-sheet_value
-unfolding outcome_of
-returns-in-Broken-clause-sheet_value c =
-    let a = c.args in
-    let s = a.sheet in
-    let k = ranked s c.stage_of.ensures c.rank_of.ensures in
-    (answer_refused s c.refuse-in-Broken.result.sheet c.refuse-in-Broken.result.answer (turn_call (reads s) a.items.now a.direction) 10 _ (turn-refused s a.items.now a.direction (omega arith) (omega arith) c.turn_held-turned.result.answer c.turn_held-turned.result.labels c.turn_held-turned.ensures (Broken _) 10 _ c.in-Broken.is refl) c.refuse-in-Broken.ensures.answer_value c.refuse-in-Broken.ensures.sheet_value).1
-
-pub returns-in-Unfit-clause-answer_value : goal.returns-in-Unfit-clause-answer_value
-unfolding outcome_of
-returns-in-Unfit-clause-answer_value c =
-    let a = c.args in
-    let s = a.sheet in
-    let k = ranked s c.stage_of.ensures c.rank_of.ensures in
-    (answer_refused s c.refuse-in-Unfit.result.sheet c.refuse-in-Unfit.result.answer (turn_call (reads s) a.items.now a.direction) 13 0 (turn-refused s a.items.now a.direction (omega arith) (omega arith) c.turn_held-turned.result.answer c.turn_held-turned.result.labels c.turn_held-turned.ensures (Unfit) 13 0 c.in-Unfit.is refl) c.refuse-in-Unfit.ensures.answer_value c.refuse-in-Unfit.ensures.sheet_value).0
-
-pub returns-in-Unfit-clause-sheet_value : goal.returns-in-Unfit-clause-sheet_value
-unfolding outcome_of
-returns-in-Unfit-clause-sheet_value c =
-    let a = c.args in
-    let s = a.sheet in
-    let k = ranked s c.stage_of.ensures c.rank_of.ensures in
-    (answer_refused s c.refuse-in-Unfit.result.sheet c.refuse-in-Unfit.result.answer (turn_call (reads s) a.items.now a.direction) 13 0 (turn-refused s a.items.now a.direction (omega arith) (omega arith) c.turn_held-turned.result.answer c.turn_held-turned.result.labels c.turn_held-turned.ensures (Unfit) 13 0 c.in-Unfit.is refl) c.refuse-in-Unfit.ensures.answer_value c.refuse-in-Unfit.ensures.sheet_value).1
+    let m = c.in_ok-turned.turned in
+    let h = stage_reached s Labelled c.require_stage.result c.require_stage.ensures c.in_ok-require_stage.field-0 c.in_ok-require_stage.was in
+    let t = c.table_of.ensures in
+    let there : accepted (labels_in c.table_of.result.sizes.now c.table_of.result.n m) ≡ accepted (labels_in s.sizes s.n m) = λ i. accepted (labels_in (t.sizes i) (t.n i) m) in
+    let e = sym there ∙ c.in_ok-turned.ensures.answer ∙ λ i. turn_of (t.sizes i) (t.entries i) (t.n i) s.labels a.items.now a.direction in
+    ap accepted c.with_labels.ensures ∙ sym (packed-at (turn-labelled s a.items.now a.direction h (omega arith) m e))

@@ -1,33 +1,25 @@
 -- with_labels meets its contract.
-use mathlib.Core.Path.{ap, ◌∙◌}
-use Prim.Native.Nat.{ℕ}
+use Rattle.std.proofs.Common.{ℕ, List, sym, ap, ◌∙◌, arith}
 use Rattle.lists.specs.Spans.{stretch}
+use Rattle.lists.proofs.Spans.{stretch_part}
 use Rattle.model.specs.File.{labelled}
 use Rattle.sheet.specs.Sheets.{held_count, held_plan, packed}
 use Rattle.sheet.proofs.Reading.{room, total-held}
-use native.Mathlib.Omega.{arith}
 use Rattle.calls.proofs.with_labels.Goals as goal
 
-pub relabelled-requires-clause-k_bound : goal.relabelled-requires-clause-k_bound
-relabelled-requires-clause-k_bound c =
-    let s = c.args.sheet in
-    let f = c.requires in
-    let t = total-held s f c.wide_word.ensures.value c.total_of-total.ensures.value in
-    let h = room s f in
-    omega arith
-
-pub relabelled-requires-clause-k_in_bounds : goal.relabelled-requires-clause-k_in_bounds
-relabelled-requires-clause-k_in_bounds c =
-    let s = c.args.sheet in
-    let f = c.requires in
-    let t = total-held s f c.wide_word.ensures.value c.total_of-total.ensures.value in
-    let h = room s f in
+pub shared_ref_as_front-relabelled : goal.shared_ref_as_front-relabelled
+shared_ref_as_front-relabelled c =
+    let s = c.args.sheet.now in
+    let t = total-held s c.requires c.from.ensures c.total_of-total.ensures.value in
+    let h = room s c.requires in
     omega arith
 
 pub returns : goal.returns
 unfolding held_count
 returns c =
-    let a = c.args in
-    let s = a.sheet in
-    let t = total-held s c.requires c.wide_word.ensures.value c.total_of-total.ensures.value in
-    c.relabelled.ensures ∙ ap (λ (k : ℕ). packed (labelled (held_plan s) (stretch a.labels 0 k))) t
+    let s = c.args.sheet.now in
+    let ls = c.args.labels.now in
+    let t = total-held s c.requires c.from.ensures c.total_of-total.ensures.value in
+    let h = room s c.requires in
+    c.relabelled.ensures
+    ∙ ap (λ (l : List ℕ). packed (labelled (held_plan s) l)) (sym (stretch_part ls 0 c.total_of-total.result (omega arith)) ∙ ap (stretch ls 0) t)

@@ -1,34 +1,25 @@
 -- chart_part meets its contract.
-use mathlib.Core.Path.{ap, ◌∙◌}
-use Prim.Native.Nat.{ℕ}
-use mathlib.Core.List.{List}
-use Rattle.charts.specs.Charts.{chart_on}
-use Rattle.sheet.specs.Sheets.{held_plan, held_chart}
+use Rattle.std.proofs.Common.{◌≡◌, ℕ, ap, ◌∙◌, arith}
+use Rattle.rings.specs.Tables.{start_of}
+use Rattle.charts.specs.Charts.{chart_in}
 use Rattle.sheet.proofs.Reading.{few, room}
 use Rattle.judging.specs.Rules.{chart_rules}
-use Rattle.judging.proofs.Rules.{labels_reach, labels-front}
-use borrow.Author.Rules.{rules}
 use Rattle.judging.proofs.chart_part.Goals as goal
 
-pub first_labels-requires : goal.first_labels-requires
-first_labels-requires c =
-    let s = c.args.sheet in
-    labels_reach s c.requires c.total_of-count.ensures.value (search rules)
+pub chart_rule-requires-clause-few : goal.chart_rule-requires-clause-few
+chart_rule-requires-clause-few c = let h = few c.args.sheet.now c.requires in omega arith
 
-pub chart_rule-requires-clause-n_bound : goal.chart_rule-requires-clause-n_bound
-chart_rule-requires-clause-n_bound c =
-    let s = c.args.sheet in
-    let f = c.requires in
-    few s f
-
-pub chart_rule-requires-clause-n_bound_2 : goal.chart_rule-requires-clause-n_bound_2
-chart_rule-requires-clause-n_bound_2 c =
-    let s = c.args.sheet in
-    let f = c.requires in
-    room s f
+pub chart_rule-requires-clause-room : goal.chart_rule-requires-clause-room
+chart_rule-requires-clause-room c =
+    let s = c.args.sheet.now in
+    let h = room s c.requires in
+    let t = c.table_of.ensures in
+    let e : start_of c.table_of.result.sizes.now c.table_of.result.n ≡ start_of s.sizes s.n = λ i. start_of (t.sizes i) (t.n i) in
+    omega arith
 
 pub returns : goal.returns
-unfolding held_plan held_chart chart_on
 returns c =
-    let s = c.args.sheet in
-    c.chart_rule.ensures ∙ ap (λ (l : List ℕ). chart_rules (held_plan s) l (held_chart s)) (c.first_labels.ensures ∙ labels-front s c.requires c.total_of-count.ensures.value (search rules))
+    let t = c.table_of.ensures in
+    let p = c.points_of in
+    let e = ap (λ (n : ℕ). chart_in n p.result) t.n ∙ p.ensures.chart in
+    c.chart_rule.ensures ∙ λ i. chart_rules (t.plan i) (c.labels_of.ensures.held c.requires i) (e i)

@@ -1,12 +1,9 @@
 -- label_rule meets its contract.
-use Rattle.sheet.specs.Answers.{answer_as}
 use Rattle.judging.proofs.Rules.{ten_refused, ten_passed}
 use Rattle.judging.proofs.label_rule.Goals as goal
 
-pub returns-then-ten-n : goal.returns-then-ten-n
-unfolding answer_as
-returns-then-ten-n c = let a = c.args in ten_refused a.sizes.now a.entries.now a.n a.labels.now c.requires c.rules_place-ten.ensures.value c.if-ten-n.true
+pub returns-then-ten-plan : goal.returns-then-ten-plan
+returns-then-ten-plan c = let p = c.args.plan.now in ten_refused p.sizes.now p.entries.now p.n c.args.labels.now c.requires c.rules_place-ten.ensures.value c.if-ten-plan.true
 
 pub returns : goal.returns
-unfolding answer_as
-returns c = let a = c.args in ten_passed a.sizes.now a.entries.now a.n a.labels.now c.requires c.rules_place-ten.ensures.value c.if-ten-n.false
+returns c = let p = c.args.plan.now in ten_passed p.sizes.now p.entries.now p.n c.args.labels.now c.requires c.rules_place-ten.ensures.value c.if-ten-plan.false

@@ -1,27 +1,24 @@
 -- scan meets its contract.
-use Rattle.sheet.specs.Answers.{scanned_as}
-use Rattle.sheet.proofs.Reading.{ranked}
-use Rattle.reports.proofs.Scans.{scan_early, scan-triple, scan-nothing}
-use native.Mathlib.Omega.{arith}
+use Rattle.std.proofs.Common.{◌≡◌, Err, rules, sym, ap, ◌∙◌}
+use Rattle.sheet.specs.declared.Stage.TheVariants.{Open}
+use Rattle.sheet.specs.Sheets.{rank}
+use Rattle.sheet.proofs.Reading.{stage_reached, stage_missed, stage_refused}
+use Rattle.reports.specs.Scanned.{scanned_as}
+use Rattle.reports.proofs.Scans.{scan_early, scan_there}
 use Rattle.reports.proofs.scan.Goals as goal
 
-pub returns-then-rank_of-lt1 : goal.returns-then-rank_of-lt1
-unfolding scanned_as
-returns-then-rank_of-lt1 c =
-    let s = c.args.sheet in
-    let k = ranked s c.stage_of.ensures c.rank_of.ensures in
-    scan_early s (omega arith)
+pub returns-in_err-require_stage : goal.returns-in_err-require_stage
+unfolding scanned_as rank
+returns-in_err-require_stage c =
+    let s = c.args.sheet.now in
+    let f = c.in_err-require_stage.field-0.0 in
+    let r : c.from_residual.result ≡ Err f = search rules in
+    let h = stage_missed s Open c.require_stage.result c.require_stage.ensures f c.in_err-require_stage.was in
+    let e = stage_refused s Open c.require_stage.result c.require_stage.ensures f c.in_err-require_stage.was in
+    ap scanned_as r ∙ e ∙ sym (scan_early s h)
 
-pub returns-in-Triple : goal.returns-in-Triple
-unfolding scanned_as
-returns-in-Triple c =
-    let s = c.args.sheet in
-    let k = ranked s c.stage_of.ensures c.rank_of.ensures in
-    scan-triple s (omega arith) c.scan_plan-found.result c.scan_plan-found.ensures c.in-Triple.a c.in-Triple.b c.in-Triple.c c.in-Triple.is
-
-pub returns-in-Nothing : goal.returns-in-Nothing
-unfolding scanned_as
-returns-in-Nothing c =
-    let s = c.args.sheet in
-    let k = ranked s c.stage_of.ensures c.rank_of.ensures in
-    scan-nothing s (omega arith) c.scan_plan-found.result c.scan_plan-found.ensures c.in-Nothing.is
+pub returns : goal.returns
+unfolding rank
+returns c =
+    let s = c.args.sheet.now in
+    scan_there s c.scan_plan.result (stage_reached s Open c.require_stage.result c.require_stage.ensures c.in_ok-require_stage.field-0 c.in_ok-require_stage.was) c.scan_plan.ensures

@@ -1,14 +1,11 @@
 -- scan_plan meets its contract.
-use mathlib.Core.Path.{◌∙◌}
+use Rattle.std.proofs.Common.{ap, ◌∙◌}
 use Rattle.model.specs.Scan.{scan}
-use Rattle.rings.specs.Tables.{rows, table}
-use Rattle.sheet.specs.Sheets.{held_plan}
+use Rattle.sheet.proofs.Reading.{rings-held}
 use Rattle.reports.proofs.scan_plan.Goals as goal
 
 pub returns : goal.returns
-unfolding held_plan table
 returns c =
-    let s = c.args.sheet in
-    let w = c.wide_word.ensures.value in
-    let b = c.starts_of-starts.ensures in
-    c.scan.ensures ∙ λ i. scan (rows (b i) s.sizes s.entries (w i))
+    let t = c.table_of.ensures in
+    let r = c.rings.ensures in
+    c.scan.ensures ∙ ap scan (rings-held c.args.sheet.now c.rings.result (r.starts ∙ c.starts_of-starts.ensures) (r.sizes ∙ t.sizes) (r.entries ∙ t.entries) (r.n ∙ t.n))

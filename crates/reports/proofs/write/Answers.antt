@@ -1,56 +1,39 @@
 -- write meets its contract.
-use mathlib.Core.Path.{ap, ◌∙◌}
-use Rattle.sheet.specs.Answers.{written_as}
-use Rattle.reports.specs.FileParts.{parts_of}
-use Rattle.sheet.proofs.Reading.{ranked}
-use Rattle.reports.proofs.Writes.{early_length, buffer_kept, length-written, short-written, buffer_written}
-use native.Mathlib.Omega.{arith}
+use Rattle.std.proofs.Common.{◌≡◌, Err, rules, ap, ◌∙◌}
+use Rattle.refusal.specs.Refusals.{told}
+use Rattle.writing.specs.Files.{sheet_held}
+use Rattle.sheet.specs.declared.Stage.TheVariants.{Open}
+use Rattle.sheet.specs.Sheets.{rank}
+use Rattle.sheet.proofs.Reading.{stage_reached, stage_missed, stage_refused}
+use Rattle.reports.proofs.Writes.{early_length, buffer_kept, length-written, buffer_written}
 use Rattle.reports.proofs.write.Goals as goal
 
-pub returns-then-rank_of-lt1-clause-result_value : goal.returns-then-rank_of-lt1-clause-result_value
-unfolding written_as
-returns-then-rank_of-lt1-clause-result_value c =
-    let a = c.args in
-    let s = a.sheet in
-    let k = ranked s c.stage_of-stage.ensures c.rank_of.ensures in
-    early_length s a.out.now (omega arith)
+pub returns-in_err-require_stage-clause-result_value : goal.returns-in_err-require_stage-clause-result_value
+unfolding rank
+returns-in_err-require_stage-clause-result_value c =
+    let s = c.args.sheet.now in
+    let f = c.in_err-require_stage.field-0.0 in
+    let r : c.from_residual.result ≡ Err f = search rules in
+    let q = c.require_stage.ensures in
+    let e = stage_refused s Open c.require_stage.result q f c.in_err-require_stage.was in
+    ap told r ∙ e ∙ early_length s c.args.out.now (stage_missed s Open c.require_stage.result q f c.in_err-require_stage.was)
 
-pub returns-then-rank_of-lt1-clause-out_after : goal.returns-then-rank_of-lt1-clause-out_after
-unfolding written_as
-returns-then-rank_of-lt1-clause-out_after c =
-    let a = c.args in
-    let s = a.sheet in
-    let k = ranked s c.stage_of-stage.ensures c.rank_of.ensures in
-    buffer_kept s a.out.now (omega arith)
+pub returns-in_err-require_stage-clause-out_after : goal.returns-in_err-require_stage-clause-out_after
+unfolding rank
+returns-in_err-require_stage-clause-out_after c =
+    let s = c.args.sheet.now in
+    buffer_kept s c.args.out.now (stage_missed s Open c.require_stage.result c.require_stage.ensures c.in_err-require_stage.field-0.0 c.in_err-require_stage.was)
 
-pub returns-in-Length-clause-result_value : goal.returns-in-Length-clause-result_value
-unfolding written_as
-returns-in-Length-clause-result_value c =
-    let a = c.args in
-    let s = a.sheet in
-    let k = ranked s c.stage_of-stage.ensures c.rank_of.ensures in
-    let q = c.parts_of.ensures ∙ ap parts_of c.stage_of-stage.ensures in length-written s c.parts_of.result q (omega arith) a.out.now c.write_parts-answer.new.out c.write_parts-answer.result c.write_parts-answer.ensures.out_after c.in-Length.k c.in-Length.is
+pub returns-clause-result_value : goal.returns-clause-result_value
+unfolding rank
+returns-clause-result_value c =
+    let s = c.args.sheet.now in
+    let h = stage_reached s Open c.require_stage.result c.require_stage.ensures c.in_ok-require_stage.field-0 c.in_ok-require_stage.was in
+    length-written s h (sheet_held c.held_of.result) c.held_of.ensures c.args.out.now c.write_file.new.out c.write_file.result c.write_file.ensures.out_after
 
-pub returns-in-Length-clause-out_after : goal.returns-in-Length-clause-out_after
-unfolding written_as
-returns-in-Length-clause-out_after c =
-    let a = c.args in
-    let s = a.sheet in
-    let k = ranked s c.stage_of-stage.ensures c.rank_of.ensures in
-    let q = c.parts_of.ensures ∙ ap parts_of c.stage_of-stage.ensures in buffer_written s c.parts_of.result q (omega arith) a.out.now c.write_parts-answer.new.out c.write_parts-answer.ensures.out_after_2
-
-pub returns-in-Short-clause-result_value : goal.returns-in-Short-clause-result_value
-unfolding written_as
-returns-in-Short-clause-result_value c =
-    let a = c.args in
-    let s = a.sheet in
-    let k = ranked s c.stage_of-stage.ensures c.rank_of.ensures in
-    let q = c.parts_of.ensures ∙ ap parts_of c.stage_of-stage.ensures in short-written s c.parts_of.result q (omega arith) a.out.now c.write_parts-answer.new.out c.write_parts-answer.result c.write_parts-answer.ensures.out_after c.in-Short.k c.in-Short.is
-
-pub returns-in-Short-clause-out_after : goal.returns-in-Short-clause-out_after
-unfolding written_as
-returns-in-Short-clause-out_after c =
-    let a = c.args in
-    let s = a.sheet in
-    let k = ranked s c.stage_of-stage.ensures c.rank_of.ensures in
-    let q = c.parts_of.ensures ∙ ap parts_of c.stage_of-stage.ensures in buffer_written s c.parts_of.result q (omega arith) a.out.now c.write_parts-answer.new.out c.write_parts-answer.ensures.out_after_2
+pub returns-clause-out_after : goal.returns-clause-out_after
+unfolding rank
+returns-clause-out_after c =
+    let s = c.args.sheet.now in
+    let h = stage_reached s Open c.require_stage.result c.require_stage.ensures c.in_ok-require_stage.field-0 c.in_ok-require_stage.was in
+    buffer_written s h (sheet_held c.held_of.result) c.held_of.ensures c.args.out.now c.write_file.new.out c.write_file.ensures.out_after_2
