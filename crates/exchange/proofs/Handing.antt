@@ -5,19 +5,23 @@ use mathlib.Core.List.{List, [], ◌∷◌}
 use native.Mathlib.Omega.{arith}
 use lib.ListN.{length}
 use lib.Dec.{leb}
-use Rattle.model.specs.Outcome.{Outcome, accepted, refused, passed, require, ◌>>=◌, ◌>>◌}
+use Rattle.model.specs.Outcome.{Outcome, accepted, refused, require, ◌>>=◌}
 use Rattle.model.specs.File.{Sheet, fresh, encode}
 use Rattle.model.specs.Calls.{plan_of, open_call, write_call}
 use Rattle.model.specs.CallLists.{Call, open_file, call}
-use Rattle.model.proofs.Outcomes.{not-both, same-value, bind_accepted, then_accepted, then_at, then_off}
+use Rattle.model.proofs.Outcomes.{not-both, same-value, bind_accepted, then_accepted}
 use Rattle.writing.specs.Files.{buffer_after}
+use Rattle.std.specs.Prelude.{Ok}
+use Rattle.std.specs.declared.result.Result.{Result}
+use Rattle.refusal.specs.declared.Refusal.{Refusal}
+use Rattle.refusal.specs.Refusals.{told}
 use Rattle.sheet.specs.declared.Sheet as struct
-use Rattle.sheet.specs.declared.Outcome as told
 use Rattle.sheet.specs.Sheets.{reads, packed}
-use Rattle.sheet.specs.Answers.{answer_as, answer_of, after, length_of}
-use Rattle.guarantee.proofs.Sized.{Good, fresh_good, leaves_good}
+use Rattle.sheet.specs.Answers.{packed_as, length_of}
+use Rattle.guarantee.proofs.Sized.{Good, fresh_good, leaves_good, held_sized}
 use Rattle.guarantee.proofs.Struct.{read_back}
-use Rattle.answers.specs.Codes.{code, wrapped, in_turn, given}
+use Rattle.answers.specs.Codes.{code, wrapped, given}
+use Rattle.answers.proofs.Steps.{given-packed}
 use Rattle.exchange.specs.Exchange.{sheet_in, handed_back}
 use Rattle.exchange.proofs.Small.{Small, small-accepted, small-refused, small_bind}
 use Rattle.exchange.proofs.Sizes.{file_short}
@@ -40,46 +44,28 @@ handed_good (a ∷ b) s e = opened_good (a ∷ b) s e
 pub called_good : (b : List ℕ) (c : Call) (t : Sheet) → (sheet_in b >>= λ (s : Sheet). call s c) ≡ accepted t → Good t
 called_good b c t e = let (s, e₁, e₂) = bind_accepted (sheet_in b) _ t e in leaves_good s t c (handed_good b s e₁) e₂
 
--- ---- what structs tell
--- a call on a struct that reads as a good sheet tells what the call on the sheet gives
-pub given_called : (h : struct.Sheet) (q : told.Outcome) (c : Call) → Good (reads h) → answer_as q.answer ≡ answer_of (call (reads h) c) → q.sheet ≡ after h (call (reads h) c) → given q ≡ call (reads h) c
-unfolding given answer_of after
-given_called h q c g e f = (λ i. e i >> accepted (reads (f i))) ∙ go (call (reads h) c) refl
-  where
-    go : (o : Outcome Sheet) → call (reads h) c ≡ o → (answer_of o >> accepted (reads (after h o))) ≡ o
-    go (accepted t) d = ap accepted (read_back t (leaves_good (reads h) t c g d))
-    go (refused k at) d = refl
+-- ---- what results tell
+-- a call on a good sheet tells what the model's call gives
+pub given_called : (s : Sheet) (r : Result struct.Sheet Refusal) (c : Call) → Good s → told r ≡ packed_as (call s c) → given r ≡ call s c
+given_called s r c g e = given-packed r (call s c) e (λ t d. let k = leaves_good s t c g d in held_sized t k.kept k.sized)
 
--- a fresh struct reads as a fresh sheet
-reads-fresh : (h : struct.Sheet) → h ≡ packed fresh → reads h ≡ fresh
-reads-fresh h e = ap reads e ∙ read_back fresh fresh_good
+-- a fresh struct
+pub given-fresh : (h : struct.Sheet) → h ≡ packed fresh → given (Ok h) ≡ accepted fresh
+unfolding given
+given-fresh h e = ap accepted (ap reads e ∙ read_back fresh fresh_good)
 
--- open on a fresh struct
-pub given-opened : (b : List ℕ) (h : struct.Sheet) (q : told.Outcome) → h ≡ packed fresh → answer_as q.answer ≡ answer_of (open_call b) → q.sheet ≡ after h (open_call b) → given q ≡ open_call b
+-- open
+pub given-opened : (b : List ℕ) (r : Result struct.Sheet Refusal) → told r ≡ packed_as (open_call b) → given r ≡ open_call b
 unfolding call
-given-opened b h q e = given_called h q (open_file b) (subst Good (sym (reads-fresh h e)) fresh_good)
-
--- an accepted fresh struct
-pub given-fresh : (q : told.Outcome) (h : struct.Sheet) → answer_as q.answer ≡ passed → q.sheet ≡ h → h ≡ packed fresh → given q ≡ accepted fresh
-unfolding given
-given-fresh q h a e f = (λ i. a i >> accepted (reads (e i))) ∙ ap accepted (reads-fresh h f)
-
--- the sheet that an accepted struct tells
-pub given_sheet : (q : told.Outcome) (s : Sheet) → given q ≡ accepted s → reads q.sheet ≡ s
-unfolding given
-given_sheet q s e = same-value (then_accepted (answer_as q.answer) (accepted (reads q.sheet)) s e).1
+given-opened b r e = given_called fresh r (open_file b) fresh_good e
 
 -- A call on what is handed over
-pub chained : (b : List ℕ) (c : Call) (h q : told.Outcome) → given h ≡ sheet_in b → answer_as q.answer ≡ answer_of (call (reads h.sheet) c) → q.sheet ≡ after h.sheet (call (reads h.sheet) c)
-    → in_turn (given h) (given q) ≡ (sheet_in b >>= λ (s : Sheet). call s c)
-unfolding in_turn
-chained b c h q e a f = go (sheet_in b) refl
-  where
-    go : (o : Outcome Sheet) → sheet_in b ≡ o → (given h >> given q) ≡ (o >>= λ (s : Sheet). call s c)
-    go (accepted s) d =
-        let r = given_sheet h s (e ∙ d) in
-        then_at (given h) s (given q) (e ∙ d) ∙ given_called h.sheet q c (subst Good (sym r) (handed_good b s d)) a f ∙ ap (λ (t : Sheet). call t c) r
-    go (refused k at) d = then_off (given h) k at (given q) (e ∙ d)
+pub chained : (b : List ℕ) (c : Call) (h : struct.Sheet) (r : Result struct.Sheet Refusal) → accepted (reads h) ≡ sheet_in b → told r ≡ packed_as (call (reads h) c) → given r ≡ (sheet_in b >>= λ (s : Sheet). call s c)
+chained b c h r e f = given_called (reads h) r c (handed_good b (reads h) (sym e)) f ∙ ap (λ (o : Outcome Sheet). o >>= λ (s : Sheet). call s c) e
+
+-- where nothing is handed over
+pub unhanded : (b : List ℕ) (c : Call) (k at : ℕ) → refused k at ≡ sheet_in b → refused k at ≡ (sheet_in b >>= λ (s : Sheet). call s c)
+unhanded b c k at e = ap (λ (o : Outcome Sheet). o >>= λ (s : Sheet). call s c) e
 
 -- ---- room for the answers
 -- what is handed over
@@ -136,12 +122,11 @@ back_chain b c buffer = go (sheet_in b)
 pub roomy_way : (b : List ℕ) (c : Call) (buffer : List ℕ) → Roomy (length_of (sheet_in b >>= λ (s : Sheet). call s c >>= λ (t : Sheet). write_call t buffer))
 roomy_way b c buffer = subst (λ (o : Outcome (ℕ × List ℕ)). Roomy (length_of o)) (back_chain b c buffer) (roomy-call b c buffer)
 
--- THE WAY OF A CALL: bytes are handed over (h), the call is made on the struct (q), the one of the two that counts (f) is handed back
-pub call_way : (b : List ℕ) (c : Call) (buffer d : List ℕ) (h q f : told.Outcome) (r : ℕ) → given h ≡ sheet_in b → answer_as q.answer ≡ answer_of (call (reads h.sheet) c) → q.sheet ≡ after h.sheet (call (reads h.sheet) c)
-    → given f ≡ in_turn (given h) (given q) → r ≡ wrapped (length_of (handed_back (given f) buffer)) → d ≡ buffer_after (handed_back (given f) buffer) buffer
+-- THE WAY OF A CALL: what the call gives on the bytes that are handed over is handed back
+pub call_way : (b : List ℕ) (c : Call) (buffer d : List ℕ) (g : Outcome Sheet) (r : ℕ) → g ≡ (sheet_in b >>= λ (s : Sheet). call s c)
+    → r ≡ wrapped (length_of (handed_back g buffer)) → d ≡ buffer_after (handed_back g buffer) buffer
     → (r ≡ code (length_of (sheet_in b >>= λ (s : Sheet). call s c >>= λ (t : Sheet). write_call t buffer))) × (d ≡ buffer_after (sheet_in b >>= λ (s : Sheet). call s c >>= λ (t : Sheet). write_call t buffer) buffer)
-call_way b c buffer d h q f r e a s t number bytes =
-    let told = t ∙ chained b c h q e a s in
+call_way b c buffer d g r told number bytes =
     let all = ap (λ (o : Outcome Sheet). handed_back o buffer) told in (
       number ∙ ap (λ (o : Outcome (ℕ × List ℕ)). wrapped (length_of o)) all ∙ code_whole (length_of (handed_back (sheet_in b >>= λ (s : Sheet). call s c) buffer)) (roomy-call b c buffer)
           ∙ ap (λ (o : Outcome (ℕ × List ℕ)). code (length_of o)) (back_chain b c buffer),
@@ -149,8 +134,8 @@ call_way b c buffer d h q f r e a s t number bytes =
     )
 
 -- the way of a file that is opened
-pub open_way : (b buffer d : List ℕ) (h : told.Outcome) (r : ℕ) → given h ≡ open_call b → r ≡ wrapped (length_of (handed_back (given h) buffer)) → d ≡ buffer_after (handed_back (given h) buffer) buffer
+pub open_way : (b buffer d : List ℕ) (g : Outcome Sheet) (r : ℕ) → g ≡ open_call b → r ≡ wrapped (length_of (handed_back g buffer)) → d ≡ buffer_after (handed_back g buffer) buffer
     → (r ≡ code (length_of (handed_back (open_call b) buffer))) × (d ≡ buffer_after (handed_back (open_call b) buffer) buffer)
-open_way b buffer d h r e number bytes =
+open_way b buffer d g r e number bytes =
     let all = ap (λ (o : Outcome Sheet). handed_back o buffer) e in
     (number ∙ ap (λ (o : Outcome (ℕ × List ℕ)). wrapped (length_of o)) all ∙ code_whole (length_of (handed_back (open_call b) buffer)) (roomy_open b buffer), bytes ∙ ap (λ (o : Outcome (ℕ × List ℕ)). buffer_after o buffer) all)

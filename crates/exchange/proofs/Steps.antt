@@ -1,6 +1,6 @@
 -- The steps of the code: the bytes that hand a sheet over, and the sheet that is handed back.
-use Prim.Native.Nat.{ℕ, ◌+◌, ◌*◌, ◌%◌, ◌^◌}
-use mathlib.Core.Path.{◌≡◌, refl, sym, ap, ◌∙◌}
+use Prim.Native.Nat.{ℕ}
+use mathlib.Core.Path.{◌≡◌, refl, ap, ◌∙◌}
 use mathlib.Core.List.{List, [], ◌∷◌}
 use native.Mathlib.Omega.{arith}
 use lib.ListN.{length}
@@ -9,8 +9,6 @@ use Rattle.model.specs.File.{Sheet, fresh}
 use Rattle.model.specs.Calls.{open_call, write_call}
 use Rattle.writing.specs.Files.{buffer_after}
 use Rattle.sheet.specs.Answers.{length_of}
-use Rattle.answers.specs.Codes.{wrapped}
-use Rattle.answers.proofs.Steps.{wrapped-off}
 use Rattle.exchange.specs.Exchange.{sheet_in, handed_back}
 
 -- ---- the bytes that hand a sheet over
@@ -28,15 +26,12 @@ some_in (a ∷ b) h = refl
 
 -- ---- handed back
 -- a refusal: the buffer is as it was
-pub back_off : (o : Outcome Sheet) (buffer : List ℕ) (k at r : ℕ) → o ≡ refused k at → r ≡ (k * 2 ^ 48 + at) % 2 ^ 64
-    → (r ≡ wrapped (length_of (handed_back o buffer))) × (buffer ≡ buffer_after (handed_back o buffer) buffer)
+pub back_off : (o : Outcome Sheet) (buffer : List ℕ) (k at : ℕ) → refused k at ≡ o → (refused k at ≡ length_of (handed_back o buffer)) × (buffer ≡ buffer_after (handed_back o buffer) buffer)
 unfolding handed_back length_of buffer_after
-back_off o buffer k at r e q =
-    (wrapped-off (length_of (handed_back o buffer)) k at r (ap (λ (p : Outcome Sheet). length_of (handed_back p buffer)) e) q, sym (ap (λ (p : Outcome Sheet). buffer_after (handed_back p buffer) buffer) e))
+back_off o buffer k at e = (ap (λ (p : Outcome Sheet). length_of (handed_back p buffer)) e, ap (λ (p : Outcome Sheet). buffer_after (handed_back p buffer) buffer) e)
 
--- a sheet: the buffer is as write leaves it
-pub back_at : (o : Outcome Sheet) (t : Sheet) (buffer d : List ℕ) (r : ℕ) → o ≡ accepted t → r ≡ wrapped (length_of (write_call t buffer)) → d ≡ buffer_after (write_call t buffer) buffer
-    → (r ≡ wrapped (length_of (handed_back o buffer))) × (d ≡ buffer_after (handed_back o buffer) buffer)
+-- a sheet: the answer and the buffer are as write gives them
+pub back_at : (o : Outcome Sheet) (t : Sheet) (buffer d : List ℕ) (r : Outcome ℕ) → accepted t ≡ o → r ≡ length_of (write_call t buffer) → d ≡ buffer_after (write_call t buffer) buffer
+    → (r ≡ length_of (handed_back o buffer)) × (d ≡ buffer_after (handed_back o buffer) buffer)
 unfolding handed_back
-back_at o t buffer d r e q b =
-    (q ∙ sym (ap (λ (p : Outcome Sheet). wrapped (length_of (handed_back p buffer))) e), b ∙ sym (ap (λ (p : Outcome Sheet). buffer_after (handed_back p buffer) buffer) e))
+back_at o t buffer d r e q b = (q ∙ ap (λ (p : Outcome Sheet). length_of (handed_back p buffer)) e, b ∙ ap (λ (p : Outcome Sheet). buffer_after (handed_back p buffer) buffer) e)

@@ -3,17 +3,17 @@ use Prim.Native.Nat.{ℕ}
 use mathlib.Core.Path.{◌≡◌, refl, sym, ap, ◌∙◌}
 use mathlib.Core.List.{List}
 use Rattle.lists.proofs.Words.{Bytes}
-use Rattle.model.specs.Outcome.{Outcome, accepted, refused, passed, ◌>>=◌}
+use Rattle.model.specs.Outcome.{Outcome, accepted, refused, ◌>>=◌}
 use Rattle.model.specs.File as file
 use Rattle.model.specs.File.{encode}
 use Rattle.model.specs.Calls.{plan_of, open_call, write_call}
-use Rattle.model.proofs.Outcomes.{not-both, same-refusal, then_accepted}
+use Rattle.model.proofs.Outcomes.{not-both, same-value, same-refusal, then_accepted}
 use Rattle.model.proofs.FileWrite.{Fits}
 use Rattle.model.proofs.FileRead.{read_fits, read-written}
 use Rattle.model.proofs.RingPart.{open_accepted}
 use Rattle.sheet.specs.declared.Sheet.{Sheet}
 use Rattle.sheet.specs.Sheets.{reads}
-use Rattle.sheet.specs.Answers.{answer_of, after}
+use Rattle.sheet.specs.Answers.{packed_as}
 use Rattle.opening.specs.Opening.{lent_of}
 use Rattle.files.specs.Files.{copied, copied_back}
 use Rattle.sheet.proofs.Packed.{reads-packed}
@@ -21,11 +21,11 @@ use Rattle.judging.specs.Rules.{rules_from_8}
 use Rattle.opening.proofs.Opened.{judge-parts, sheet_held_lem}
 
 -- the refusal of the open call
-pub back_early : (b buffer : List ℕ) (k at : ℕ) → refused k at ≡ answer_of (open_call b) → refused k at ≡ copied_back b buffer
-unfolding copied_back answer_of
+pub back_early : (b buffer : List ℕ) (k at : ℕ) → refused k at ≡ packed_as (open_call b) → refused k at ≡ copied_back b buffer
+unfolding copied_back packed_as
 back_early b buffer k at e = go (open_call b) e
   where
-    go : (q : Outcome file.Sheet) → refused k at ≡ answer_of q → refused k at ≡ (q >>= λ (s : file.Sheet). copied b buffer)
+    go : (q : Outcome file.Sheet) → refused k at ≡ packed_as q → refused k at ≡ (q >>= λ (s : file.Sheet). copied b buffer)
     go (accepted s) f = not-both f
     go (refused j t) f = let (m, n) = same-refusal f in λ i. refused (m i) (n i)
 
@@ -38,14 +38,14 @@ write_fits (file.labelled p ls) b buffer f e = ap (λ (l : List ℕ). copied l b
 write_fits (file.charted p ls c) b buffer f e = ap (λ (l : List ℕ). copied l buffer) e
 
 -- what was opened is written back byte for byte
-pub back_late : (b buffer : List ℕ) (first t : Sheet) → Bytes b → passed ≡ answer_of (open_call b) → t ≡ after first (open_call b) → write_call (reads t) buffer ≡ copied_back b buffer
-unfolding copied_back answer_of after
-back_late b buffer first t y e f = ap (λ (r : Sheet). write_call (reads r) buffer) f ∙ go (open_call b) refl e
+pub back_late : (b buffer : List ℕ) (t : Sheet) → Bytes b → accepted t ≡ packed_as (open_call b) → write_call (reads t) buffer ≡ copied_back b buffer
+unfolding copied_back packed_as
+back_late b buffer t y e = go (open_call b) refl e
   where
-    go : (q : Outcome file.Sheet) → open_call b ≡ q → passed ≡ answer_of q → write_call (reads (after first q)) buffer ≡ (q >>= λ (s : file.Sheet). copied b buffer)
+    go : (q : Outcome file.Sheet) → open_call b ≡ q → accepted t ≡ packed_as q → write_call (reads t) buffer ≡ (q >>= λ (s : file.Sheet). copied b buffer)
     go (accepted s) d g =
         let (is, ok) = open_accepted b s d in
         let fit = read_fits b s is in
         let kept = (then_accepted (lent_of s) (rules_from_8 s) tt (sym (judge-parts s) ∙ ok)).0 in
-        ap (λ (r : file.Sheet). write_call r buffer) (reads-packed s (sheet_held_lem s fit (sym kept))) ∙ write_fits s b buffer fit (read-written b s y is)
+        ap (λ (r : Sheet). write_call (reads r) buffer) (same-value g) ∙ ap (λ (r : file.Sheet). write_call r buffer) (reads-packed s (sheet_held_lem s fit (sym kept))) ∙ write_fits s b buffer fit (read-written b s y is)
     go (refused k at) d g = not-both (sym g)

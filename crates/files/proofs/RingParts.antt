@@ -12,13 +12,13 @@ use Rattle.lists.specs.Parts.{concat}
 use Rattle.lists.specs.Spans.{padded}
 use Rattle.lists.specs.Words.{bytes}
 use Rattle.lists.proofs.Words.{Bytes, length-bytes}
-use Rattle.model.specs.Outcome.{Outcome, accepted, refused, passed, require, ◌>>=◌, ◌>>◌}
+use Rattle.model.specs.Outcome.{Outcome, accepted, refused, require, ◌>>=◌, ◌>>◌}
 use Rattle.model.specs.Plan.{Plan, count, entries}
 use Rattle.model.specs.Labels.{start}
 use Rattle.model.specs.Chart.{Chart}
 use Rattle.model.specs.File as file
 use Rattle.model.specs.Calls.{plan_of, open_call, ring_start, ring_call, ring_part}
-use Rattle.model.proofs.Outcomes.{not-both, same-refusal}
+use Rattle.model.proofs.Outcomes.{not-both, same-value, same-refusal}
 use Rattle.model.proofs.FileWrite.{PlanFits, Fits}
 use Rattle.model.proofs.FileRead.{read_fits}
 use Rattle.model.proofs.RingPart.{open_accepted, ring-accepted, opened_part}
@@ -29,7 +29,7 @@ use Rattle.sheet.specs.declared.Sheet.{Sheet}
 use Rattle.sheet.specs.declared.Stage.{Stage}
 use Rattle.sheet.specs.declared.Stage.TheVariants.{Open, Labelled, Charted}
 use Rattle.sheet.specs.Sheets.{pack, no_chart, packed}
-use Rattle.sheet.specs.Answers.{answer_of, after}
+use Rattle.sheet.specs.Answers.{packed_as}
 use Rattle.files.specs.Files.{held_ring}
 use Rattle.sheet.proofs.Packed.{start-packed, starts_at, size-at}
 
@@ -71,11 +71,11 @@ pack-ring g p ls c u fit = go (ltb u (count p)) refl
         here q = unfold ring_start start in omega arith
 
 -- ---- the ring call after an open call
-pub ring_early : (b : List ℕ) (u k at : ℕ) → refused k at ≡ answer_of (open_call b) → refused k at ≡ ring_call b u
-unfolding ring_call answer_of
+pub ring_early : (b : List ℕ) (u k at : ℕ) → refused k at ≡ packed_as (open_call b) → refused k at ≡ ring_call b u
+unfolding ring_call packed_as
 ring_early b u k at e = go (open_call b) e
   where
-    go : (q : Outcome file.Sheet) → refused k at ≡ answer_of q → refused k at ≡ (q >>= λ (s : file.Sheet). plan_of s >>= λ (p : Plan). Named p u)
+    go : (q : Outcome file.Sheet) → refused k at ≡ packed_as q → refused k at ≡ (q >>= λ (s : file.Sheet). plan_of s >>= λ (p : Plan). Named p u)
     go (accepted s) f = not-both f
     go (refused j t) f = let (m, n) = same-refusal f in λ i. refused (m i) (n i)
 
@@ -86,12 +86,12 @@ sheet_ring (file.opened p) u f = pack-ring Open p [] no_chart u f
 sheet_ring (file.labelled p ls) u f = pack-ring Labelled p ls no_chart u f.0
 sheet_ring (file.charted p ls c) u f = pack-ring Charted p ls c u f.0
 
-pub ring_late : (b : List ℕ) (u : ℕ) (first t : Sheet) → passed ≡ answer_of (open_call b) → t ≡ after first (open_call b) → held_ring t u ≡ ring_call b u
-unfolding ring_call answer_of after
-ring_late b u first t e f = ap (λ (r : Sheet). held_ring r u) f ∙ go (open_call b) refl e
+pub ring_late : (b : List ℕ) (u : ℕ) (t : Sheet) → accepted t ≡ packed_as (open_call b) → held_ring t u ≡ ring_call b u
+unfolding ring_call packed_as
+ring_late b u t e = go (open_call b) refl e
   where
-    go : (q : Outcome file.Sheet) → open_call b ≡ q → passed ≡ answer_of q → held_ring (after first q) u ≡ (q >>= λ (s : file.Sheet). plan_of s >>= λ (p : Plan). Named p u)
-    go (accepted s) d g = sheet_ring s u (read_fits b s (open_accepted b s d).0)
+    go : (q : Outcome file.Sheet) → open_call b ≡ q → accepted t ≡ packed_as q → held_ring t u ≡ (q >>= λ (s : file.Sheet). plan_of s >>= λ (p : Plan). Named p u)
+    go (accepted s) d g = ap (λ (r : Sheet). held_ring r u) (same-value g) ∙ sheet_ring s u (read_fits b s (open_accepted b s d).0)
     go (refused k at) d g = not-both (sym g)
 
 -- ---- the part

@@ -3,63 +3,58 @@
 
 ghost use Rattle.std.specs.Prelude.{◌≡◌};
 ghost use Rattle.model.specs.Calls.{ring_call, ring_part};
+ghost use Rattle.refusal.specs.Refusals.{told};
 ghost use Rattle.writing.specs.Files.{buffer_after};
-ghost use Rattle.sheet.specs.Answers.{written_as, ring_answer_as, length_of};
-ghost use Rattle.files.specs.Files.{held_ring, copied_back};
+ghost use Rattle.sheet.specs.Answers.{length_of};
+ghost use Rattle.files.specs.Files.{held_ring, part_of, copied_back};
 
-use sheet::{Answer, RingAnswer, Sheet, Written};
+use refusal::Refusal;
+use sheet::Sheet;
 
-// Where the body of a context's ring stands in the file that a sheet was opened from; 17 where there is no such context.
-fn ring_of(sheet: Sheet, context: usize) -> RingAnswer
-    ensures { ring_answer_as result ≡ held_ring sheet context }
-{
-    let n = sheet.n as usize;
-    if n <= context {
-        return RingAnswer::Refused(17, n);
-    }
-    let sizes = sheet.sizes;
-    let size = arrays::byte(&sizes, context);
-    let starts = rings::starts_of(&sizes);
-    RingAnswer::Part(
-        10 + 4 * context + 2 * arrays::num(&starts, context),
-        2 * size,
-    )
+// A part of a file: the offset where it begins, and how many bytes it has.
+#[derive(Clone, Copy)]
+pub struct Part {
+    pub at: usize,
+    pub size: usize,
 }
 
-// Ring: the offset and the length of a context's ring in a file, or the refusal.
-pub fn ring_answer(file: &[u8], context: usize) -> RingAnswer
-    ensures { ring_answer_as result ≡ ring_call file.now context }
+// Where the body of a context's ring stands in the file that a sheet was opened from; 17 where there is no such context.
+fn ring_of(sheet: &Sheet, context: usize) -> Result<Part, Refusal>
+    ensures { part_of result ≡ held_ring sheet.now context }
 {
-    let outcome = opening::open_file(sheet::fresh_sheet(), file);
-    let answer = outcome.answer;
-    let sheet = outcome.sheet;
-    match answer {
-        Answer::Refused(number, place) => RingAnswer::Refused(number, place),
-        Answer::Accepted => ring_of(sheet, context),
+    let n = usize::from(sheet.n);
+    if n <= context {
+        return Err(Refusal::NoSuchContext(n));
     }
+    let starts = rings::starts_of(&sheet.sizes);
+    Ok(Part {
+        at: 10 + 4 * context + 2 * arrays::num(&starts, context),
+        size: 2 * arrays::num(&sheet.sizes, context),
+    })
+}
+
+// Ring: where a context's ring stands in a file, or the refusal.
+pub fn ring_answer(file: &[u8], context: usize) -> Result<Part, Refusal>
+    ensures { part_of result ≡ ring_call file.now context }
+{
+    ring_of(&opening::open_file(file)?, context)
 }
 
 // Ring: the part of a file that is a context's ring; an empty part on a refusal.
-pub fn ring<'a>(file: &'a [u8], context: usize) -> &'a [u8]
+pub fn ring(file: &[u8], context: usize) -> &[u8]
     ensures { result.now ≡ ring_part file.now (ring_call file.now context) }
 {
-    let answer = ring_answer(file, context);
-    match answer {
-        RingAnswer::Refused(_, _) => &file[0..0],
-        RingAnswer::Part(at, size) => arrays::part(file, at, size),
+    match ring_answer(file, context) {
+        Ok(part) => arrays::part(file, part.at, part.size),
+        Err(_) => &file[..0],
     }
 }
 
 // Opens a file and writes it again: the buffer then begins with the file's bytes, and its later bytes stay. A refusal leaves the buffer as it is.
-pub fn open_write(file: &[u8], out: &mut [u8]) -> Written
-    ensures result_value { written_as result ≡ length_of (copied_back file.now out.old) }
+pub fn open_write(file: &[u8], out: &mut [u8]) -> Result<usize, Refusal>
+    ensures result_value { told result ≡ length_of (copied_back file.now out.old) }
     ensures out_after { out.new ≡ buffer_after (copied_back file.now out.old) out.old }
 {
-    let outcome = opening::open_file(sheet::fresh_sheet(), file);
-    let answer = outcome.answer;
-    let sheet = outcome.sheet;
-    match answer {
-        Answer::Refused(number, place) => Written::Refused(number, place),
-        Answer::Accepted => reports::write(sheet, out),
-    }
+    let sheet = opening::open_file(file)?;
+    reports::write(&sheet, out)
 }

@@ -1,6 +1,6 @@
 -- Parts of a lent file copied into arrays: what the loops keep, and that the arrays hold what the file holds.
 use Prim.Native.Nat.{ℕ, zero, suc, ◌+◌, ◌*◌, ◌≤◌, ◌<◌}
-use mathlib.Core.Path.{◌≡◌, refl, sym, ap, ◌∙◌}
+use mathlib.Core.Path.{◌≡◌, sym, ap, ◌∙◌}
 use mathlib.Core.List.{List, [], ◌++◌, map, append-nil}
 use native.Mathlib.Omega.{arith}
 use lib.ListN.{length, get_or, take, set, replicate}
@@ -87,45 +87,43 @@ module _ (file sizes : List ℕ) (n : ℕ) where
       ∙ at-word u i l
       ∙ ap (word_of file) far
 
--- ---- while u < n { if i < size { entries[at] = ..; at += 1; i += 1; } else { u += 1; i = 0; } }
+-- ---- for u in 0..n { for _ in 0..size { entries[at] = ..; at += 1; } }
+-- i entries of u's ring are copied, and all rings before it
 pub record Copies (file sizes : List ℕ) (n u i at : ℕ) (es : List ℕ) : Type 0 where
-  pub reached : u ≤ n
   pub stands : at ≡ start_of sizes u + i
-  pub inside : u < n → i ≤ get_or sizes u 0
-  pub last : n ≤ u → i ≡ 0
   pub filled : Fills 1186 (λ (d : ℕ). get_or (concat (plan_in file sizes n).rings) d 0) at es
 
 pub copies_start : {file sizes : List ℕ} {n : ℕ} {es : List ℕ} → es ≡ replicate 1186 0 → Copies file sizes n 0 0 0 es
-copies_start {sizes = sizes} e = let z = start_first sizes in record { reached = omega arith; stands = omega arith; inside = λ h. omega arith; last = λ h. refl; filled = fills_start e }
+copies_start {sizes = sizes} e = let z = start_first sizes in record { stands = omega arith; filled = fills_start e }
 
 module _ {file sizes : List ℕ} {n u i at : ℕ} {es : List ℕ} (inv : Copies file sizes n u i at es) where
   -- there is room for one more entry of u's ring
   pub copies_room : {k : ℕ} → start_of sizes n ≤ 1186 → u < n → k ≡ get_or sizes u 0 → i < k → at < 1186
   copies_room b h q l = let m = ring_ends sizes u n h in let s = inv.stands in omega arith
 
+  -- it is copied
   pub copies_entry : {k x i' at' : ℕ} {es' : List ℕ} → start_of sizes n ≤ 1186 → n ≤ 200 → u < n → k ≡ get_or sizes u 0 → i < k → x ≡ word_of file (10 + 4 * u + 2 * at) → es' ≡ set es at x → at' ≡ suc at → i' ≡ suc i → Copies file sizes n u i' at' es'
   copies_entry {k} {x} {i'} {at'} b few h q l w e f g =
       let s = inv.stands in
       let low : i < get_or sizes u 0 = omega arith in
       let same : x ≡ get_or (concat (plan_in file sizes n).rings) at 0 =
       w ∙ ap (λ (j : ℕ). word_of file (10 + 4 * u + 2 * j)) s ∙ sym (entry_at file sizes n u i h few low) ∙ ap (λ (j : ℕ). get_or (concat (plan_in file sizes n).rings) j 0) (sym s) in
-      record { reached = inv.reached; stands = omega arith; inside = λ t. omega arith; last = λ t. omega arith; filled = fills_on inv.filled (copies_room b h q l) f same e }
+      record { stands = omega arith; filled = fills_on inv.filled (copies_room b h q l) f same e }
 
-  pub copies_ring : {k u' : ℕ} → u < n → k ≡ get_or sizes u 0 → k ≤ i → u' ≡ suc u → Copies file sizes n u' 0 at es
-  copies_ring {k} {u'} h q l e =
+  -- u's ring is whole, and the next one begins
+  pub copies_ring : {u' : ℕ} → i ≡ get_or sizes u 0 → u' ≡ suc u → Copies file sizes n u' 0 at es
+  copies_ring {u'} q e =
       let s = inv.stands in
-      let full = inv.inside h in
       let m = start-more sizes u in
       let next : start_of sizes u' ≡ start_of sizes (suc u) = ap (start_of sizes) e in
-      record { reached = omega arith; stands = omega arith; inside = λ t. omega arith; last = λ t. refl; filled = inv.filled }
+      record { stands = omega arith; filled = inv.filled }
 
-  pub copies_end : n ≤ u → es ≡ padded 1186 (concat (plan_in file sizes n).rings)
+  -- all rings are copied
+  pub copies_end : u ≡ n → i ≡ 0 → es ≡ padded 1186 (concat (plan_in file sizes n).rings)
   unfolding entry_count
-  copies_end h =
-      let r = inv.reached in
+  copies_end h z =
       let s = inv.stands in
-      let z = inv.last h in
-      let same : start_of sizes u ≡ start_of sizes n = ap (start_of sizes) (omega arith) in
+      let same : start_of sizes u ≡ start_of sizes n = ap (start_of sizes) h in
       let total = entry-count-lent (starts_of sizes) sizes file n in
       inv.filled.same ∙ ap (padded 1186) (list-map (concat (plan_in file sizes n).rings) at (omega arith))
 

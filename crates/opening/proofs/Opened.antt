@@ -1,16 +1,15 @@
 -- A file that was framed, judged in parts and copied is opened as the model opens it.
 use Prim.Native.Nat.{ℕ, zero, suc, ◌+◌, ◌*◌, ◌≤◌}
-use mathlib.Core.Path.{◌≡◌, refl, sym, ap, ◌∙◌, subst}
-use mathlib.Core.List.{List, [], ◌∷◌, map}
+use mathlib.Core.Path.{◌≡◌, refl, sym, ap, ◌∙◌}
+use mathlib.Core.List.{List, ◌∷◌, map}
 use mathlib.Core.Bool.{true}
 use native.Mathlib.Omega.{arith}
-use lib.ListN.{length, get_or, drop, replicate}
+use lib.ListN.{length, get_or, drop}
 use lib.Dec.{eqb}
 use borrow.Author.Tests.{eqb-true}
 use Rattle.lists.specs.Ranges.{from}
 use Rattle.lists.specs.Parts.{concat, pairs}
-use Rattle.lists.specs.Spans.{stretch, zeros, padded}
-use Rattle.lists.proofs.Loops.{padded-none}
+use Rattle.lists.specs.Spans.{stretch, padded}
 use Rattle.model.specs.Outcome.{Outcome, accepted, refused, passed, require, rule, ◌>>=◌, ◌>>◌}
 use Rattle.model.specs.Plan.{Plan, count, bad_entry, bad_repeat, unreturned, entry_count, dart_count, bad_border, bad_face, plan_rules}
 use Rattle.model.specs.Labels.{label_rules}
@@ -18,7 +17,7 @@ use Rattle.model.specs.Chart.{Chart, chart, same_chart}
 use Rattle.model.specs.File as file
 use Rattle.model.specs.File.{decode, chart_in}
 use Rattle.model.specs.Calls.{judge, open_call}
-use Rattle.model.proofs.Outcomes.{not-both, same-refusal, then_accepted, require-passed, rule-passes}
+use Rattle.model.proofs.Outcomes.{then_accepted, require-passed, rule-passes}
 use Rattle.model.proofs.FileWrite.{PlanFits, Fits}
 use Rattle.model.proofs.FileRead.{read_fits}
 use Rattle.rings.specs.Tables.{start_of, starts_of}
@@ -26,14 +25,14 @@ use Rattle.rings.specs.Lent.{words_at, body_at, lent}
 use Rattle.lent.proofs.Rings.{length-words-at, get_or-words-at, count-lent}
 use Rattle.lent.proofs.Copied.{entry-count-lent}
 use Rattle.framing.specs.Offsets.{word_at}
-use Rattle.framing.specs.Layouts.{plan_in, labels_in, chart_from, found_as, sheet_in, tidy_as, tidied, Enough}
-use Rattle.framing.specs.declared.Found.{Found}
-use Rattle.framing.specs.declared.Layout.{Layout}
+use Rattle.framing.specs.Layouts.{plan_in, chart_from, sheet_with, laid}
+use Rattle.framing.specs.declared.layout.Parts.{Parts}
+use Rattle.framing.specs.declared.layout.Layout.{Layout}
 use Rattle.sheet.specs.declared.Sheet.{Sheet}
 use Rattle.sheet.specs.declared.Stage.TheVariants.{Open, Labelled, Charted}
-use Rattle.sheet.specs.Sheets.{reads, pack, no_chart, packed}
-use Rattle.sheet.specs.Answers.{answer_of, after}
-use Rattle.opening.specs.Opening.{lent_rules, lent_of, lent_in, replaced, every_four}
+use Rattle.sheet.specs.Sheets.{reads, pack, packed}
+use Rattle.sheet.specs.Answers.{packed_as}
+use Rattle.opening.specs.Opening.{lent_rules, lent_of, every_four}
 use Rattle.fit.specs.Fits.{fit}
 use Rattle.fit.proofs.Fits.{says-fit}
 use Rattle.sheet.proofs.Packed.{Held, reads-packed}
@@ -99,114 +98,73 @@ sheet_held_lem (file.opened p) f e = plan-held p f e
 sheet_held_lem (file.labelled p ls) f e = (plan-held p f.0 e, f.1 ∙ sym (total-due (count p) p e))
 sheet_held_lem (file.charted p ls c) f e = (plan-held p f.0 e, f.1 ∙ sym (total-due (count p) p e), record { xs_each = f.2.xs_each; ys_each = f.2.ys_each })
 
--- ---- a judgement, and the sheet it leaves
-as_answer : (j : Outcome (Unit {0})) (s : file.Sheet) → j ≡ answer_of (j >> accepted s)
-unfolding answer_of
-as_answer (accepted t) s = refl
-as_answer (refused k at) s = refl
-
-as_sheet : (j : Outcome (Unit {0})) (first : Sheet) (s : file.Sheet) → replaced j first (packed s) ≡ after first (j >> accepted s)
-unfolding replaced after
-as_sheet (accepted t) first s = refl
-as_sheet (refused k at) first s = refl
-
 -- ---- the whole call
-module _ (b : List ℕ) (o : Outcome file.Sheet) (is : o ≡ decode b) where
-  -- a refusal in the file
-  pub open_early : (k at : ℕ) → refused k at ≡ lent_in o → open_call b ≡ refused k at
-  unfolding open_call lent_in
-  open_early k at e = ap (λ (q : Outcome file.Sheet). q >>= λ (s : file.Sheet). judge s >> accepted s) (sym is) ∙ go o e
-    where
-      go : (q : Outcome file.Sheet) → refused k at ≡ (q >>= lent_of) → (q >>= λ (s : file.Sheet). judge s >> accepted s) ≡ refused k at
-      go (refused j t) f = let (m, n) = same-refusal (sym f) in λ i. refused (m i) (n i)
-      go (accepted s) f = rw (judge-parts s, ← f)
+-- a file that is not framed is refused so
+pub open-unframed : (b : List ℕ) (k at : ℕ) → refused k at ≡ decode b → refused k at ≡ packed_as (open_call b)
+unfolding packed_as open_call
+open-unframed b k at e = ap (λ (q : Outcome file.Sheet). packed_as (q >>= λ (t : file.Sheet). judge t >> accepted t)) e
 
-  module _ (ok : passed ≡ lent_in o) (old copy : Sheet) (put : copy ≡ after old o) where
-    abbrev Answers : Sheet → Type 0
-    Answers t = (rules_from_8 (reads t) ≡ answer_of (open_call b)) × ((first : Sheet) → replaced (rules_from_8 (reads t)) first t ≡ after first (open_call b))
+-- one that is framed is judged
+module _ (b : List ℕ) (s : file.Sheet) (is : decode b ≡ accepted s) where
+  call_is : packed_as (open_call b) ≡ packed_as (judge s >> accepted s)
+  unfolding open_call
+  call_is = ap (λ (q : Outcome file.Sheet). packed_as (q >>= λ (t : file.Sheet). judge t >> accepted t)) is
 
-    -- 8 to 12 decide
-    pub open_late : Answers copy
-    unfolding open_call lent_in after
-    open_late = subst Answers (sym put) (go o (sym is) ok)
-      where
-        go : (q : Outcome file.Sheet) → decode b ≡ q → passed ≡ (q >>= lent_of) → Answers (after old q)
-        go (refused j t) d f = not-both (sym f)
-        go (accepted s) d f =
-            let fit = read_fits b s d in
-            let rules : rules_from_8 (reads (packed s)) ≡ judge s = ap rules_from_8 (reads-packed s (sheet_held_lem s fit f)) ∙ sym (judge-parts s ∙ ap (λ (l : Outcome (Unit {0})). l >> rules_from_8 s) (sym f)) in
-            let call : open_call b ≡ (judge s >> accepted s) = ap (λ (r : Outcome file.Sheet). r >>= λ (t : file.Sheet). judge t >> accepted t) d in (
-              rules ∙ as_answer (judge s) s ∙ ap answer_of (sym call),
-              λ first. ap (λ (r : Outcome (Unit {0})). replaced r first (packed s)) rules ∙ as_sheet (judge s) first s ∙ ap (after first) (sym call),
-            )
+  -- 4 to 7 are judged where the rings stand: a refusal
+  pub open_early : (k at : ℕ) → refused k at ≡ lent_of s → refused k at ≡ packed_as (open_call b)
+  unfolding packed_as
+  open_early k at e = sym (call_is ∙ rw (judge-parts s, ← e))
+
+  -- 4 to 7 are kept, and the sheet is copied
+  module _ (ok : passed ≡ lent_of s) (t : Sheet) (copy : t ≡ packed s) where
+    -- what is copied is judged by what it reads as
+    rules : rules_from_8 (reads t) ≡ judge s
+    rules = ap (λ (r : Sheet). rules_from_8 (reads r)) copy ∙ ap rules_from_8 (reads-packed s (sheet_held_lem s (read_fits b s is) ok)) ∙ sym (judge-parts s ∙ ap (λ (l : Outcome (Unit {0})). l >> rules_from_8 s) (sym ok))
+
+    -- 8 to 12 refuse it
+    pub open-late : (k at : ℕ) → refused k at ≡ rules_from_8 (reads t) → refused k at ≡ packed_as (open_call b)
+    unfolding packed_as
+    open-late k at e = sym (call_is ∙ rw (← rules, ← e))
+
+    -- or it is what the call gives
+    pub open-whole : passed ≡ rules_from_8 (reads t) → accepted t ≡ packed_as (open_call b)
+    unfolding packed_as
+    open-whole e = ap accepted copy ∙ sym (call_is ∙ rw (← rules, ← e))
 
 -- ---- what a layout says of its parts
 -- 4 to 7 kept: the entries fit
-pub room_in : (b : List ℕ) (l : Layout) → l.n ≤ 200 → passed ≡ lent_in (sheet_in b l) → start_of l.sizes l.n ≤ 1186
-unfolding sheet_in lent_in lent_of
-room_in b l few e = go l.found e
+pub room_in : (b : List ℕ) (l : Layout) → passed ≡ lent_of (laid b l) → start_of l.sizes l.n ≤ 1186
+unfolding laid lent_of
+room_in b l e = go l.parts e
   where
     p : Plan
     p = plan_in b l.sizes l.n
 
     kept : passed ≡ lent_rules (count p) p → start_of l.sizes l.n ≤ 1186
     kept f =
+        let few : l.n ≤ 200 = l.few in
         let t = total-due (count p) p f in
         let c = count-lent (starts_of l.sizes) l.sizes b l.n in
         let k = entry-count-lent (starts_of l.sizes) l.sizes b l.n in
         omega arith
 
-    go : (g : Found) → passed ≡ (found_as g p (labels_in b l.n l.labels) (chart_from b l.n l.chart) >>= lent_of) → start_of l.sizes l.n ≤ 1186
-    go Found.Opened f = kept f
-    go Found.Labelled f = kept f
-    go Found.Charted f = kept f
-    go (Found.Refused k at) f = not-both (sym f)
+    go : (g : Parts) → passed ≡ lent_of (sheet_with b l.n p g) → start_of l.sizes l.n ≤ 1186
+    go Parts.Plan f = kept f
+    go (Parts.Labels labels) f = kept f
+    go (Parts.Chart labels chart) f = kept f
 
--- the sheet in the file, by what was found
-pub lent_found : (b : List ℕ) (l : Layout) (g : Found) → l.found ≡ g
-    → found_as g (plan_in b l.sizes l.n) (labels_in b l.n l.labels) (chart_from b l.n l.chart) ≡ sheet_in b l
-unfolding sheet_in
-lent_found b l g e = ap (λ (f : Found). found_as f (plan_in b l.sizes l.n) (labels_in b l.n l.labels) (chart_from b l.n l.chart)) (sym e)
-
--- what was found is no refusal
-abbrev pub There : Found → Type 0
-There Found.Opened = Unit {0}
-There Found.Labelled = Unit {0}
-There Found.Charted = Unit {0}
-There (Found.Refused k at) = ⊥
-
--- 4 to 7 of what was found
-pub lent_there : (b : List ℕ) (l : Layout) → There l.found → lent_rules l.n (plan_in b l.sizes l.n) ≡ lent_in (sheet_in b l)
-unfolding sheet_in lent_in lent_of
-lent_there b l h = ap (λ (k : ℕ). lent_rules k p) (sym (count-lent (starts_of l.sizes) l.sizes b l.n)) ∙ go l.found h
+-- 4 to 7 of the plan that stands in the file
+pub lent_there : (b : List ℕ) (l : Layout) → lent_rules l.n (plan_in b l.sizes l.n) ≡ lent_of (laid b l)
+unfolding laid lent_of
+lent_there b l = ap (λ (k : ℕ). lent_rules k p) (sym (count-lent (starts_of l.sizes) l.sizes b l.n)) ∙ go l.parts
   where
     p : Plan
     p = plan_in b l.sizes l.n
 
-    go : (g : Found) → There g → lent_rules (count p) p ≡ (found_as g p (labels_in b l.n l.labels) (chart_from b l.n l.chart) >>= lent_of)
-    go Found.Opened h = refl
-    go Found.Labelled h = refl
-    go Found.Charted h = refl
-    go (Found.Refused k at) h = absurd h
-
-pub sizes_found : (l : Layout) → l ≡ tidied l → (g : Found) → l.found ≡ g → There g → l.sizes ≡ padded 200 (stretch l.sizes 0 l.n)
-unfolding tidied
-sizes_found l t g e h = ap (λ (k : Layout). k.sizes) t ∙ ap (λ (f : Found). (tidy_as f l.n l.sizes l.labels l.chart).sizes) e ∙ go g h
-  where
-    go : (f : Found) → There f → (tidy_as f l.n l.sizes l.labels l.chart).sizes ≡ padded 200 (stretch l.sizes 0 l.n)
-    go Found.Opened h = refl
-    go Found.Labelled h = refl
-    go Found.Charted h = refl
-    go (Found.Refused k at) h = absurd h
-
-pub enough-found : (n : ℕ) (f g : Found) → f ≡ g → There g → Enough f n → 5 ≤ n
-enough-found n f g e h q = go g h (subst (λ (k : Found). Enough k n) e q)
-  where
-    go : (f : Found) → There f → Enough f n → 5 ≤ n
-    go Found.Opened h q = q
-    go Found.Labelled h q = q
-    go Found.Charted h q = q
-    go (Found.Refused k at) h q = absurd h
+    go : (g : Parts) → lent_rules (count p) p ≡ lent_of (sheet_with b l.n p g)
+    go Parts.Plan = refl
+    go (Parts.Labels labels) = refl
+    go (Parts.Chart labels chart) = refl
 
 -- ---- the sheet in a file, packed
 -- how long the rings in a file are
@@ -268,39 +226,35 @@ module _ (b : List ℕ) (at n : ℕ) where
       let far : at + 4 + 2 ≡ at + 6 = omega arith in
       sym (ap (λ (l : List ℕ). map (λ (t : ℕ × ℕ). t.1) (pairs l)) numbers_after ∙ second_numbers b (at + 4) 0 n (2 * n) refl ∙ ap (λ (j : ℕ). map (λ (u : ℕ). word_at b (j + 4 * u)) (from 0 n)) far)
 
-module _ (b sizes es : List ℕ) (n : ℕ) (whole : sizes ≡ padded 200 (stretch sizes 0 n)) (filled : es ≡ padded 1186 (concat (plan_in b sizes n).rings)) where
+-- the sheet in a file, by what follows its plan
+pub laid-as : (b : List ℕ) (l : Layout) (g : Parts) → l.parts ≡ g → packed (sheet_with b l.n (plan_in b l.sizes l.n) g) ≡ packed (laid b l)
+unfolding laid
+laid-as b l g e = ap (λ (h : Parts). packed (sheet_with b l.n (plan_in b l.sizes l.n) h)) (sym e)
+
+-- the struct that each stage makes of the one before it
+module _ (b sizes : List ℕ) (n : ℕ) where
   abbrev plan : Plan
   plan = plan_in b sizes n
 
   n_in : n ≡ count plan
   n_in = sym (count-lent (starts_of sizes) sizes b n)
 
-  sizes_in : sizes ≡ padded 200 (map length plan.rings)
-  sizes_in = whole ∙ ap (padded 200) (sym (sizes_lent b sizes n))
+  sizes_in : sizes ≡ padded 200 (stretch sizes 0 n) → sizes ≡ padded 200 (map length plan.rings)
+  sizes_in whole = whole ∙ ap (padded 200) (sym (sizes_lent b sizes n))
 
-  none : (k : ℕ) → replicate k 0 ≡ padded k []
-  unfolding zeros
-  none k = sym (padded-none k)
-
-  pub opened_packed :
-      record { stage = Open; n = n; sizes = sizes; entries = es; labels = replicate 1186 0; w = 0; h = 0; xs = replicate 200 0; ys = replicate 200 0 } ≡ packed (file.opened plan)
-  unfolding packed pack no_chart
-  opened_packed = λ i. record { stage = Open; n = n_in i; sizes = sizes_in i; entries = filled i; labels = none 1186 i; w = 0; h = 0; xs = none 200 i; ys = none 200 i }
-
-  pub labelled-packed : {lb : List ℕ} (ls : List ℕ) → lb ≡ padded 1186 ls
-      → record { stage = Labelled; n = n; sizes = sizes; entries = es; labels = lb; w = 0; h = 0; xs = replicate 200 0; ys = replicate 200 0 } ≡ packed (file.labelled plan ls)
-  unfolding packed pack no_chart
-  labelled-packed ls e = λ i. record { stage = Labelled; n = n_in i; sizes = sizes_in i; entries = filled i; labels = e i; w = 0; h = 0; xs = none 200 i; ys = none 200 i }
-
-  pub charted-packed : {lb xs ys : List ℕ} (ls : List ℕ) (at : ℕ) {w h : ℕ} → lb ≡ padded 1186 ls → w ≡ word_at b at → h ≡ word_at b (at + 2) → xs ≡ padded 200 (every_four b (at + 4) n) → ys ≡ padded 200 (every_four b (at + 6) n)
-      → record { stage = Charted; n = n; sizes = sizes; entries = es; labels = lb; w = w; h = h; xs = xs; ys = ys } ≡ packed (file.charted plan ls (chart_from b n at))
+  pub opened_packed : {es : List ℕ} (s : Sheet) → s ≡ packed file.fresh → sizes ≡ padded 200 (stretch sizes 0 n) → es ≡ padded 1186 (concat plan.rings) → record s { stage = Open; n = n; sizes = sizes; entries = es } ≡ packed (file.opened plan)
   unfolding packed pack
-  charted-packed ls at e f g x y = λ i. record {
+  opened_packed s e whole f = λ i. record (e i) { stage = Open; n = n_in i; sizes = sizes_in whole i; entries = f i }
+
+  pub labelled-packed : {lb : List ℕ} (ls : List ℕ) (s : Sheet) → s ≡ packed (file.opened plan) → lb ≡ padded 1186 ls → record s { stage = Labelled; labels = lb } ≡ packed (file.labelled plan ls)
+  unfolding packed pack
+  labelled-packed ls s e f = λ i. record (e i) { stage = Labelled; labels = f i }
+
+  pub charted-packed : {xs ys : List ℕ} (ls : List ℕ) (at : ℕ) {w h : ℕ} (s : Sheet) → s ≡ packed (file.labelled plan ls) → w ≡ word_at b at → h ≡ word_at b (at + 2) → xs ≡ padded 200 (every_four b (at + 4) n) → ys ≡ padded 200 (every_four b (at + 6) n)
+      → record s { stage = Charted; w = w; h = h; xs = xs; ys = ys } ≡ packed (file.charted plan ls (chart_from b n at))
+  unfolding packed pack
+  charted-packed ls at s e f g x y = λ i. record (e i) {
     stage = Charted;
-    n = n_in i;
-    sizes = sizes_in i;
-    entries = filled i;
-    labels = e i;
     w = (f ∙ w_in b at n) i;
     h = (g ∙ h_in b at n) i;
     xs = (x ∙ ap (padded 200) (xs_in b at n)) i;

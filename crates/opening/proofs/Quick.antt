@@ -1,48 +1,43 @@
 -- A file whose plan has as many entries as 7 asks for and is sound keeps 4 to 9.
-use Prim.Native.Nat.{ℕ, ◌-◌, ◌*◌, ◌≤◌, ◌<◌, min}
+use Prim.Native.Nat.{ℕ, ◌-◌, ◌*◌, ◌≤◌, min}
 use mathlib.Core.Path.{◌≡◌, refl, sym, ap, ◌∙◌, subst}
 use mathlib.Core.List.{List, [], map}
 use mathlib.Core.Bool.{Bool, true, false, cond}
 use native.Mathlib.Omega.{arith}
 use lib.ListN.{length}
 use lib.Dec.{eqb, leb}
-use borrow.Author.Tests.{leb-true, eqb-true, le-leb, lt-leb}
+use borrow.Author.Tests.{leb-true, eqb-true, le-leb}
 use Rattle.lists.specs.Parts.{concat}
 use Rattle.lists.specs.Spans.{stretch, padded}
 use Rattle.lists.proofs.Bools.{and_yes}
-use Rattle.model.specs.Outcome.{passed, ◌>>=◌}
+use Rattle.model.specs.Outcome.{passed}
 use Rattle.model.specs.Plan.{Plan, count, dart_count}
 use Rattle.model.specs.Chart.{Chart}
 use Rattle.model.specs.File as file
 use Rattle.rings.specs.Tables.{start_of, starts_of, table}
 use Rattle.lent.proofs.Rings.{count-lent}
 use Rattle.lent.proofs.Copied.{copied-padded, entry-count-lent}
-use Rattle.framing.specs.Layouts.{plan_in, labels_in, chart_from, found_as, sheet_in, tidy_as, tidied}
-use Rattle.framing.specs.declared.Found.{Found}
-use Rattle.framing.specs.declared.Layout.{Layout}
+use Rattle.framing.specs.Layouts.{plan_in, labels_in, chart_from, sheet_with, laid}
+use Rattle.framing.specs.declared.layout.Parts.{Parts}
+use Rattle.framing.specs.declared.layout.Layout.{Layout}
 use Rattle.sheet.specs.declared.Sheet.{Sheet}
 use Rattle.sheet.specs.declared.Stage.{Stage}
 use Rattle.sheet.specs.declared.Stage.TheVariants.{Empty, Open, Labelled, Charted}
 use Rattle.sheet.specs.Sheets.{held_plan, held, fits, reads, pack, no_chart, packed}
-use Rattle.sheet.specs.Answers.{after}
 use Rattle.sound.specs.Sound.{sound}
 use Rattle.sound.proofs.Sound.{four_kept, five_kept, six_kept, eight_kept, nine_kept}
-use Rattle.opening.specs.Opening.{lent_rules, lent_of, lent_in, due, LaidOut}
+use Rattle.opening.specs.Opening.{lent_rules, lent_of, due}
 use Rattle.judging.specs.Rules.{flat_rules, flat_of, rules_from_10, rules_from_8}
 use Rattle.judging.proofs.Rules.{flat-passed, first-passed}
 use Rattle.opening.proofs.Lent.{lent-passed}
-use Rattle.opening.proofs.Opened.{There, sizes_found, sizes_lent}
+use Rattle.opening.proofs.Opened.{sizes_lent}
 
--- ---- the tests as the code makes them
-pub due-few : (sizes : List ℕ) (n : ℕ) → n < 5 → false ≡ due sizes n
-unfolding due
-due-few sizes n h = sym (rw (lt-leb 5 n h))
-
+-- ---- the test as the code makes it
 pub due-total : (sizes : List ℕ) (n : ℕ) {t : ℕ} → 5 ≤ n → t ≡ start_of sizes (min n 200) → eqb t (6 * n - 14) ≡ due sizes n
 unfolding due
 due-total sizes n h e = ap (λ (k : ℕ). eqb k (dart_count n)) e ∙ sym (rw (le-leb 5 n h))
 
--- ---- what they say
+-- ---- what it says
 due-says : (sizes : List ℕ) (n : ℕ) → n ≤ 200 → due sizes n ≡ true → (5 ≤ n) × (start_of sizes n ≡ dart_count n)
 unfolding due
 due-says sizes n few e =
@@ -90,21 +85,17 @@ module _ (b sizes : List ℕ) (n : ℕ) (few : n ≤ 200) where
       lent-passed (count plan) plan (four_kept plan s) here (five_kept plan s) here (six_kept plan s) here (entry-count-lent (starts_of sizes) sizes b n) (total ∙ ap dart_count (sym size))
 
 -- 4 to 7 of what a layout finds
-pub quick_found : (b : List ℕ) (l : Layout) → LaidOut l → due l.sizes l.n ≡ true → (old : Sheet) → sound (held_plan (after old (sheet_in b l))) ≡ true → passed ≡ lent_in (sheet_in b l)
-unfolding sheet_in lent_in lent_of after packed tidied
-quick_found b l laid d old e = go l.found refl e
+pub quick_laid : (b : List ℕ) (l : Layout) → due l.sizes l.n ≡ true → (t : Sheet) → t ≡ packed (laid b l) → sound (held_plan t) ≡ true → passed ≡ lent_of (laid b l)
+unfolding laid lent_of packed
+quick_laid b l d t e s = go l.parts (ap (λ (r : Sheet). sound (held_plan r)) (sym e) ∙ s)
   where
     p : Plan
     p = plan_in b l.sizes l.n
 
-    kept : (g : Found) → l.found ≡ g → There g → (h : Stage) (ls : List ℕ) (c : Chart) → sound (held_plan (pack h p.rings ls c)) ≡ true → passed ≡ lent_rules (count p) p
-    kept g q there h ls c f =
-        quick_lent b l.sizes l.n laid.few d (subst (λ (r : Plan). sound r ≡ true) (plan-copied b l.sizes l.n laid.few (sizes_found l laid.tidy g q there) h ls c) f)
+    kept : (h : Stage) (ls : List ℕ) (c : Chart) → sound (held_plan (pack h p.rings ls c)) ≡ true → passed ≡ lent_rules (count p) p
+    kept h ls c f = quick_lent b l.sizes l.n l.few d (subst (λ (r : Plan). sound r ≡ true) (plan-copied b l.sizes l.n l.few l.tidy h ls c) f)
 
-    go : (g : Found) → l.found ≡ g → sound (held_plan (after old (found_as g p (labels_in b l.n l.labels) (chart_from b l.n l.chart)))) ≡ true → passed ≡ (found_as g p (labels_in b l.n l.labels) (chart_from b l.n l.chart) >>= lent_of)
-    go Found.Opened q f = kept Found.Opened q tt Open [] no_chart f
-    go Found.Labelled q f = kept Found.Labelled q tt Labelled (labels_in b l.n l.labels) no_chart f
-    go Found.Charted q f = kept Found.Charted q tt Charted (labels_in b l.n l.labels) (chart_from b l.n l.chart) f
-    go (Found.Refused k at) q f =
-        let none : l.n ≡ 0 = ap (λ (m : Layout). m.n) laid.tidy ∙ ap (λ (g : Found). (tidy_as g l.n l.sizes l.labels l.chart).n) q in
-        absurd (let (five, _) = due-says l.sizes l.n laid.few d in omega arith)
+    go : (g : Parts) → sound (held_plan (packed (sheet_with b l.n p g))) ≡ true → passed ≡ lent_of (sheet_with b l.n p g)
+    go Parts.Plan f = kept Open [] no_chart f
+    go (Parts.Labels labels) f = kept Labelled (labels_in b l.n labels) no_chart f
+    go (Parts.Chart labels chart) f = kept Charted (labels_in b l.n labels) (chart_from b l.n chart) f

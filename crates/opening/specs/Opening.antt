@@ -1,15 +1,12 @@
 -- Opening a file: the rules 4 to 7, which are judged where the rings stand in the file, and what is copied from it.
-use Rattle.std.specs.Prelude.{ℕ, ◌+◌, ◌*◌, ◌^◌, ◌≤◌, ◌<◌, min, ◌≡◌, List, map, Bool, ◌&&◌, eqb, leb}
+use Rattle.std.specs.Prelude.{ℕ, ◌+◌, ◌*◌, min, List, map, Bool, ◌&&◌, eqb, leb}
 use Rattle.lists.specs.Ranges.{from}
 use Rattle.model.specs.Outcome as model
-use Rattle.model.specs.Outcome.{passed, require, rule, ◌>>=◌, ◌>>◌}
+use Rattle.model.specs.Outcome.{passed, require, rule, ◌>>◌}
 use Rattle.model.specs.Plan.{Plan, count, bad_entry, bad_repeat, unreturned, entry_count, dart_count}
 use Rattle.model.specs.File as file
 use Rattle.rings.specs.Tables.{start_of}
 use Rattle.framing.specs.Offsets.{word_at}
-use Rattle.framing.specs.Layouts.{tidied, Enough}
-use Rattle.framing.specs.declared.Layout.{Layout}
-use Rattle.sheet.specs.declared.Sheet.{Sheet}
 
 -- 4 to 7, which are judged in the file
 unfoldable pub lent_rules : ℕ → Plan → model.Outcome (Unit {0})
@@ -26,26 +23,9 @@ lent_of (file.opened p) = lent_rules (count p) p
 lent_of (file.labelled p ls) = lent_rules (count p) p
 lent_of (file.charted p ls c) = lent_rules (count p) p
 
--- 4 to 7 of what was decoded; a refusal stays
-unfoldable pub lent_in : model.Outcome file.Sheet → model.Outcome (Unit {0})
-lent_in o = o >>= lent_of
-
 -- 5 contexts or more, with as many entries as 7 asks for
 unfoldable pub due : List ℕ → ℕ → Bool
 due sizes n = leb 5 n && eqb (start_of sizes (min n 200)) (dart_count n)
-
--- a layout as framing leaves it
-pub record LaidOut (l : Layout) : Type 0 where
-  pub tidy : l ≡ tidied l
-  pub enough : Enough l.found l.n
-  pub few : l.n ≤ 200
-  pub labels_near : l.labels < 2 ^ 17
-  pub chart_near : l.chart < 2 ^ 17
-
--- the new struct where the rules are kept, else the old one
-unfoldable pub replaced : model.Outcome (Unit {0}) → Sheet → Sheet → Sheet
-replaced (model.accepted u) old new = new
-replaced (model.refused k at) old new = old
 
 -- n numbers of two bytes from an offset on, one every four bytes
 unfoldable pub every_four : List ℕ → ℕ → ℕ → List ℕ

@@ -1,73 +1,75 @@
-// Open: a file whose plan is sound is judged at once, any other part by part; what it holds replaces the sheet.
+// Open: the plan of a file is judged where it stands, or at once where it is sound; what the file holds is copied into a sheet.
 #![tactic(auto)]
 
 ghost use Rattle.std.specs.Prelude.{◌≡◌, true, ◌<◌, ◌≤◌, ◌^◌};
 ghost use Rattle.lists.specs.Parts.{concat};
 ghost use Rattle.lists.specs.Spans.{stretch, padded};
-ghost use Rattle.model.specs.File.{fresh, opened, labelled, charted, decode};
+ghost use Rattle.model.specs.Outcome.{accepted};
+ghost use Rattle.model.specs.File.{opened, labelled, charted, decode};
 ghost use Rattle.model.specs.Calls.{open_call};
-ghost use Rattle.rings.specs.Tables.{start_of, starts_of};
+ghost use Rattle.refusal.specs.Refusals.{told};
+ghost use Rattle.rings.specs.Tables.{start_of};
+ghost use Rattle.lent.specs.Plans as plans;
 ghost use Rattle.sound.specs.Sound.{sound};
-ghost use Rattle.framing.specs.Layouts.{plan_in, labels_in, chart_from, sheet_in};
+ghost use Rattle.framing.specs.Layouts.{plan_in, labels_in, chart_from, laid};
 ghost use Rattle.sheet.specs.Sheets.{held_plan, packed};
-ghost use Rattle.sheet.specs.Answers.{answer_as, answer_of, after};
-ghost use Rattle.opening.specs.Opening.{lent_rules, lent_in, due, LaidOut, replaced, every_four};
+ghost use Rattle.sheet.specs.Answers.{packed_as};
+ghost use Rattle.opening.specs.Opening.{lent_rules, lent_of, due, every_four};
 
-use sheet::{Answer, Outcome, Sheet, Stage};
+use framing::{Layout, Parts};
+use lent::LentRings;
+use refusal::Refusal;
+use sheet::{Sheet, Stage};
 
-// 4 to 7, where the rings stand in the file and begin at these starts.
-fn lent_rules<'a>(file: &'a [u8], starts: &'a [u16], sizes: &'a [u8], n: usize) -> Answer
-    requires le_n { 5 ≤ n }
-    requires n_bound { n ≤ 200 }
-    requires starts_value { starts.now ≡ starts_of sizes.now }
-    ensures { answer_as result ≡ lent_rules n (plan_in file.now sizes.now n) }
+// 4 to 7 of rings where they stand in a file.
+fn lent_rules(rings: &LentRings) -> Result<(), Refusal>
+    requires enough { 5 ≤ rings.now.n }
+    requires few { rings.now.n ≤ 200 }
+    ensures { told result ≡ lent_rules rings.now.n (plans.lent_of rings.now) }
 {
-    let four = single::rule4_place(file, starts, sizes, n);
+    let n = rings.n;
+    let four = single::rule4_place(rings);
     if four < n {
-        return Answer::Refused(4, four);
+        return Err(Refusal::BadEntry(four));
     }
-    let five = single::rule5_place(file, starts, sizes, n);
+    let five = single::rule5_place(rings);
     if five < n {
-        return Answer::Refused(5, five);
+        return Err(Refusal::RepeatedEntry(five));
     }
-    let six = mutual::rule6_place(file, starts, sizes, n);
+    let six = mutual::rule6_place(rings);
     if six < n {
-        return Answer::Refused(6, six);
+        return Err(Refusal::OneSidedEntry(six));
     }
-    if fit::total_of(sizes, n) != 6 * n - 14 {
-        return Answer::Refused(7, 0);
+    if fit::total_of(rings.sizes, n) != 6 * n - 14 {
+        return Err(Refusal::EntryTotal);
     }
-    Answer::Accepted
+    Ok(())
 }
 
-// 4 to 7, where the rings stand in the file.
-fn ring_rules<'a>(file: &'a [u8], sizes: &'a [u8], n: usize) -> Answer
-    requires le_n { 5 ≤ n }
-    requires n_bound { n ≤ 200 }
-    ensures { answer_as result ≡ lent_rules n (plan_in file.now sizes.now n) }
+// 4 to 7 of the plan in a file.
+fn ring_rules(file: &[u8], layout: &Layout) -> Result<(), Refusal>
+    ensures { told result ≡ lent_of (laid file.now layout.now) }
 {
-    let starts = rings::starts_of(sizes);
-    lent_rules(file, &starts, sizes, n)
+    let starts = rings::starts_of(&layout.sizes);
+    lent_rules(&LentRings {
+        file,
+        starts: &starts,
+        sizes: &layout.sizes,
+        n: layout.n,
+    })
 }
 
 // The entries of all rings, in context order.
-fn copy_entries<'a>(file: &'a [u8], sizes: &'a [u8], n: usize) -> [u16; 1186]
-    requires n_bound { n ≤ 200 }
-    requires n_bound_2 { start_of sizes.now n ≤ 1186 }
-    ensures { result ≡ padded 1186 (concat (plan_in file.now sizes.now n).rings) }
+fn copy_entries(file: &[u8], layout: &Layout) -> [u16; 1186]
+    requires { start_of layout.now.sizes layout.now.n ≤ 1186 }
+    ensures { result ≡ padded 1186 (concat (plan_in file.now layout.now.sizes layout.now.n).rings) }
 {
     let mut entries = [0u16; 1186];
-    let mut u = 0;
-    let mut i = 0;
     let mut at = 0;
-    while u < n {
-        if i < arrays::byte(sizes, u) {
+    for u in 0..layout.n {
+        for i in 0..arrays::num(&layout.sizes, u) {
             entries[at] = arrays::word_at(file, 10 + 4 * u + 2 * at) as u16;
             at += 1;
-            i += 1;
-        } else {
-            u += 1;
-            i = 0;
         }
     }
     entries
@@ -80,10 +82,8 @@ fn copy_labels(file: &[u8], at: usize, count: usize) -> [u8; 1186]
     ensures { result ≡ padded 1186 (stretch file.now at count) }
 {
     let mut labels = [0u8; 1186];
-    let mut i = 0;
-    while i < count {
-        labels[i] = arrays::byte(file, at + i) as u8;
-        i += 1;
+    for i in 0..count {
+        labels[i] = arrays::num(file, at + i) as u8;
     }
     labels
 }
@@ -95,192 +95,112 @@ fn copy_chart(file: &[u8], at: usize, n: usize) -> [u16; 200]
     ensures { result ≡ padded 200 (every_four file.now at n) }
 {
     let mut points = [0u16; 200];
-    let mut u = 0;
-    while u < n {
+    for u in 0..n {
         points[u] = arrays::word_at(file, at + 4 * u) as u16;
-        u += 1;
     }
     points
 }
 
-// The sheet at stage OPEN that a file holds.
-fn opened_sheet(file: &[u8], n: usize, sizes: [u8; 200]) -> Sheet
-    requires n_bound { n ≤ 200 }
-    requires n_bound_2 { start_of sizes n ≤ 1186 }
-    requires sizes_value { sizes ≡ padded 200 (stretch sizes 0 n) }
-    ensures { result ≡ packed (opened (plan_in file.now sizes n)) }
+// The sheet at stage OPEN with the plan in a file.
+fn opened_sheet(file: &[u8], layout: &Layout) -> Sheet
+    requires { start_of layout.now.sizes layout.now.n ≤ 1186 }
+    ensures { result ≡ packed (opened (plan_in file.now layout.now.sizes layout.now.n)) }
 {
-    let entries = copy_entries(file, &sizes, n);
     Sheet {
         stage: Stage::Open,
-        n: n as u16,
-        sizes,
-        entries,
-        labels: [0u8; 1186],
-        w: 0,
-        h: 0,
-        xs: [0u16; 200],
-        ys: [0u16; 200],
+        n: layout.n as u16,
+        sizes: layout.sizes,
+        entries: copy_entries(file, layout),
+        ..sheet::fresh_sheet()
     }
 }
 
-// The sheet at stage LABELLED that a file holds, its labels from an offset on.
-fn labelled_sheet(file: &[u8], n: usize, sizes: [u8; 200], at: usize) -> Sheet
-    requires le_n { 5 ≤ n }
-    requires n_bound { n ≤ 200 }
-    requires at_bound { at < 2 ^ 17 }
-    requires n_bound_2 { start_of sizes n ≤ 1186 }
-    requires sizes_value { sizes ≡ padded 200 (stretch sizes 0 n) }
-    ensures { result ≡ packed (labelled (plan_in file.now sizes n) (labels_in file.now n at)) }
+// The same at stage LABELLED, with its labels from an offset on.
+fn labelled_sheet(file: &[u8], layout: &Layout, labels: usize) -> Sheet
+    requires room { start_of layout.now.sizes layout.now.n ≤ 1186 }
+    requires near { labels < 2 ^ 17 }
+    ensures { result ≡ packed (labelled (plan_in file.now layout.now.sizes layout.now.n) (labels_in file.now layout.now.n labels)) }
 {
-    let entries = copy_entries(file, &sizes, n);
-    let labels = copy_labels(file, at, 6 * n - 14);
     Sheet {
         stage: Stage::Labelled,
-        n: n as u16,
-        sizes,
-        entries,
-        labels,
-        w: 0,
-        h: 0,
-        xs: [0u16; 200],
-        ys: [0u16; 200],
+        labels: copy_labels(file, labels, 6 * layout.n - 14),
+        ..opened_sheet(file, layout)
     }
 }
 
-// The sheet at stage CHARTED that a file holds, its labels and its chart's numbers each from an offset on.
-fn charted_sheet(file: &[u8], n: usize, sizes: [u8; 200], at: usize, chart: usize) -> Sheet
-    requires le_n { 5 ≤ n }
-    requires n_bound { n ≤ 200 }
-    requires at_bound { at < 2 ^ 17 }
-    requires chart_bound { chart < 2 ^ 17 }
-    requires n_bound_2 { start_of sizes n ≤ 1186 }
-    requires sizes_value { sizes ≡ padded 200 (stretch sizes 0 n) }
-    ensures { result ≡ packed (charted (plan_in file.now sizes n) (labels_in file.now n at) (chart_from file.now n chart)) }
+// The same at stage CHARTED, with its chart's numbers from an offset on.
+fn charted_sheet(file: &[u8], layout: &Layout, labels: usize, chart: usize) -> Sheet
+    requires room { start_of layout.now.sizes layout.now.n ≤ 1186 }
+    requires near { labels < 2 ^ 17 }
+    requires chart_near { chart < 2 ^ 17 }
+    ensures { result ≡ packed (charted (plan_in file.now layout.now.sizes layout.now.n) (labels_in file.now layout.now.n labels) (chart_from file.now layout.now.n chart)) }
 {
-    let entries = copy_entries(file, &sizes, n);
-    let labels = copy_labels(file, at, 6 * n - 14);
-    let xs = copy_chart(file, chart + 4, n);
-    let ys = copy_chart(file, chart + 6, n);
-    let w = arrays::word_at(file, chart) as u16;
-    let h = arrays::word_at(file, chart + 2) as u16;
     Sheet {
         stage: Stage::Charted,
-        n: n as u16,
-        sizes,
-        entries,
-        labels,
-        w,
-        h,
-        xs,
-        ys,
+        w: arrays::word_at(file, chart) as u16,
+        h: arrays::word_at(file, chart + 2) as u16,
+        xs: copy_chart(file, chart + 4, layout.n),
+        ys: copy_chart(file, chart + 6, layout.n),
+        ..labelled_sheet(file, layout, labels)
     }
 }
 
-// The sheet that a file holds by its layout; a fresh one where there is none.
-fn copy_sheet(file: &[u8], layout: framing::Layout) -> Sheet
-    requires laid_out { LaidOut layout }
-    requires n_bound { start_of layout.sizes layout.n ≤ 1186 }
-    ensures { result ≡ after (packed fresh) (sheet_in file.now layout) }
+// The sheet that a file holds.
+fn copy_sheet(file: &[u8], layout: &Layout) -> Sheet
+    requires { start_of layout.now.sizes layout.now.n ≤ 1186 }
+    ensures { result ≡ packed (laid file.now layout.now) }
 {
-    let found = layout.found;
-    let n = layout.n;
-    let sizes = layout.sizes;
-    match found {
-        framing::Found::Opened => opened_sheet(file, n, sizes),
-        framing::Found::Labelled => labelled_sheet(file, n, sizes, layout.labels),
-        framing::Found::Charted => charted_sheet(file, n, sizes, layout.labels, layout.chart),
-        framing::Found::Refused(_, _) => sheet::fresh_sheet(),
+    match layout.parts {
+        Parts::Plan => opened_sheet(file, layout),
+        Parts::Labels { labels } => labelled_sheet(file, layout, labels),
+        Parts::Chart { labels, chart } => charted_sheet(file, layout, labels, chart),
     }
 }
 
-// What framing refuses, then 4 to 7, where the rings stand in the file.
-fn lent_part(file: &[u8], layout: framing::Layout) -> Answer
-    requires { LaidOut layout }
-    ensures { answer_as result ≡ lent_in (sheet_in file.now layout) }
+// Has the plan in a file as many entries as 7 asks for?
+fn is_due(layout: &Layout) -> bool
+    ensures { result ≡ due layout.now.sizes layout.now.n }
 {
-    let found = layout.found;
-    let n = layout.n;
-    let sizes = layout.sizes;
-    match found {
-        framing::Found::Refused(number, place) => Answer::Refused(number, place),
-        _ => ring_rules(file, &sizes, n),
-    }
-}
-
-// The new sheet in place of the old one, if it was judged to keep the rules.
-fn replace(old: Sheet, new: Sheet, judged: Answer) -> Outcome
-    ensures answer_value { answer_as result.answer ≡ answer_as judged }
-    ensures sheet_value { result.sheet ≡ replaced (answer_as judged) old new }
-{
-    match judged {
-        Answer::Refused(number, place) => sheet::refuse(old, number, place),
-        Answer::Accepted => sheet::accept(new),
-    }
-}
-
-// Are there 5 contexts or more, and as many entries as 7 asks for?
-fn is_due(sizes: &[u8], n: usize) -> bool
-    requires { n ≤ 200 }
-    ensures { result ≡ due sizes.now n }
-{
-    if n < 5 {
-        return false;
-    }
-    fit::total_of(sizes, n) == 6 * n - 14
+    fit::total_of(&layout.sizes, layout.n) == 6 * layout.n - 14
 }
 
 // Is the plan of a sheet sound, so that it keeps 4, 5, 6, 8 and 9?
-fn is_sound(sheet: Sheet) -> bool
-    ensures { result ≡ sound (held_plan sheet) }
+fn is_sound(sheet: &Sheet) -> bool
+    ensures { result ≡ sound (held_plan sheet.now) }
 {
-    let sizes = sheet.sizes;
-    let entries = sheet.entries;
-    sound::is_sound(&sizes, &entries, sheet.n as usize)
+    sound::is_sound(&sheet::table_of(sheet))
 }
 
-// Open by a layout: each rule is judged in its turn.
-fn open_by_rules(sheet: Sheet, file: &[u8], layout: framing::Layout) -> Outcome
-    requires laid_out { LaidOut layout }
-    requires layout_value { sheet_in file.now layout ≡ decode file.now }
-    ensures answer_value { answer_as result.answer ≡ answer_of (open_call file.now) }
-    ensures sheet_value { result.sheet ≡ after sheet (open_call file.now) }
+// Opens a file that is framed: each rule is judged in its turn.
+fn open_by_rules(file: &[u8], layout: &Layout) -> Result<Sheet, Refusal>
+    requires { decode file.now ≡ accepted (laid file.now layout.now) }
+    ensures { told result ≡ packed_as (open_call file.now) }
 {
-    let judged = lent_part(file, layout);
-    match judged {
-        Answer::Refused(number, place) => sheet::refuse(sheet, number, place),
-        Answer::Accepted => {
-            let new = copy_sheet(file, layout);
-            replace(sheet, new, judging::rules_from_8(new))
+    ring_rules(file, layout)?;
+    let sheet = copy_sheet(file, layout);
+    judging::rules_from_8(&sheet)?;
+    Ok(sheet)
+}
+
+// Opens a file that is framed: 4 to 9 are judged at once where the plan is sound.
+fn open_framed(file: &[u8], layout: &Layout) -> Result<Sheet, Refusal>
+    requires { decode file.now ≡ accepted (laid file.now layout.now) }
+    ensures { told result ≡ packed_as (open_call file.now) }
+{
+    if is_due(layout) {
+        let sheet = copy_sheet(file, layout);
+        if is_sound(&sheet) {
+            judging::rules_from_10(&sheet)?;
+            return Ok(sheet);
         }
     }
+    open_by_rules(file, layout)
 }
 
-// Open by a layout with as many entries as 7 asks for: 4 to 9 at once, where the plan is sound.
-fn open_at_once(sheet: Sheet, file: &[u8], layout: framing::Layout) -> Outcome
-    requires laid_out { LaidOut layout }
-    requires layout_value { sheet_in file.now layout ≡ decode file.now }
-    requires n_value { due layout.sizes layout.n ≡ true }
-    ensures answer_value { answer_as result.answer ≡ answer_of (open_call file.now) }
-    ensures sheet_value { result.sheet ≡ after sheet (open_call file.now) }
+// Open: the sheet that a file holds, or the refusal.
+pub fn open_file(file: &[u8]) -> Result<Sheet, Refusal>
+    ensures { told result ≡ packed_as (open_call file.now) }
 {
-    let new = copy_sheet(file, layout);
-    if is_sound(new) {
-        return replace(sheet, new, judging::rules_from_10(new));
-    }
-    open_by_rules(sheet, file, layout)
-}
-
-// Open, at any stage: the file's contents replace everything; a refusal leaves the sheet as it is.
-pub fn open_file(sheet: Sheet, file: &[u8]) -> Outcome
-    ensures answer_value { answer_as result.answer ≡ answer_of (open_call file.now) }
-    ensures sheet_value { result.sheet ≡ after sheet (open_call file.now) }
-{
-    let layout = framing::frame_file(file);
-    let n = layout.n;
-    let sizes = layout.sizes;
-    if is_due(&sizes, n) {
-        return open_at_once(sheet, file, layout);
-    }
-    open_by_rules(sheet, file, layout)
+    let layout = framing::frame_file(file)?;
+    open_framed(file, &layout)
 }

@@ -3,76 +3,93 @@ use Prim.Native.Nat.{ℕ, ◌+◌, ◌-◌, ◌≤◌, ◌<◌}
 use mathlib.Core.Path.{◌≡◌, refl, sym, ap, ◌∙◌}
 use mathlib.Core.List.{List}
 use mathlib.Core.Bool.{Bool, true, false, cond, ◌&&◌, and-false}
-use mathlib.Core.Option.{Option, none, some, none-ne-some}
+use mathlib.Core.Option.{Option, none, some, none-ne-some, some-injective}
 use native.Mathlib.Omega.{arith}
 use lib.ListN.{length, get_or, take, drop}
-use lib.Dec.{eqb, leb}
+use lib.Dec.{leb}
 use borrow.Author.Tests.{leb-true, le-leb, lt-leb, ne_eqb}
 use Rattle.lists.proofs.Bools.{and_yes}
-use Rattle.model.specs.CallLists.{Call, open_file, offer_labels, sweep-labels, draw_chart, call}
+use Rattle.std.specs.Prelude as maybe
+use Rattle.std.specs.Prelude.{Some, None, Ok, Err}
+use Rattle.std.proofs.lemmas.Option.{none-some, same_Some}
+use Rattle.std.specs.Result.{result_unwrap_or}
+use Rattle.std.specs.declared.result.Result.{Result}
+use Rattle.model.specs.Outcome.{Outcome, accepted, refused}
+use Rattle.model.specs.File as file
+use Rattle.model.specs.CallLists.{Call, call}
+use Rattle.model.proofs.Outcomes.{not-both, same-value}
+use Rattle.refusal.specs.declared.Refusal.{Refusal}
+use Rattle.refusal.specs.Refusals.{told}
 use Rattle.sheet.specs.declared.Sheet.{Sheet}
 use Rattle.sheet.specs.Sheets.{reads}
-use Rattle.sheet.specs.Answers.{after}
-use Rattle.script.specs.Scripts.{argument_size, turn_of, call_of, call_at}
-use Rattle.script.specs.Steps.{stepped, size_if}
+use Rattle.sheet.specs.Answers.{packed_as, after}
+use Rattle.script.specs.Scripts.{argument_size, alone, call_of, call_at}
+use Rattle.script.specs.declared.Step.{Step}
+use Rattle.script.specs.Steps.{answered, stepped}
 
--- ---- what an item leaves
-module _ (s : Sheet) (size : ℕ) {q : Option Call} {t : Sheet} {k : ℕ} where
+-- ---- what a result leaves
+-- what is there after a call that was answered so
+unwrapped : (s : Sheet) (r : Result Sheet Refusal) (o : Outcome file.Sheet) → told r ≡ packed_as o → result_unwrap_or r s ≡ after s o
+unfolding packed_as after
+unwrapped s (Ok t) (accepted u) e = same-value e
+unwrapped s (Ok t) (refused k at) e = not-both (sym e)
+unwrapped s (Err f) (accepted u) e = not-both e
+unwrapped s (Err f) (refused k at) e = refl
+
+-- ---- what an item's call answers
+module _ (s : Sheet) {q : Option Call} where
   -- an item whose call was run
-  pub item_ran : (c : Call) → q ≡ some c → t ≡ after s (call (reads s) c) → k ≡ size → (t ≡ stepped s q) × (k ≡ size_if q size)
-  unfolding stepped size_if
-  item_ran c e f g = (f ∙ ap (stepped s) (sym e), g ∙ ap (λ (p : Option Call). size_if p size) (sym e))
+  pub item_ran : {o : Outcome Sheet} (c : Call) → q ≡ some c → o ≡ packed_as (call (reads s) c) → some o ≡ answered s q
+  unfolding answered
+  item_ran c e f = ap some f ∙ ap (answered s) (sym e)
 
   -- a malformed item
-  pub item_malformed : q ≡ none → t ≡ s → k ≡ 0 → (t ≡ stepped s q) × (k ≡ size_if q size)
-  unfolding stepped size_if
-  item_malformed e f g = (f ∙ ap (stepped s) (sym e), g ∙ ap (λ (p : Option Call). size_if p size) (sym e))
-
-  -- an item that is the same by another name
-  pub item-same : {p : Option Call} {m : ℕ} → p ≡ q → m ≡ size → t ≡ stepped s p → k ≡ size_if p m → (t ≡ stepped s q) × (k ≡ size_if q size)
-  item-same e d f g = (f ∙ ap (stepped s) e, g ∙ λ i. size_if (e i) (d i))
+  pub item_malformed : q ≡ none → none ≡ answered s q
+  unfolding answered
+  item_malformed e = ap (answered s) (sym e)
 
 -- ---- kinds
-module _ (kind : ℕ) (a : List ℕ) where
-  -- kind 1
-  pub kind_open : kind ≡ 1 → call_of kind a ≡ some (open_file a)
-  unfolding call_of
-  kind_open e = rw e
-
-  -- kind 2
-  pub kind_offer : kind ≡ 2 → call_of kind a ≡ some (offer_labels a)
-  unfolding call_of
-  kind_offer e = rw e
-
-  -- kind 4
-  pub kind_turn : kind ≡ 4 → turn_of a ≡ call_of kind a
-  unfolding call_of
-  kind_turn e = rw e
-
-  -- kind 3 with no argument
-  pub kind_sweep : kind ≡ 3 → length a ≡ 0 → call_of kind a ≡ some sweep-labels
-  unfolding call_of
-  kind_sweep e z = rw (e, z)
-
-  -- kind 5 with no argument
-  pub kind_chart : kind ≡ 5 → length a ≡ 0 → call_of kind a ≡ some draw_chart
-  unfolding call_of
-  kind_chart e z = rw (e, z)
-
+module _ (a : List ℕ) where
   -- an argument where none is due
-  pub kind_alone : (kind ≡ 1 → ⊥) → (kind ≡ 2 → ⊥) → (kind ≡ 4 → ⊥) → (length a ≡ 0 → ⊥) → call_of kind a ≡ none
-  unfolding call_of
-  kind_alone n₁ n₂ n₄ z = rw (ne_eqb kind 1 n₁, ne_eqb kind 2 n₂, ne_eqb kind 4 n₄, ne_eqb (length a) 0 z) (go (eqb kind 3) (eqb kind 5))
-    where
-      go : (t u : Bool) → ◌≡◌ {A = Option Call} (cond t none (cond u none none)) none
-      go true u = refl
-      go false true = refl
-      go false false = refl
+  pub alone-none : (c : Call) → (length a ≡ 0 → ⊥) → alone c a ≡ none
+  alone-none c z = rw (ne_eqb (length a) 0 z)
 
-  -- another kind
-  pub kind_other : (kind ≡ 1 → ⊥) → (kind ≡ 2 → ⊥) → (kind ≡ 4 → ⊥) → (kind ≡ 3 → ⊥) → (kind ≡ 5 → ⊥) → call_of kind a ≡ none
+  -- no argument, where none is due
+  pub alone-some : (c : Call) → length a ≡ 0 → alone c a ≡ some c
+  alone-some c z = rw z
+
+  -- a number that stands for no kind
+  pub kind_other : (kind : ℕ) → (0 < kind → 5 < kind) → call_of kind a ≡ none
   unfolding call_of
-  kind_other n₁ n₂ n₄ n₃ n₅ = rw (ne_eqb kind 1 n₁, ne_eqb kind 2 n₂, ne_eqb kind 3 n₃, ne_eqb kind 4 n₄, ne_eqb kind 5 n₅)
+  kind_other kind h = rw (ne_eqb kind 1 (λ e. omega arith), ne_eqb kind 2 (λ e. omega arith), ne_eqb kind 3 (λ e. omega arith), ne_eqb kind 4 (λ e. omega arith), ne_eqb kind 5 (λ e. omega arith))
+
+-- ---- what an item leaves
+-- nothing, where it is malformed
+pub step_none : (s : Sheet) (size : ℕ) {q : Option Call} → q ≡ none → None ≡ stepped s size q
+unfolding stepped
+step_none s size e = ap (stepped s size) (sym e)
+
+-- so where its call answers nothing
+pub step-unanswered : (s : Sheet) (size : ℕ) (q : Option Call) → none ≡ answered s q → None ≡ stepped s size q
+unfolding answered stepped
+step-unanswered s size none e = refl
+step-unanswered s size (some c) e = absurd (none-ne-some _ e)
+
+-- the sheet that its call leaves
+pub step-answered : (s : Sheet) (size : ℕ) (q : Option Call) (r : Result Sheet Refusal) {t : Sheet} {k : ℕ} → some (told r) ≡ answered s q → t ≡ result_unwrap_or r s → k ≡ size → Some (record { sheet = t; size = k }) ≡ stepped s size q
+unfolding answered stepped
+step-answered s size none r e f g = absurd (none-ne-some _ (sym e))
+step-answered s size (some c) r e f g = let put = f ∙ unwrapped s r (call (reads s) c) (some-injective _ _ e) in λ i. Some (record { sheet = put i; size = g i })
+
+-- an item by another name
+pub step-same : (s : Sheet) {r : maybe.Option Step} {k size : ℕ} {p q : Option Call} → r ≡ stepped s k p → k ≡ size → p ≡ q → r ≡ stepped s size q
+step-same s e g h = e ∙ λ i. stepped s (g i) (h i)
+
+-- its size
+pub step-size : (s : Sheet) (size : ℕ) (q : Option Call) (r : Step) → Some r ≡ stepped s size q → r.size ≡ size
+unfolding stepped
+step-size s size none r e = absurd (none-some _ (sym e))
+step-size s size (some c) r e = ap (λ (t : Step). t.size) (same_Some _ _ e)
 
 -- ---- the item that the bytes begin with
 module _ (s : List ℕ) where

@@ -1,17 +1,23 @@
 -- The walk over a script: what its loop keeps, with a law for its start, its step and its two ends.
-use Prim.Native.Nat.{ℕ, zero, suc, ◌+◌, ◌-◌, ◌≤◌, ◌<◌}
+use Prim.Native.Nat.{ℕ, zero, suc, ◌+◌, ◌-◌, ◌≤◌}
 use mathlib.Core.Path.{◌≡◌, refl, sym, ap, ◌∙◌}
 use mathlib.Core.List.{List, [], ◌∷◌}
 use mathlib.Core.Option.{Option, none, some}
 use native.Mathlib.Omega.{arith}
 use lib.ListN.{length, take, drop, length-drop}
 use lib.Seq.{take_all, drop-drop}
-use Rattle.model.specs.CallLists.{Call}
+use Rattle.std.specs.Prelude as maybe
+use Rattle.std.specs.Prelude.{Some}
+use Rattle.std.proofs.lemmas.Option.{none-some, same_Some}
+use Rattle.model.specs.CallLists.{Call, call}
 use Rattle.sheet.specs.declared.Sheet.{Sheet}
+use Rattle.sheet.specs.Sheets.{reads}
+use Rattle.sheet.specs.Answers.{after}
 use Rattle.guarantee.specs.Engine.{start, left}
 use Rattle.script.specs.Scripts.{argument_size, call_at, behind, with_later, if_called, calls_from, rest_from, calls_of, end_of}
-use Rattle.script.specs.Steps.{stepped, size_if}
-use Rattle.script.proofs.Items.{item-short, item-fits}
+use Rattle.script.specs.declared.Step.{Step}
+use Rattle.script.specs.Steps.{stepped}
+use Rattle.script.proofs.Items.{item-fits}
 
 -- ---- one item of the definitions
 -- a call and those that follow it
@@ -36,7 +42,7 @@ unfolding rest_from
 rest-none zero s e = refl
 rest-none (suc fuel) s e = ap (λ (q : Option Call). if_called q (rest_from fuel (behind s)) s) e
 
--- ---- while at < script.len() { .. if size == 0 { return .. } sheet = ..; at += size; }
+-- ---- while let Some(step) = run_item(sheet, &script[at..]) { sheet = step.sheet; at += step.size; }
 -- The calls that are left, from the sheet that stands, leave what the whole script leaves.
 pub record Runs (b : List ℕ) (s : Sheet) (at : ℕ) : Type 0 where
   pub reached : at ≤ length b
@@ -63,38 +69,37 @@ module _ {b : List ℕ} {s : Sheet} {at : ℕ} (inv : Runs b s at) where
       let long = ap length (inv.rest ∙ rest-none inv.fuel (drop at b) e) ∙ length-drop at b in
       (sym (inv.same ∙ ap (left s) (calls_none inv.fuel (drop at b) e)), omega arith)
 
-  -- at the script's end
-  pub runs_end : length b ≤ at → (s ≡ left start (calls_of b)) × (at ≡ end_of b)
-  runs_end h = stops (item-short (drop at b) (omega (arith, length-drop at b)))
-
   -- the part of the script from the offset on, as the code lends it
-  module _ {w : List ℕ} (part : w ≡ drop at b) {size : ℕ} (sized : size ≡ size_if (call_at w) (4 + argument_size w)) where
-    -- at a malformed item
-    pub runs_malformed : size ≡ 0 → (s ≡ left start (calls_of b)) × (at ≡ end_of b)
-    unfolding size_if
-    runs_malformed z = go (call_at w) refl sized
+  module _ {w : List ℕ} (part : w ≡ drop at b) where
+    -- nothing is left: the script ends here, or at a malformed item
+    pub runs_end : {o : maybe.Option Step} → o ≡ stepped s (4 + argument_size w) (call_at w) → ((r : Step) → o ≡ Some r → ⊥) → (s ≡ left start (calls_of b)) × (at ≡ end_of b)
+    unfolding stepped
+    runs_end {o} e n = go (call_at w) refl e
       where
-        go : (q : Option Call) → call_at w ≡ q → size ≡ size_if q (4 + argument_size w) → (s ≡ left start (calls_of b)) × (at ≡ end_of b)
+        go : (q : Option Call) → call_at w ≡ q → o ≡ stepped s (4 + argument_size w) q → (s ≡ left start (calls_of b)) × (at ≡ end_of b)
         go none p f = stops (ap call_at (sym part) ∙ p)
-        go (some c) p f = absurd (omega arith)
+        go (some c) p f = absurd (n _ f)
 
     -- behind an item
-    pub runs_on : {t : Sheet} {at' : ℕ} → at < length b → (size ≡ 0 → ⊥) → t ≡ stepped s (call_at w) → at' ≡ at + size → Runs b t at'
-    unfolding left stepped size_if
-    runs_on {t} {at'} h n f g = go (call_at w) refl sized f
+    pub runs_on : (r : Step) → Some r ≡ stepped s (4 + argument_size w) (call_at w) → Runs b r.sheet (at + r.size)
+    unfolding left stepped
+    runs_on r e = go (call_at w) refl e
       where
-        go : (q : Option Call) → call_at w ≡ q → size ≡ size_if q (4 + argument_size w) → t ≡ stepped s q → Runs b t at'
-        go none p d u = absurd (n d)
-        go (some c) p d u =
+        go : (q : Option Call) → call_at w ≡ q → Some r ≡ stepped s (4 + argument_size w) q → Runs b r.sheet (at + r.size)
+        go none p f = absurd (none-some _ (sym f))
+        go (some c) p f =
             let k = 4 + argument_size w in
+            let same = same_Some _ _ f in
+            let u : r.sheet ≡ after s (call (reads s) c) = ap (λ (t : Step). t.sheet) same in
+            let n : r.size ≡ k = ap (λ (t : Step). t.size) same in
             let f = inv.fuel - 1 in
             let reach = inv.reached in
             let enough = inv.enough in
-            let one : inv.fuel ≡ suc f = omega arith in
             let long = ap length part ∙ length-drop at b in
             let fits = item-fits w c p in
-            let far : at + k ≡ at' = omega arith in
-            let next : drop k w ≡ drop at' b = ap (drop k) part ∙ drop-drop k at b ∙ ap (λ (j : ℕ). drop j b) far in
+            let one : inv.fuel ≡ suc f = omega arith in
+            let far : at + k ≡ at + r.size = omega arith in
+            let next : drop k w ≡ drop (at + r.size) b = ap (drop k) part ∙ drop-drop k at b ∙ ap (λ (j : ℕ). drop j b) far in
             record {
               reached = omega arith;
               fuel = f;

@@ -1,17 +1,41 @@
--- One item of a script on the sheet struct: what it leaves, and how far the script has come.
-use Rattle.std.specs.Prelude.{ℕ}
-use Rattle.std.proofs.Math.Option.{Option, none, some}
+-- One item of a script on the sheet struct: the number of its kind, what its call answers, what it leaves, and how far the script has come.
+use Rattle.std.specs.Prelude.{ℕ, ◌<◌, ◌≡◌, Option, Some, None}
+use Rattle.std.specs.declared.result.Result.{Result}
+use Rattle.std.proofs.Math.Option as maybe
+use Rattle.model.specs.Outcome.{Outcome}
 use Rattle.model.specs.CallLists.{Call, call}
+use Rattle.refusal.specs.declared.Refusal.{Refusal}
+use Rattle.refusal.specs.Refusals.{told}
 use Rattle.sheet.specs.declared.Sheet.{Sheet}
 use Rattle.sheet.specs.Sheets.{reads}
-use Rattle.sheet.specs.Answers.{after}
+use Rattle.sheet.specs.Answers.{packed_as, after}
+use Rattle.script.specs.declared.Kind.{Kind}
+use Rattle.script.specs.declared.Step.{Step}
 
--- the struct after an item's call, accepted or refused; the very struct where the item is malformed
-unfoldable pub stepped : Sheet → Option Call → Sheet
-stepped s none = s
-stepped s (some c) = after s (call (reads s) c)
+-- the number of a kind
+abbrev pub number_of : Kind → ℕ
+number_of Kind.Open = 1
+number_of Kind.Offer = 2
+number_of Kind.Sweep = 3
+number_of Kind.Turn = 4
+number_of Kind.Chart = 5
 
--- the size of an item; 0 where it is malformed
-unfoldable pub size_if : Option Call → ℕ → ℕ
-size_if none size = 0
-size_if (some c) size = size
+-- the kind that a number stands for; those from 1 to 5 stand for one
+abbrev pub IsKind : ℕ → Option Kind → Type 0
+IsKind k (Some g) = k ≡ number_of g
+IsKind k None = 0 < k → 5 < k
+
+-- what was answered, if there was a call
+abbrev pub ran : Option (Result Sheet Refusal) → maybe.Option (Outcome Sheet)
+ran None = maybe.none
+ran (Some r) = maybe.some (told r)
+
+-- what an item's call answers on the sheet that a struct holds; nothing where the item is malformed
+unfoldable pub answered : Sheet → maybe.Option Call → maybe.Option (Outcome Sheet)
+answered s maybe.none = maybe.none
+answered s (maybe.some c) = maybe.some (packed_as (call (reads s) c))
+
+-- what an item of a size leaves: the struct after its call, accepted or refused; nothing where the item is malformed
+unfoldable pub stepped : Sheet → ℕ → maybe.Option Call → Option Step
+stepped s size maybe.none = None
+stepped s size (maybe.some c) = Some (record { sheet = after s (call (reads s) c); size = size })

@@ -9,18 +9,16 @@
 // An item is malformed where fewer than 4 bytes are left, where its argument reaches past the end, and where its kind is none of these or its argument not one of its kind. A script ends at its first malformed item, or else at its end. A call that is refused is run like any other: the script goes on.
 #![tactic(auto)]
 
-ghost use Rattle.std.specs.Prelude.{◌≡◌, ◌+◌, ◌≤◌, ◌<◌, ◌^◌, length, take};
+ghost use Rattle.std.specs.Prelude.{◌≡◌, ◌+◌, ◌≤◌, ◌<◌, ◌^◌};
 ghost use Rattle.lists.specs.Spans.{padded};
-ghost use Rattle.model.specs.Calls.{turn_call};
 ghost use Rattle.rings.specs.Lent.{words_at};
-ghost use Rattle.sheet.specs.Sheets.{reads};
-ghost use Rattle.sheet.specs.Answers.{after};
 ghost use Rattle.guarantee.specs.Engine.{start, left};
 ghost use Rattle.guarantee.specs.Guarantee.{Guarantee};
 ghost use Rattle.script.specs.Scripts.{argument_size, turn_of, call_of, call_at, calls_of, end_of};
-ghost use Rattle.script.specs.Steps.{stepped, size_if};
+ghost use Rattle.script.specs.Steps.{number_of, IsKind, ran, answered, stepped};
 
-use sheet::{Outcome, Sheet};
+use refusal::Refusal;
+use sheet::Sheet;
 
 // What a script leaves: the sheet, and where the script ended: its length, or the offset of its first malformed item.
 #[derive(Drop)]
@@ -29,28 +27,35 @@ pub struct Ran {
     pub at: usize,
 }
 
-// What one item leaves: the sheet, and the item's size; 0 where the item is malformed.
-#[derive(Drop)]
+// The kinds of calls.
+#[derive(Clone, Copy)]
+enum Kind {
+    Open,
+    Offer,
+    Sweep,
+    Turn,
+    Chart,
+}
+
+// What one item leaves: the sheet after its call, accepted or refused, and the item's size.
+#[derive(Clone, Copy)]
 struct Step {
     sheet: Sheet,
     size: usize,
 }
 
-// An item whose call has been run, accepted or refused.
-fn run_on(outcome: Outcome, size: usize) -> Step
-    ensures sheet_value { result.sheet ≡ outcome.sheet }
-    ensures size_value { result.size ≡ size }
+// The kind that a number stands for.
+fn kind_of(number: u8) -> Option<Kind>
+    ensures { IsKind number result }
 {
-    let sheet = outcome.sheet;
-    Step { sheet, size }
-}
-
-// A malformed item, which leaves the sheet as it was.
-fn malformed(sheet: Sheet) -> Step
-    ensures sheet_value { result.sheet ≡ sheet }
-    ensures size_value { result.size ≡ 0 }
-{
-    Step { sheet, size: 0 }
+    match number {
+        1 => Some(Kind::Open),
+        2 => Some(Kind::Offer),
+        3 => Some(Kind::Sweep),
+        4 => Some(Kind::Turn),
+        5 => Some(Kind::Chart),
+        _ => None,
+    }
 }
 
 // The first k numbers of two bytes behind the direction, and zeros behind them.
@@ -59,65 +64,40 @@ fn numbers_of(argument: &[u8], k: usize) -> [u16; 1200]
     ensures { result ≡ padded 1200 (words_at argument.now 1 k) }
 {
     let mut numbers = [0u16; 1200];
-    let mut i = 0;
-    while i < k {
+    for i in 0..k {
         numbers[i] = arrays::word_at(argument, 1 + 2 * i) as u16;
-        i += 1;
     }
     numbers
 }
 
-// Turn with the first k of these numbers.
-fn turn_first(sheet: Sheet, numbers: &[u16], k: usize, direction: u8) -> Outcome
-    requires { k ≤ length numbers.now }
-    ensures { result.sheet ≡ after sheet (turn_call (reads sheet) (take k numbers.now) direction) }
-{
-    let items = &numbers[..k];
-    calls::turn(sheet, items, direction)
-}
-
-// An item of kind 4: malformed without a direction, with an odd byte over, or with more than 1200 numbers.
-fn run_turn(sheet: Sheet, argument: &[u8], size: usize) -> Step
-    ensures sheet_value { result.sheet ≡ stepped sheet (turn_of argument.now) }
-    ensures size_value { result.size ≡ size_if (turn_of argument.now) size }
+// An item of the kind turn: malformed without a direction, with an odd byte over, or with more than 1200 numbers.
+fn run_turn(sheet: Sheet, argument: &[u8]) -> Option<Result<Sheet, Refusal>>
+    ensures { ran result ≡ answered sheet (turn_of argument.now) }
 {
     let long = argument.len();
     if long % 2 != 1 {
-        return malformed(sheet);
+        return None;
     }
     if 2401 < long {
-        return malformed(sheet);
+        return None;
     }
     let k = long / 2;
     let numbers = numbers_of(argument, k);
-    let direction = arrays::byte(argument, 0) as u8;
-    run_on(turn_first(sheet, &numbers, k, direction), size)
+    Some(calls::turn(sheet, &numbers[..k], argument[0]))
 }
 
-// An item of a kind, with its argument and its whole size.
-fn run_call(sheet: Sheet, kind: usize, argument: &[u8], size: usize) -> Step
-    ensures sheet_value { result.sheet ≡ stepped sheet (call_of kind argument.now) }
-    ensures size_value { result.size ≡ size_if (call_of kind argument.now) size }
+// An item of a kind with its argument: what its call answers; nothing where it is malformed.
+fn run_call(sheet: Sheet, kind: Kind, argument: &[u8]) -> Option<Result<Sheet, Refusal>>
+    ensures { ran result ≡ answered sheet (call_of (number_of kind) argument.now) }
 {
-    if kind == 1 {
-        return run_on(opening::open_file(sheet, argument), size);
+    match kind {
+        Kind::Open => Some(opening::open_file(argument)),
+        Kind::Offer => Some(calls::offer(sheet, argument)),
+        Kind::Sweep if argument.is_empty() => Some(calls::sweep(sheet)),
+        Kind::Turn => run_turn(sheet, argument),
+        Kind::Chart if argument.is_empty() => Some(calls::chart(sheet)),
+        _ => None,
     }
-    if kind == 2 {
-        return run_on(calls::offer(sheet, argument), size);
-    }
-    if kind == 4 {
-        return run_turn(sheet, argument, size);
-    }
-    if argument.len() != 0 {
-        return malformed(sheet);
-    }
-    if kind == 3 {
-        return run_on(calls::sweep(sheet), size);
-    }
-    if kind == 5 {
-        return run_on(calls::chart(sheet), size);
-    }
-    malformed(sheet)
 }
 
 // The size of the argument of the item that the bytes begin with.
@@ -125,24 +105,27 @@ fn argument_size(rest: &[u8]) -> usize
     ensures value { result ≡ argument_size rest.now }
     ensures upper_bound { result < 2 ^ 24 }
 {
-    arrays::word_at(rest, 1) + 65536 * arrays::byte(rest, 3)
+    arrays::word_at(rest, 1) + 65536 * arrays::num(rest, 3)
 }
 
-// The item that the bytes begin with.
-fn run_item(sheet: Sheet, rest: &[u8]) -> Step
-    ensures sheet_value { result.sheet ≡ stepped sheet (call_at rest.now) }
-    ensures size_value { result.size ≡ size_if (call_at rest.now) (4 + argument_size rest.now) }
+// The item that the bytes begin with; nothing where it is malformed.
+fn run_item(sheet: Sheet, rest: &[u8]) -> Option<Step>
+    ensures { result ≡ stepped sheet (4 + argument_size rest.now) (call_at rest.now) }
 {
     if rest.len() < 4 {
-        return malformed(sheet);
+        return None;
     }
     let size = argument_size(rest);
     if rest.len() - 4 < size {
-        return malformed(sheet);
+        return None;
     }
     let end = 4 + size;
-    let argument = &rest[4..end];
-    run_call(sheet, arrays::byte(rest, 0), argument, end)
+    let kind = kind_of(rest[0])?;
+    let answer = run_call(sheet, kind, &rest[4..end])?;
+    Some(Step {
+        sheet: answer.unwrap_or(sheet),
+        size: end,
+    })
 }
 
 // Runs the calls of a script from a fresh sheet, refused ones included. What stands on the sheet then is what demand 3 says of this very list of calls.
@@ -153,16 +136,9 @@ pub fn run_script(script: &[u8]) -> Ran
 {
     let mut sheet = sheet::fresh_sheet();
     let mut at = 0;
-    while at < script.len() {
-        let rest = &script[at..];
-        let step = run_item(sheet, rest);
-        let size = step.size;
-        if size == 0 {
-            return Ran { sheet, at };
-        }
-        let next = step.sheet;
-        sheet = next;
-        at += size;
+    while let Some(step) = run_item(sheet, &script[at..]) {
+        sheet = step.sheet;
+        at += step.size;
     }
     Ran { sheet, at }
 }

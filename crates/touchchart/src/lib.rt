@@ -4,21 +4,29 @@
 #![tactic(auto)]
 
 ghost use Rattle.std.specs.Prelude.{◌≡◌, ◌+◌, ◌*◌, ◌<◌};
-ghost use Rattle.model.specs.Calls.{scan_call, same_call};
+ghost use Rattle.model.specs.Calls.{sweep_call, offer_call, turn_call, chart_call};
+ghost use Rattle.refusal.specs.Refusals.{told};
 ghost use Rattle.writing.specs.Files.{buffer_after};
-ghost use Rattle.sheet.specs.Sheets.{reads};
 ghost use Rattle.sheet.specs.Answers.{length_of};
-ghost use Rattle.answers.specs.Codes.{code, wrapped};
-ghost use Rattle.touchchart.specs.Interface.{opens_to, sweeps_to, offers_to, turns_to, charts_to, scans_to, compares_to, rings_to, scan_value, compare_value};
+ghost use Rattle.answers.specs.Codes.{code, given};
+ghost use Rattle.touchchart.specs.Interface.{called_on, opens_to, sweeps_to, offers_to, turns_to, charts_to, scans_to, compares_to, rings_to};
 
-use sheet::{Answer, Compared, RingAnswer, Scanned, Sheet};
+use refusal::Refusal;
+use sheet::Sheet;
 
 // Opens a file: the length of its sheet's file, which is written to out.
 pub fn touchchart_open(file: &[u8], out: &mut [u8]) -> u64
     ensures value { result ≡ code (length_of (opens_to file.now out.old)) }
     ensures out_after { out.new ≡ buffer_after (opens_to file.now out.old) out.old }
 {
-    exchange::hand_back(opening::open_file(sheet::fresh_sheet(), file), out)
+    exchange::hand_back(opening::open_file(file), out)
+}
+
+// The sheet that is handed over, swept.
+fn swept(sheet: &[u8]) -> Result<Sheet, Refusal>
+    ensures { given result ≡ called_on sheet.now sweep_call }
+{
+    calls::sweep(exchange::hand_over(sheet)?)
 }
 
 // Sweeps a sheet (OPEN up): the length of the new sheet's file, which is written to out.
@@ -26,9 +34,14 @@ pub fn touchchart_sweep(sheet: &[u8], out: &mut [u8]) -> u64
     ensures value { result ≡ code (length_of (sweeps_to sheet.now out.old)) }
     ensures out_after { out.new ≡ buffer_after (sweeps_to sheet.now out.old) out.old }
 {
-    let handed = exchange::hand_over(sheet);
-    let held = handed.sheet;
-    exchange::hand_back(answers::followed(handed, calls::sweep(held)), out)
+    exchange::hand_back(swept(sheet), out)
+}
+
+// The sheet that is handed over, with the labels that are offered to it.
+fn offered(sheet: &[u8], labels: &[u8]) -> Result<Sheet, Refusal>
+    ensures { given result ≡ called_on sheet.now (λ s. offer_call s labels.now) }
+{
+    calls::offer(exchange::hand_over(sheet)?, labels)
 }
 
 // Offers labels to a sheet (OPEN up): the length of the new sheet's file, which is written to out.
@@ -36,9 +49,14 @@ pub fn touchchart_offer(sheet: &[u8], labels: &[u8], out: &mut [u8]) -> u64
     ensures value { result ≡ code (length_of (offers_to sheet.now labels.now out.old)) }
     ensures out_after { out.new ≡ buffer_after (offers_to sheet.now labels.now out.old) out.old }
 {
-    let handed = exchange::hand_over(sheet);
-    let held = handed.sheet;
-    exchange::hand_back(answers::followed(handed, calls::offer(held, labels)), out)
+    exchange::hand_back(offered(sheet, labels), out)
+}
+
+// The sheet that is handed over, with the labels of the named edges turned.
+fn turned(sheet: &[u8], pairs: &[u16], direction: u8) -> Result<Sheet, Refusal>
+    ensures { given result ≡ called_on sheet.now (λ s. turn_call s pairs.now direction) }
+{
+    calls::turn(exchange::hand_over(sheet)?, pairs, direction)
 }
 
 // Turns labels of a sheet (LABELLED up): the length of the new sheet's file, which is written to out.
@@ -46,12 +64,14 @@ pub fn touchchart_turn(sheet: &[u8], pairs: &[u16], direction: u8, out: &mut [u8
     ensures value { result ≡ code (length_of (turns_to sheet.now pairs.now direction out.old)) }
     ensures out_after { out.new ≡ buffer_after (turns_to sheet.now pairs.now direction out.old) out.old }
 {
-    let handed = exchange::hand_over(sheet);
-    let held = handed.sheet;
-    exchange::hand_back(
-        answers::followed(handed, calls::turn(held, pairs, direction)),
-        out,
-    )
+    exchange::hand_back(turned(sheet, pairs, direction), out)
+}
+
+// The sheet that is handed over, with its chart.
+fn charted(sheet: &[u8]) -> Result<Sheet, Refusal>
+    ensures { given result ≡ called_on sheet.now chart_call }
+{
+    calls::chart(exchange::hand_over(sheet)?)
 }
 
 // Charts a sheet (LABELLED up): the length of the new sheet's file, which is written to out.
@@ -59,9 +79,7 @@ pub fn touchchart_chart(sheet: &[u8], out: &mut [u8]) -> u64
     ensures value { result ≡ code (length_of (charts_to sheet.now out.old)) }
     ensures out_after { out.new ≡ buffer_after (charts_to sheet.now out.old) out.old }
 {
-    let handed = exchange::hand_over(sheet);
-    let held = handed.sheet;
-    exchange::hand_back(answers::followed(handed, calls::chart(held)), out)
+    exchange::hand_back(charted(sheet), out)
 }
 
 // Three contexts as one number.
@@ -74,15 +92,14 @@ fn triple_value(a: usize, b: usize, c: usize) -> u64
     (a * 65536 + b * 256 + c) as u64
 }
 
-// The scan of a sheet as one number.
-fn scan_held(sheet: Sheet) -> u64
-    ensures { result ≡ wrapped (scan_value (scan_call (reads sheet))) }
+// The scan of the sheet that is handed over, as a number.
+fn scanned(sheet: &[u8]) -> Result<u64, Refusal>
+    ensures { told result ≡ scans_to sheet.now }
 {
-    let found = reports::scan(sheet);
-    match found {
-        Scanned::Refused(number, place) => answers::refusal(number, place),
-        Scanned::Nothing => 0,
-        Scanned::Triple(a, b, c) => triple_value(a, b, c),
+    let held = exchange::hand_over(sheet)?;
+    match reports::scan(&held)? {
+        None => Ok(0),
+        Some((a, b, c)) => Ok(triple_value(a, b, c)),
     }
 }
 
@@ -90,41 +107,24 @@ fn scan_held(sheet: Sheet) -> u64
 pub fn touchchart_scan(sheet: &[u8]) -> u64
     ensures { result ≡ code (scans_to sheet.now) }
 {
-    let handed = exchange::hand_over(sheet);
-    let answer = handed.answer;
-    let held = handed.sheet;
-    match answer {
-        Answer::Refused(number, place) => answers::refusal(number, place),
-        Answer::Accepted => scan_held(held),
-    }
+    exchange::code_of(scanned(sheet))
 }
 
-// The comparison of two sheets as one number.
-fn compare_held(a: Sheet, b: Sheet) -> u64
-    ensures { result ≡ wrapped (compare_value (same_call (reads a) (reads b))) }
+// The comparison of two sheets that are handed over, as a number.
+fn compared(a: &[u8], b: &[u8]) -> Result<u64, Refusal>
+    ensures { told result ≡ compares_to a.now b.now }
 {
-    let compared = reports::same(a, b);
-    match compared {
-        Compared::Refused(number, place) => answers::refusal(number, place),
-        Compared::Same => 1,
-        Compared::Different => 0,
-    }
+    let first = exchange::hand_over(a)?;
+    let second = exchange::hand_over(b)?;
+    let same = reports::same(&first, &second)?;
+    Ok(u64::from(same))
 }
 
 // Compares two sheets (both CHARTED): 1 where n, w, h and all points are equal, else 0.
 pub fn touchchart_same(a: &[u8], b: &[u8]) -> u64
     ensures { result ≡ code (compares_to a.now b.now) }
 {
-    let first = exchange::hand_over(a);
-    let second = exchange::hand_over(b);
-    let one = first.sheet;
-    let other = second.sheet;
-    let both = answers::followed(first, second);
-    let answer = both.answer;
-    match answer {
-        Answer::Refused(number, place) => answers::refusal(number, place),
-        Answer::Accepted => compare_held(one, other),
-    }
+    exchange::code_of(compared(a, b))
 }
 
 // The offset and the length of a part of a file as one number.
@@ -136,13 +136,17 @@ fn part_value(at: usize, size: usize) -> u64
     (at * 65536 + size) as u64
 }
 
+// Where a context's ring stands in a file, as a number.
+fn part_of(file: &[u8], context: u16) -> Result<u64, Refusal>
+    ensures { told result ≡ rings_to file.now context }
+{
+    let part = files::ring_answer(file, usize::from(context))?;
+    Ok(part_value(part.at, part.size))
+}
+
 // Finds a context's ring in a file: offset × 65536 + length of the part.
 pub fn touchchart_ring(file: &[u8], context: u16) -> u64
     ensures { result ≡ code (rings_to file.now context) }
 {
-    let answer = files::ring_answer(file, numbers::wide_word(context));
-    match answer {
-        RingAnswer::Refused(number, place) => answers::refusal(number, place),
-        RingAnswer::Part(at, size) => part_value(at, size),
-    }
+    exchange::code_of(part_of(file, context))
 }

@@ -1,41 +1,37 @@
 -- open_write meets its contract.
-use mathlib.Core.Path.{sym, ap, ◌∙◌}
+use mathlib.Core.Path.{ap, ◌∙◌}
 use Prim.Native.Nat.{ℕ}
 use mathlib.Core.List.{List}
+use Rattle.std.proofs.lemmas.Result.{err_from_is_err_and}
 use Rattle.model.specs.Outcome.{Outcome}
 use Rattle.writing.specs.Files.{buffer_after}
-use Rattle.sheet.specs.Answers.{answer_as, written_as, length_of}
+use Rattle.sheet.specs.Answers.{length_of}
 use Rattle.files.proofs.RingParts.{bytes-at}
 use Rattle.files.proofs.Rewritten.{back_early, back_late}
 use native.Mathlib.Omega.{arith}
 use Rattle.files.proofs.open_write.Goals as goal
 
-pub returns-in-Refused-clause-result_value : goal.returns-in-Refused-clause-result_value
-unfolding answer_as written_as length_of buffer_after
-returns-in-Refused-clause-result_value c =
+pub returns-in_err-sheet-clause-result_value : goal.returns-in_err-sheet-clause-result_value
+unfolding length_of
+returns-in_err-sheet-clause-result_value c =
     let a = c.args in
-    let e = back_early a.file.now a.out.now _ _ (sym (ap answer_as c.in-Refused.is) ∙ c.open_file-outcome.ensures.answer_value) in
-    ap length_of e
+    let p = err_from_is_err_and c.from_residual.result c.from_residual.ensures.1 in
+    rw (p.1, p.2) (ap length_of (back_early a.file.now a.out.now _ _ c.in_err-sheet.ensures))
 
-pub returns-in-Refused-clause-out_after : goal.returns-in-Refused-clause-out_after
-unfolding answer_as written_as length_of buffer_after
-returns-in-Refused-clause-out_after c =
+pub returns-in_err-sheet-clause-out_after : goal.returns-in_err-sheet-clause-out_after
+unfolding buffer_after
+returns-in_err-sheet-clause-out_after c =
     let a = c.args in
-    let e = back_early a.file.now a.out.now _ _ (sym (ap answer_as c.in-Refused.is) ∙ c.open_file-outcome.ensures.answer_value) in
-    ap (λ (o : Outcome (ℕ × List ℕ)). buffer_after o a.out.now) e
+    ap (λ (o : Outcome (ℕ × List ℕ)). buffer_after o a.out.now) (back_early a.file.now a.out.now _ _ c.in_err-sheet.ensures)
 
-pub returns-in-Accepted-clause-result_value : goal.returns-in-Accepted-clause-result_value
-unfolding answer_as
-returns-in-Accepted-clause-result_value c =
+pub returns-clause-result_value : goal.returns-clause-result_value
+returns-clause-result_value c =
     let a = c.args in
-    let y = bytes-at a.file.now (λ i. omega (arith, c.shared_slice_known-1.given i)) in
-    let e = back_late a.file.now a.out.now c.fresh_sheet.result c.open_file-outcome.result.sheet y (sym (ap answer_as c.in-Accepted.is) ∙ c.open_file-outcome.ensures.answer_value) c.open_file-outcome.ensures.sheet_value in
-    c.write.ensures.result_value ∙ ap length_of e
+    let y = bytes-at a.file.now (λ i. omega (arith, c.type_inv.file i)) in
+    c.write.ensures.result_value ∙ ap length_of (back_late a.file.now a.out.now _ y c.in_ok-sheet.ensures)
 
-pub returns-in-Accepted-clause-out_after : goal.returns-in-Accepted-clause-out_after
-unfolding answer_as
-returns-in-Accepted-clause-out_after c =
+pub returns-clause-out_after : goal.returns-clause-out_after
+returns-clause-out_after c =
     let a = c.args in
-    let y = bytes-at a.file.now (λ i. omega (arith, c.shared_slice_known-1.given i)) in
-    let e = back_late a.file.now a.out.now c.fresh_sheet.result c.open_file-outcome.result.sheet y (sym (ap answer_as c.in-Accepted.is) ∙ c.open_file-outcome.ensures.answer_value) c.open_file-outcome.ensures.sheet_value in
-    c.write.ensures.out_after ∙ ap (λ (q : Outcome (ℕ × List ℕ)). buffer_after q a.out.now) e
+    let y = bytes-at a.file.now (λ i. omega (arith, c.type_inv.file i)) in
+    c.write.ensures.out_after ∙ ap (λ (q : Outcome (ℕ × List ℕ)). buffer_after q a.out.now) (back_late a.file.now a.out.now _ y c.in_ok-sheet.ensures)

@@ -1,19 +1,22 @@
 -- ring_of meets its contract.
-use mathlib.Core.Path.{ap, ◌∙◌}
-use mathlib.Core.List.{List}
 use Prim.Native.Nat.{ℕ}
+use mathlib.Core.List.{List}
+use mathlib.Core.Path.{◌≡◌, ap, ◌∙◌}
 use lib.ListN.{get_or}
-use Rattle.sheet.specs.Answers.{ring_answer_as}
+use Rattle.model.specs.Outcome.{Outcome, refused}
 use Rattle.files.proofs.RingParts.{ring-none, ring_there}
+use native.Mathlib.Omega.{arith}
 use Rattle.files.proofs.ring_of.Goals as goal
 
 pub returns-then-n-context : goal.returns-then-n-context
-unfolding ring_answer_as
-returns-then-n-context c = let a = c.args in ring-none a.sheet a.context c.if-n-context.true
+returns-then-n-context c =
+    let s = c.args.sheet.now in
+    let n : c.from-n.result ≡ s.n = omega arith in
+    ap {B = Outcome (ℕ × ℕ)} (refused 17) n ∙ ring-none s c.args.context (omega arith)
 
 pub returns : goal.returns
-unfolding ring_answer_as
 returns c =
-    let a = c.args in
-    let starts = c.num.ensures.value ∙ ap (λ (l : List ℕ). get_or l a.context 0) c.starts_of-starts.ensures in
-    ring_there a.sheet a.context c.if-n-context.false starts c.byte-size.ensures.value
+    let s = c.args.sheet.now in
+    let n : c.from-n.result ≡ s.n = omega arith in
+    let starts = c.num.ensures.value ∙ ap (λ (l : List ℕ). get_or l c.args.context 0) c.starts_of-starts.ensures in
+    ring_there s c.args.context (omega arith) starts c.num-2.ensures.value

@@ -6,10 +6,10 @@ use native.Mathlib.Omega.{arith}
 use Rattle.opening.proofs.copy_chart.Goals as goal
 
 pub loop-u-init : goal.loop-u-init
-loop-u-init c = (omega arith, fills_start refl)
+loop-u-init c = fills_start refl
 
 pub loop-u-preserved : goal.loop-u-preserved
-loop-u-preserved c = (omega arith, fills_on c.loop-u.invariant.1 (omega arith) (omega arith) c.word_at.ensures.value refl)
+loop-u-preserved c = fills_on c.loop-u.invariant (omega arith) (omega arith) c.word_at.ensures.value refl
 
 pub returns : goal.returns
-returns c = points-copied c.args.file.now c.args.at c.loop-u.invariant.1 (omega arith)
+returns c = points-copied c.args.file.now c.args.at c.loop-u.invariant (omega arith)

@@ -4,4 +4,7 @@ use Rattle.opening.proofs.Opened.{labelled-packed}
 use Rattle.opening.proofs.labelled_sheet.Goals as goal
 
 pub returns : goal.returns
-returns c = let a = c.args in labelled-packed a.file.now a.sizes _ a.n c.requires.sizes_value c.copy_entries-entries.ensures (labels_in a.file.now a.n a.at) c.copy_labels-labels.ensures
+returns c =
+    let a = c.args in
+    let l = a.layout.now in
+    labelled-packed a.file.now l.sizes l.n (labels_in a.file.now l.n a.labels) c.opened_sheet.result c.opened_sheet.ensures c.copy_labels.ensures

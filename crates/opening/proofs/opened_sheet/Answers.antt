@@ -3,4 +3,4 @@ use Rattle.opening.proofs.Opened.{opened_packed}
 use Rattle.opening.proofs.opened_sheet.Goals as goal
 
 pub returns : goal.returns
-returns c = let a = c.args in opened_packed a.file.now a.sizes _ a.n c.requires.sizes_value c.copy_entries-entries.ensures
+returns c = let l = c.args.layout.now in opened_packed c.args.file.now l.sizes l.n c.fresh_sheet.result c.fresh_sheet.ensures l.tidy c.copy_entries.ensures

@@ -6,10 +6,10 @@ use native.Mathlib.Omega.{arith}
 use Rattle.script.proofs.numbers_of.Goals as goal
 
 pub loop-i-init : goal.loop-i-init
-loop-i-init c = (omega arith, fills_start refl)
+loop-i-init c = fills_start refl
 
 pub loop-i-preserved : goal.loop-i-preserved
-loop-i-preserved c = (omega arith, fills_on c.loop-i.invariant.1 (omega arith) (omega arith) c.word_at.ensures.value refl)
+loop-i-preserved c = fills_on c.loop-i.invariant (omega arith) (omega arith) c.word_at.ensures.value refl
 
 pub returns : goal.returns
-returns c = numbers_copied c.args.argument.now c.loop-i.invariant.1 (omega arith)
+returns c = numbers_copied c.args.argument.now c.loop-i.invariant (omega arith)

@@ -1,11 +1,8 @@
--- What the loops of numbers_of keep.
-use Prim.Native.Nat.{ℕ, ◌+◌, ◌-◌, ◌*◌, ◌≤◌}
+-- What the loop of numbers_of keeps.
+use Prim.Native.Nat.{ℕ, ◌+◌, ◌*◌}
 use Rattle.framing.specs.Offsets.{word_at}
 use Rattle.lists.proofs.Loops.{Fills}
 use Rattle.script.proofs.numbers_of.Given as goal
 
 abbrev pub invariant-loop-i : goal.invariant-loop-i
-invariant-loop-i l = (l.i ≤ l.k) × Fills 1200 (λ (t : ℕ). word_at l.argument (1 + 2 * t)) l.i l.numbers
-
-abbrev pub decreases-loop-i : goal.decreases-loop-i
-decreases-loop-i l = l.k - l.i
+invariant-loop-i l = Fills 1200 (λ (t : ℕ). word_at l.argument (1 + 2 * t)) l.i l.numbers

@@ -1,87 +1,56 @@
 -- run_call meets its contract.
-use mathlib.Core.Path.{refl, ◌∙◌}
+use mathlib.Core.Path.{◌≡◌, sym, ap, ◌∙◌}
+use lib.ListN.{length}
 use Rattle.model.specs.CallLists.{open_file, offer_labels, sweep-labels, draw_chart, call}
-use Rattle.script.proofs.Items.{item_ran, item_malformed, item-same, kind_open, kind_offer, kind_turn, kind_sweep, kind_chart, kind_alone, kind_other}
+use Rattle.script.specs.declared.Kind.{Kind}
+use Rattle.script.specs.Scripts.{call_of}
+use Rattle.script.specs.Steps.{number_of, answered}
+use Rattle.script.proofs.Items.{item_ran, item_malformed, alone-none, alone-some}
+use Rattle.std.proofs.Common.{rules}
 use Rattle.script.proofs.run_call.Goals as goal
 
-pub returns-then-kind-eq1-clause-sheet_value : goal.returns-then-kind-eq1-clause-sheet_value
-unfolding call
-returns-then-kind-eq1-clause-sheet_value c =
-    let a = c.args in
-    let b = a.argument.now in
-    (item_ran a.sheet a.size (open_file b) (kind_open a.kind b c.if-kind-eq1.true) (c.run_on.ensures.sheet_value ∙ c.open_file.ensures.sheet_value) c.run_on.ensures.size_value).0
+pub returns-in-Open : goal.returns-in-Open
+unfolding call call_of
+returns-in-Open c =
+    let b = c.args.argument.now in
+    item_ran c.args.sheet (open_file b) (ap (λ (g : Kind). call_of (number_of g) b) c.in-Open.is) c.open_file.ensures
 
-pub returns-then-kind-eq1-clause-size_value : goal.returns-then-kind-eq1-clause-size_value
-unfolding call
-returns-then-kind-eq1-clause-size_value c =
-    let a = c.args in
-    let b = a.argument.now in
-    (item_ran a.sheet a.size (open_file b) (kind_open a.kind b c.if-kind-eq1.true) (c.run_on.ensures.sheet_value ∙ c.open_file.ensures.sheet_value) c.run_on.ensures.size_value).1
+pub returns-in-Offer : goal.returns-in-Offer
+unfolding call call_of
+returns-in-Offer c =
+    let b = c.args.argument.now in
+    item_ran c.args.sheet (offer_labels b) (ap (λ (g : Kind). call_of (number_of g) b) c.in-Offer.is) c.offer.ensures
 
-pub returns-then-kind-eq2-clause-sheet_value : goal.returns-then-kind-eq2-clause-sheet_value
-unfolding call
-returns-then-kind-eq2-clause-sheet_value c =
-    let a = c.args in
-    let b = a.argument.now in
-    (item_ran a.sheet a.size (offer_labels b) (kind_offer a.kind b c.if-kind-eq2.true) (c.run_on-then-kind-eq2.ensures.sheet_value ∙ c.offer.ensures.sheet_value) c.run_on-then-kind-eq2.ensures.size_value).0
+pub returns-in-Sweep : goal.returns-in-Sweep
+unfolding call call_of
+returns-in-Sweep c =
+    let b = c.args.argument.now in
+    let none : length b ≡ 0 = search rules in
+    item_ran c.args.sheet sweep-labels (ap (λ (g : Kind). call_of (number_of g) b) c.in-Sweep.is ∙ alone-some b sweep-labels none) c.sweep.ensures
 
-pub returns-then-kind-eq2-clause-size_value : goal.returns-then-kind-eq2-clause-size_value
-unfolding call
-returns-then-kind-eq2-clause-size_value c =
-    let a = c.args in
-    let b = a.argument.now in
-    (item_ran a.sheet a.size (offer_labels b) (kind_offer a.kind b c.if-kind-eq2.true) (c.run_on-then-kind-eq2.ensures.sheet_value ∙ c.offer.ensures.sheet_value) c.run_on-then-kind-eq2.ensures.size_value).1
+pub returns-in-Turn : goal.returns-in-Turn
+unfolding call_of
+returns-in-Turn c =
+    let b = c.args.argument.now in
+    c.run_turn.ensures ∙ ap (λ (g : Kind). answered c.args.sheet (call_of (number_of g) b)) (sym c.in-Turn.is)
 
-pub returns-then-kind-eq4-clause-sheet_value : goal.returns-then-kind-eq4-clause-sheet_value
-returns-then-kind-eq4-clause-sheet_value c =
-    let a = c.args in
-    (item-same a.sheet a.size (kind_turn a.kind a.argument.now c.if-kind-eq4.true) refl c.run_turn.ensures.sheet_value c.run_turn.ensures.size_value).0
+pub returns-in-Chart : goal.returns-in-Chart
+unfolding call call_of
+returns-in-Chart c =
+    let b = c.args.argument.now in
+    let none : length b ≡ 0 = search rules in
+    item_ran c.args.sheet draw_chart (ap (λ (g : Kind). call_of (number_of g) b) c.in-Chart.is ∙ alone-some b draw_chart none) c.chart.ensures
 
-pub returns-then-kind-eq4-clause-size_value : goal.returns-then-kind-eq4-clause-size_value
-returns-then-kind-eq4-clause-size_value c =
-    let a = c.args in
-    (item-same a.sheet a.size (kind_turn a.kind a.argument.now c.if-kind-eq4.true) refl c.run_turn.ensures.sheet_value c.run_turn.ensures.size_value).1
+pub returns-in_default : goal.returns-in_default
+unfolding call_of
+returns-in_default c =
+    let b = c.args.argument.now in
+    let some : length b ≡ 0 → ⊥ = search rules in
+    item_malformed c.args.sheet (ap (λ (g : Kind). call_of (number_of g) b) c.in-Sweep.is ∙ alone-none b sweep-labels some)
 
-pub returns-then-argument-ne0-clause-sheet_value : goal.returns-then-argument-ne0-clause-sheet_value
-returns-then-argument-ne0-clause-sheet_value c =
-    let a = c.args in
-    (item_malformed a.sheet a.size (kind_alone a.kind a.argument.now c.if-kind-eq1.false c.if-kind-eq2.false c.if-kind-eq4.false c.if-argument-ne0.true) c.malformed.ensures.sheet_value c.malformed.ensures.size_value).0
-
-pub returns-then-argument-ne0-clause-size_value : goal.returns-then-argument-ne0-clause-size_value
-returns-then-argument-ne0-clause-size_value c =
-    let a = c.args in
-    (item_malformed a.sheet a.size (kind_alone a.kind a.argument.now c.if-kind-eq1.false c.if-kind-eq2.false c.if-kind-eq4.false c.if-argument-ne0.true) c.malformed.ensures.sheet_value c.malformed.ensures.size_value).1
-
-pub returns-then-kind-eq3-clause-sheet_value : goal.returns-then-kind-eq3-clause-sheet_value
-unfolding call
-returns-then-kind-eq3-clause-sheet_value c =
-    let a = c.args in
-    (item_ran a.sheet a.size sweep-labels (kind_sweep a.kind a.argument.now c.if-kind-eq3.true c.if-argument-ne0.false) (c.run_on-then-kind-eq3.ensures.sheet_value ∙ c.sweep.ensures.sheet_value) c.run_on-then-kind-eq3.ensures.size_value).0
-
-pub returns-then-kind-eq3-clause-size_value : goal.returns-then-kind-eq3-clause-size_value
-unfolding call
-returns-then-kind-eq3-clause-size_value c =
-    let a = c.args in
-    (item_ran a.sheet a.size sweep-labels (kind_sweep a.kind a.argument.now c.if-kind-eq3.true c.if-argument-ne0.false) (c.run_on-then-kind-eq3.ensures.sheet_value ∙ c.sweep.ensures.sheet_value) c.run_on-then-kind-eq3.ensures.size_value).1
-
-pub returns-then-kind-eq5-clause-sheet_value : goal.returns-then-kind-eq5-clause-sheet_value
-unfolding call
-returns-then-kind-eq5-clause-sheet_value c =
-    let a = c.args in
-    (item_ran a.sheet a.size draw_chart (kind_chart a.kind a.argument.now c.if-kind-eq5.true c.if-argument-ne0.false) (c.run_on-then-kind-eq5.ensures.sheet_value ∙ c.chart.ensures.sheet_value) c.run_on-then-kind-eq5.ensures.size_value).0
-
-pub returns-then-kind-eq5-clause-size_value : goal.returns-then-kind-eq5-clause-size_value
-unfolding call
-returns-then-kind-eq5-clause-size_value c =
-    let a = c.args in
-    (item_ran a.sheet a.size draw_chart (kind_chart a.kind a.argument.now c.if-kind-eq5.true c.if-argument-ne0.false) (c.run_on-then-kind-eq5.ensures.sheet_value ∙ c.chart.ensures.sheet_value) c.run_on-then-kind-eq5.ensures.size_value).1
-
-pub returns-clause-sheet_value : goal.returns-clause-sheet_value
-returns-clause-sheet_value c =
-    let a = c.args in
-    (item_malformed a.sheet a.size (kind_other a.kind a.argument.now c.if-kind-eq1.false c.if-kind-eq2.false c.if-kind-eq4.false c.if-kind-eq3.false c.if-kind-eq5.false) c.malformed-2.ensures.sheet_value c.malformed-2.ensures.size_value).0
-
-pub returns-clause-size_value : goal.returns-clause-size_value
-returns-clause-size_value c =
-    let a = c.args in
-    (item_malformed a.sheet a.size (kind_other a.kind a.argument.now c.if-kind-eq1.false c.if-kind-eq2.false c.if-kind-eq4.false c.if-kind-eq3.false c.if-kind-eq5.false) c.malformed-2.ensures.sheet_value c.malformed-2.ensures.size_value).1
+pub returns-in_default-2 : goal.returns-in_default-2
+unfolding call_of
+returns-in_default-2 c =
+    let b = c.args.argument.now in
+    let some : length b ≡ 0 → ⊥ = search rules in
+    item_malformed c.args.sheet (ap (λ (g : Kind). call_of (number_of g) b) c.in-Chart.is ∙ alone-none b draw_chart some)

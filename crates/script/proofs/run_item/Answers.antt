@@ -1,45 +1,35 @@
 -- run_item meets its contract.
-use mathlib.Core.Path.{ap}
 use Prim.Native.Nat.{◌+◌}
-use Rattle.script.specs.Scripts.{argument_size}
-use Rattle.script.proofs.Items.{item_malformed, item-same, item-short, item-past, item_whole}
+use mathlib.Core.Path.{refl, sym, ap, ◌∙◌}
+use Rattle.script.specs.Scripts.{argument_size, call_at}
+use Rattle.script.specs.Steps.{answered}
+use Rattle.script.proofs.Items.{step_none, step-unanswered, step-answered, kind_other, item-short, item-past, item_whole}
 use native.Mathlib.Omega.{arith}
 use Rattle.script.proofs.run_item.Goals as goal
 
-pub returns-then-rest-lt4-clause-sheet_value : goal.returns-then-rest-lt4-clause-sheet_value
-returns-then-rest-lt4-clause-sheet_value c =
-    let a = c.args in
-    (item_malformed a.sheet (4 + argument_size a.rest.now) (item-short a.rest.now c.if-rest-lt4.true) c.malformed.ensures.sheet_value c.malformed.ensures.size_value).0
+pub returns-then-rest-lt4 : goal.returns-then-rest-lt4
+returns-then-rest-lt4 c = let b = c.args.rest.now in step_none c.args.sheet (4 + argument_size b) (item-short b c.if-rest-lt4.true)
 
-pub returns-then-rest-lt4-clause-size_value : goal.returns-then-rest-lt4-clause-size_value
-returns-then-rest-lt4-clause-size_value c =
-    let a = c.args in
-    (item_malformed a.sheet (4 + argument_size a.rest.now) (item-short a.rest.now c.if-rest-lt4.true) c.malformed.ensures.sheet_value c.malformed.ensures.size_value).1
+pub returns-then-rest-size : goal.returns-then-rest-size
+returns-then-rest-size c = let b = c.args.rest.now in step_none c.args.sheet (4 + argument_size b) (item-past b (omega arith))
 
-pub returns-then-rest-size-clause-sheet_value : goal.returns-then-rest-size-clause-sheet_value
-returns-then-rest-size-clause-sheet_value c =
-    let a = c.args in
-    (item_malformed a.sheet (4 + argument_size a.rest.now) (item-past a.rest.now (omega arith)) c.malformed-then-rest-size.ensures.sheet_value c.malformed-then-rest-size.ensures.size_value).0
+pub returns-in_err-kind : goal.returns-in_err-kind
+returns-in_err-kind c =
+    let b = c.args.rest.now in
+    let whole = item_whole b refl c.argument_size-size.ensures.value c.if-rest-lt4.false c.if-rest-size.false in
+    c.from_residual.ensures ∙ step_none c.args.sheet (4 + argument_size b) (sym whole ∙ kind_other _ _ c.in_err-kind.ensures)
 
-pub returns-then-rest-size-clause-size_value : goal.returns-then-rest-size-clause-size_value
-returns-then-rest-size-clause-size_value c =
-    let a = c.args in
-    (item_malformed a.sheet (4 + argument_size a.rest.now) (item-past a.rest.now (omega arith)) c.malformed-then-rest-size.ensures.sheet_value c.malformed-then-rest-size.ensures.size_value).1
+pub returns-in_err-answer : goal.returns-in_err-answer
+returns-in_err-answer c =
+    let b = c.args.rest.now in
+    let s = c.args.sheet in
+    let whole = item_whole b (sym c.in_ok-kind.ensures) c.argument_size-size.ensures.value c.if-rest-lt4.false c.if-rest-size.false in
+    c.from_residual-in_err-answer.ensures ∙ step-unanswered s (4 + argument_size b) (call_at b) (c.in_err-answer.ensures ∙ ap (answered s) whole)
 
-pub returns-clause-sheet_value : goal.returns-clause-sheet_value
-returns-clause-sheet_value c =
-    let a = c.args in
-    let b = a.rest.now in
+pub returns : goal.returns
+returns c =
+    let b = c.args.rest.now in
+    let s = c.args.sheet in
     let size = c.argument_size-size.ensures.value in
-    let head = c.if-rest-lt4.false in
-    let room = c.if-rest-size.false in
-    (item-same a.sheet (4 + argument_size b) (item_whole b c.byte.ensures.value size head room) (ap (4 +◌) size) c.run_call.ensures.sheet_value c.run_call.ensures.size_value).0
-
-pub returns-clause-size_value : goal.returns-clause-size_value
-returns-clause-size_value c =
-    let a = c.args in
-    let b = a.rest.now in
-    let size = c.argument_size-size.ensures.value in
-    let head = c.if-rest-lt4.false in
-    let room = c.if-rest-size.false in
-    (item-same a.sheet (4 + argument_size b) (item_whole b c.byte.ensures.value size head room) (ap (4 +◌) size) c.run_call.ensures.sheet_value c.run_call.ensures.size_value).1
+    let whole = item_whole b (sym c.in_ok-kind.ensures) size c.if-rest-lt4.false c.if-rest-size.false in
+    step-answered s (4 + argument_size b) (call_at b) c.in_ok-answer.answer (c.in_ok-answer.ensures ∙ ap (answered s) whole) c.unwrap_or.ensures (ap (4 +◌) size)

@@ -6,12 +6,8 @@ use Rattle.touchchart.proofs.touchchart_open.Goals as goal
 
 pub returns-clause-value : goal.returns-clause-value
 unfolding opens_to handed_back
-returns-clause-value c =
-    let a = c.args in
-    (open_way a.file.now a.out.now _ c.open_file.result _ (given-opened a.file.now c.fresh_sheet.result c.open_file.result c.fresh_sheet.ensures c.open_file.ensures.answer_value c.open_file.ensures.sheet_value) c.hand_back.ensures.value c.hand_back.ensures.out_after).0
+returns-clause-value c = let a = c.args in (open_way a.file.now a.out.now _ _ _ (given-opened a.file.now c.open_file.result c.open_file.ensures) c.hand_back.ensures.value c.hand_back.ensures.out_after).0
 
 pub returns-clause-out_after : goal.returns-clause-out_after
 unfolding opens_to handed_back
-returns-clause-out_after c =
-    let a = c.args in
-    (open_way a.file.now a.out.now _ c.open_file.result _ (given-opened a.file.now c.fresh_sheet.result c.open_file.result c.fresh_sheet.ensures c.open_file.ensures.answer_value c.open_file.ensures.sheet_value) c.hand_back.ensures.value c.hand_back.ensures.out_after).1
+returns-clause-out_after c = let a = c.args in (open_way a.file.now a.out.now _ _ _ (given-opened a.file.now c.open_file.result c.open_file.ensures) c.hand_back.ensures.value c.hand_back.ensures.out_after).1

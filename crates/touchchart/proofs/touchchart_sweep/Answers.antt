@@ -6,12 +6,8 @@ use Rattle.touchchart.proofs.touchchart_sweep.Goals as goal
 
 pub returns-clause-value : goal.returns-clause-value
 unfolding call sweeps_to
-returns-clause-value c =
-    let a = c.args in
-    (call_way a.sheet.now sweep-labels a.out.now _ c.hand_over-handed.result c.sweep.result c.followed.result _ c.hand_over-handed.ensures c.sweep.ensures.answer_value c.sweep.ensures.sheet_value c.followed.ensures c.hand_back.ensures.value c.hand_back.ensures.out_after).0
+returns-clause-value c = let a = c.args in (call_way a.sheet.now sweep-labels a.out.now _ _ _ c.swept.ensures c.hand_back.ensures.value c.hand_back.ensures.out_after).0
 
 pub returns-clause-out_after : goal.returns-clause-out_after
 unfolding call sweeps_to
-returns-clause-out_after c =
-    let a = c.args in
-    (call_way a.sheet.now sweep-labels a.out.now _ c.hand_over-handed.result c.sweep.result c.followed.result _ c.hand_over-handed.ensures c.sweep.ensures.answer_value c.sweep.ensures.sheet_value c.followed.ensures c.hand_back.ensures.value c.hand_back.ensures.out_after).1
+returns-clause-out_after c = let a = c.args in (call_way a.sheet.now sweep-labels a.out.now _ _ _ c.swept.ensures c.hand_back.ensures.value c.hand_back.ensures.out_after).1

@@ -6,12 +6,8 @@ use Rattle.touchchart.proofs.touchchart_turn.Goals as goal
 
 pub returns-clause-value : goal.returns-clause-value
 unfolding call turns_to
-returns-clause-value c =
-    let a = c.args in
-    (call_way a.sheet.now (turn_edges a.pairs.now a.direction) a.out.now _ c.hand_over-handed.result c.turn.result c.followed.result _ c.hand_over-handed.ensures c.turn.ensures.answer_value c.turn.ensures.sheet_value c.followed.ensures c.hand_back.ensures.value c.hand_back.ensures.out_after).0
+returns-clause-value c = let a = c.args in (call_way a.sheet.now (turn_edges a.pairs.now a.direction) a.out.now _ _ _ c.turned.ensures c.hand_back.ensures.value c.hand_back.ensures.out_after).0
 
 pub returns-clause-out_after : goal.returns-clause-out_after
 unfolding call turns_to
-returns-clause-out_after c =
-    let a = c.args in
-    (call_way a.sheet.now (turn_edges a.pairs.now a.direction) a.out.now _ c.hand_over-handed.result c.turn.result c.followed.result _ c.hand_over-handed.ensures c.turn.ensures.answer_value c.turn.ensures.sheet_value c.followed.ensures c.hand_back.ensures.value c.hand_back.ensures.out_after).1
+returns-clause-out_after c = let a = c.args in (call_way a.sheet.now (turn_edges a.pairs.now a.direction) a.out.now _ _ _ c.turned.ensures c.hand_back.ensures.value c.hand_back.ensures.out_after).1
