@@ -14,39 +14,50 @@
 // made by tools/checklist_plans.py.
 #![tactic(auto)]
 
-use sheet::{Answer, Outcome, Sheet};
+use sheet::Sheet;
+use verdicts::{Tally, Turned};
 
-// The turn with this number: of the edge from u to v in a direction it is 512u + 2v + direction.
-fn turn_by(sheet: Sheet, number: usize) -> Outcome {
-    let edge = [(number / 512 % 256) as u16, (number / 2 % 256) as u16];
-    calls::turn(sheet, &edge, (number % 2) as u8)
+// A turn of the edge from u to v in a direction, and the sheet that it leaves.
+#[derive(Clone, Copy)]
+struct Turn {
+    u: u16,
+    v: u16,
+    direction: u8,
+    left: Sheet,
 }
 
-// The number of the first turn of one edge that is accepted; 102400 if there is none.
-fn first_turn(sheet: Sheet) -> usize {
-    let mut number = 0;
-    while number < 102400 {
-        let outcome = turn_by(sheet, number);
-        let answer = outcome.answer;
-        match answer {
-            Answer::Accepted => return number,
-            Answer::Refused(_, _) => number += 1,
+// The first turn of one edge that is accepted, if there is one.
+fn first_turn(sheet: &Sheet) -> Option<Turn> {
+    for u in 0..200u16 {
+        for v in 0..256u16 {
+            for direction in 0..2u8 {
+                if let Ok(left) = calls::turn(*sheet, &[u, v], direction) {
+                    return Some(Turn {
+                        u,
+                        v,
+                        direction,
+                        left,
+                    });
+                }
+            }
         }
     }
-    number
+    None
+}
+
+// The sheet that chart leaves.
+fn charted(sheet: &Sheet) -> Sheet {
+    calls::chart(*sheet).unwrap_or(*sheet)
 }
 
 // The labels of a sheet offered to another one, and charted.
-fn drawn_anew(opened: Sheet, sheet: Sheet) -> Sheet {
-    let labels = sheet.labels;
-    let count = numbers::minus(6 * numbers::wide_word(sheet.n), 14);
-    let offered = calls::offer(opened, arrays::part(&labels, 0, count));
-    let charted = calls::chart(offered.sheet);
-    charted.sheet
+fn drawn_anew(opened: &Sheet, sheet: &Sheet) -> Sheet {
+    let offered = calls::offer(*opened, sheet::labels_of(sheet));
+    charted(&offered.unwrap_or(*opened))
 }
 
 // The check that two sheets are written as the same file.
-fn check_written(tally: usize, a: Sheet, b: Sheet) -> usize {
+fn check_written(tally: Tally, a: &Sheet, b: &Sheet) -> Tally {
     let mut one = io::large_buffer();
     let first = reports::write(a, &mut one);
     let mut other = io::large_buffer();
@@ -54,73 +65,72 @@ fn check_written(tally: usize, a: Sheet, b: Sheet) -> usize {
     verdicts::tell_files(tally, &one, first, &other, second)
 }
 
+// The checks of a turn of a chart.
+fn check_turn(tally: Tally, opened: &Sheet, sheet: &Sheet, turn: &Turn) -> Tally {
+    let left = &turn.left;
+    let new = charted(left);
+    let anew = drawn_anew(opened, left);
+    let turned = Turned {
+        u: turn.u,
+        v: turn.v,
+        direction: turn.direction,
+        old: sheet,
+        left,
+        left_same: reports::same(left, left),
+        new: &new,
+        new_same: reports::same(&new, &anew),
+    };
+    check_written(verdicts::tell_turn(tally, Some(turned)), &new, &anew)
+}
+
 // The checks of the turn of a chart's first edge that turns alone.
-fn check_turn(tally: usize, opened: Sheet, sheet: Sheet) -> usize {
-    let number = first_turn(sheet);
-    let outcome = turn_by(sheet, number);
-    let turned = outcome.sheet;
-    let charted = calls::chart(turned);
-    let new = charted.sheet;
-    let anew = drawn_anew(opened, turned);
-    let undrawn = reports::same(turned, turned);
-    let same = reports::same(new, anew);
-    let after = verdicts::tell_turn(tally, number, sheet, turned, undrawn, new, same);
-    if number < 102400 {
-        return check_written(after, new, anew);
+fn check_turns(tally: Tally, opened: &Sheet, sheet: &Sheet) -> Tally {
+    match first_turn(sheet) {
+        Some(turn) => check_turn(tally, opened, sheet, &turn),
+        None => verdicts::tell_turn(tally, None),
     }
-    after
 }
 
 // The checks of sweep and chart, and of a turn where there is a chart.
-fn check_chart(tally: usize, sheet: Sheet) -> usize {
-    let swept = calls::sweep(sheet);
-    let charted = calls::chart(swept.sheet);
-    let after = verdicts::tell_chart(tally, swept, charted);
-    let answer = charted.answer;
-    match answer {
-        Answer::Accepted => check_turn(after, sheet, charted.sheet),
-        Answer::Refused(_, _) => after,
+fn check_chart(tally: Tally, sheet: &Sheet) -> Tally {
+    let swept = calls::sweep(*sheet);
+    let before = swept.unwrap_or(*sheet);
+    let drawn = calls::chart(before);
+    let after = verdicts::tell_chart(tally, &swept, &drawn, &drawn.unwrap_or(before));
+    match drawn {
+        Ok(chart) => check_turns(after, sheet, &chart),
+        Err(_) => after,
     }
 }
 
 // The checks of a file, where it is accepted.
-fn check_file(tally: usize, number: usize, file: &[u8]) -> usize {
-    let outcome = opening::open_file(sheet::fresh_sheet(), file);
-    let sheet = outcome.sheet;
-    let same = reports::same(sheet, sheet);
-    let after = verdicts::tell_file(tally, number, outcome, same, reports::scan(sheet));
-    let answer = outcome.answer;
-    match answer {
-        Answer::Accepted => check_chart(after, sheet),
-        Answer::Refused(_, _) => after,
+fn check_file(tally: Tally, number: usize, file: &[u8]) -> Tally {
+    let opened = opening::open_file(file);
+    let sheet = opened.unwrap_or(sheet::fresh_sheet());
+    let same = reports::same(&sheet, &sheet);
+    let scan = reports::scan(&sheet);
+    let after = verdicts::tell_file(tally, number, &opened, same, scan);
+    if opened.is_ok() {
+        check_chart(after, &sheet)
+    } else {
+        after
     }
 }
 
-// The files of an input, one after another.
-fn check_files(input: &[u8]) -> usize {
-    let mut tally = 0;
-    let mut number = 0;
-    let mut at = 0;
-    while at < input.len() {
-        let size = arrays::word_at(input, at);
-        number = std::num::wrapping_add_usize(number, 1);
-        tally = check_file(tally, number, arrays::part(input, at + 2, size));
-        at += 2 + size;
-    }
-    tally
-}
-
-// Runs the files of standard input, and says how many checks there were.
+// Runs the files of standard input, one after another, and says how many checks there were.
 fn main() {
     let mut space = io::large_buffer();
     let got = io::read_full(0, &mut space);
-    let tally = check_files(arrays::part(&space, 0, got));
-    console::show(
-        b"# checks, # wrong\n",
-        tally % 65536,
-        tally / 65536,
-        0,
-        0,
-        0,
-    );
+    let mut rest = arrays::part(&space, 0, got);
+    let mut tally = Tally {
+        checks: 0,
+        wrong: 0,
+    };
+    let mut number = 0usize;
+    while let Some((file, behind)) = console::next_file(rest) {
+        number = number.wrapping_add(1);
+        tally = check_file(tally, number, file);
+        rest = behind;
+    }
+    console::show(b"# checks, # wrong\n", &[tally.checks, tally.wrong]);
 }

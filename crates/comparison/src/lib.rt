@@ -20,24 +20,20 @@ pub fn checksum(bytes: &[u8]) -> usize
     ensures upper_bound { result < 2 ^ 32 }
 {
     let mut sum = 0;
-    let mut i = 0;
-    while i < bytes.len() {
-        sum = stir(sum, arrays::byte(bytes, i));
-        i += 1;
+    for byte in bytes {
+        sum = stir(sum, usize::from(*byte));
     }
     sum
 }
 
 // How many of the first k bytes are the same in both, up to the first that differs.
-pub fn agreeing<'a>(a: &'a [u8], b: &'a [u8], k: usize) -> usize
+pub fn agreeing(a: &[u8], b: &[u8], k: usize) -> usize
     ensures { result ≡ agreeing a.now b.now k }
 {
-    let mut i = 0;
-    while i < k {
-        if arrays::byte(a, i) != arrays::byte(b, i) {
+    for i in 0..k {
+        if arrays::num(a, i) != arrays::num(b, i) {
             return i;
         }
-        i += 1;
     }
-    i
+    k
 }

@@ -1,5 +1,5 @@
 -- Texts with marks for numbers.
-use Rattle.std.specs.Prelude.{ℕ, suc, ◌+◌, List, [], ◌∷◌, cond, drop, eqb}
+use Rattle.std.specs.Prelude.{ℕ, zero, suc, ◌+◌, List, [], ◌∷◌, cond, drop, eqb}
 
 -- how many bytes there are up to the first mark, which is 35, with it; all where there is none
 unfoldable pub up_to_mark : List ℕ → ℕ
@@ -10,6 +10,7 @@ up_to_mark (x ∷ t) = cond (eqb x 35) 1 (suc (up_to_mark t))
 unfoldable pub behind : List ℕ → ℕ → ℕ
 behind t i = i + up_to_mark (drop i t)
 
--- the index behind the sixth mark
-unfoldable pub shown : List ℕ → ℕ
-shown t = behind t (behind t (behind t (behind t (behind t (behind t 0)))))
+-- the index behind the first k marks
+unfoldable pub behind_marks : ℕ → List ℕ → ℕ
+behind_marks zero t = 0
+behind_marks (suc k) t = behind t (behind_marks k t)

@@ -69,10 +69,23 @@ filled-short k (b ∷ form) numbers s = go (eqb b 35) numbers s (λ l t. filled-
     go true (x ∷ l) t f = let a = length-append (digits x) (filled form l) in let one = t.0 in let r = f l t.1 in omega arith
     go false l t f = let r = f l t in omega arith
 
--- three numbers of eight bytes
-pub filled_wide : (form : List ℕ) (a b c : ℕ) → a < 2 ^ 64 → b < 2 ^ 64 → c < 2 ^ 64 → length (filled form (a ∷ b ∷ c ∷ [])) ≤ length form + 57
-filled_wide form a b c h j k = filled-short 19 form (a ∷ b ∷ c ∷ []) (digits_wide a h, (digits_wide b j, (digits_wide c k, tt)))
+-- all numbers are below a bound
+abbrev pub Below : ℕ → List ℕ → Type 0
+Below m [] = Unit {0}
+Below m (x ∷ numbers) = (x < m) × Below m numbers
 
--- three numbers of two bytes
-pub filled-word : (form : List ℕ) (a b c : ℕ) → a < 2 ^ 16 → b < 2 ^ 16 → c < 2 ^ 16 → length (filled form (a ∷ b ∷ c ∷ [])) ≤ length form + 12
-filled-word form a b c h j k = filled-short 4 form (a ∷ b ∷ c ∷ []) (digits-word a h, (digits-word b j, (digits-word c k, tt)))
+-- numbers of eight bytes
+pub filled_wide : (form numbers : List ℕ) → Below (2 ^ 64) numbers → length (filled form numbers) ≤ length form + 19 * length numbers
+filled_wide form numbers h = filled-short 19 form numbers (go numbers h)
+  where
+    go : (l : List ℕ) → Below (2 ^ 64) l → Short 19 l
+    go [] b = tt
+    go (x ∷ l) b = (digits_wide x b.0, go l b.1)
+
+-- numbers of two bytes
+pub filled-word : (form numbers : List ℕ) → Below (2 ^ 16) numbers → length (filled form numbers) ≤ length form + 4 * length numbers
+filled-word form numbers h = filled-short 4 form numbers (go numbers h)
+  where
+    go : (l : List ℕ) → Below (2 ^ 16) l → Short 4 l
+    go [] b = tt
+    go (x ∷ l) b = (digits-word x b.0, go l b.1)

@@ -32,7 +32,7 @@ fn put_number(out: &mut [u8], at: usize, x: usize) -> usize
 fn put_sign(out: &mut [u8], at: usize, sign: u8, x: usize) -> usize
     ensures { Put out.old at (stands sign x) out.new result }
 {
-    if sign == 35 {
+    if sign == b'#' {
         return put_number(out, at, x);
     }
     put_byte(out, at, sign)
@@ -43,33 +43,25 @@ fn mark(sign: u8) -> usize
     ensures value { result ≡ mark sign }
     ensures upper_bound { result ≤ 1 }
 {
-    if sign == 35 { 1 } else { 0 }
+    if sign == b'#' { 1 } else { 0 }
 }
 
-// The k-th of three numbers, from 0 on; 0 behind them.
-fn number(k: usize, a: usize, b: usize, c: usize) -> usize
-    ensures { result ≡ get_or (a ∷ b ∷ c ∷ []) k 0 }
+// The k-th of these numbers, from 0 on; 0 behind them.
+fn number(k: usize, numbers: &[usize]) -> usize
+    ensures { result ≡ get_or numbers.now k 0 }
 {
-    match k {
-        0 => a,
-        1 => b,
-        2 => c,
-        _ => 0,
-    }
+    numbers.get(k).copied().unwrap_or(0)
 }
 
-// A form with three numbers in it, at a place of the buffer; the place behind it. What the buffer has no room for is passed over.
-pub fn put(out: &mut [u8], at: usize, form: &[u8], a: usize, b: usize, c: usize) -> usize
-    ensures { Put out.old at (filled form.now (a ∷ b ∷ c ∷ [])) out.new result }
+// A form with these numbers in it, at a place of the buffer; the place behind it. What the buffer has no room for is passed over.
+pub fn put(out: &mut [u8], at: usize, form: &[u8], numbers: &[usize]) -> usize
+    ensures { Put out.old at (filled form.now numbers.now) out.new result }
 {
     let mut to = at;
     let mut k = 0;
-    let mut i = 0;
-    while i < form.len() {
-        let sign = form[i];
-        to = put_sign(out, to, sign, number(k, a, b, c));
-        k += mark(sign);
-        i += 1;
+    for sign in form {
+        to = put_sign(out, to, *sign, number(k, numbers));
+        k += mark(*sign);
     }
     to
 }

@@ -1,14 +1,14 @@
 -- What is printed from each call on, by what the call answers and the struct that it leaves.
 use Prim.Native.Nat.{ℕ, zero, suc, ◌+◌, ◌≤◌}
 use mathlib.Core.Path.{◌≡◌, refl, sym, ap, ◌∙◌}
-use mathlib.Core.List.{List, [], ◌∷◌, ◌++◌}
+use mathlib.Core.List.{List, ◌++◌}
 use mathlib.Core.Bool.{true}
-use mathlib.Core.Option.{Option, none}
+use mathlib.Core.Option.{Option}
 use native.Mathlib.Omega.{arith}
 use lib.ListN.{get_or}
 use Rattle.lists.proofs.Padded.{get_or-padded}
 use Rattle.lists.specs.Spans.{padded}
-use Rattle.model.specs.Outcome.{Outcome, accepted, refused, passed}
+use Rattle.model.specs.Outcome.{Outcome, accepted, refused}
 use Rattle.model.specs.Plan.{Plan, count}
 use Rattle.model.specs.Chart.{Chart, chart}
 use Rattle.model.specs.Sweep.{sweep}
@@ -22,53 +22,34 @@ use Rattle.model.proofs.FileRead.{read_fits}
 use Rattle.fit.specs.Fits.{fit}
 use Rattle.sheet.specs.declared.Sheet.{Sheet}
 use Rattle.sheet.specs.Sheets.{held_plan, fits, reads, stage_read, rank, pack, packed}
-use Rattle.sheet.specs.Answers.{answer_of, after}
+use Rattle.sheet.specs.Answers.{packed_as}
 use Rattle.sheet.proofs.Reading.{plan_early, plan_there, fits_there, count_held, few}
 use Rattle.sheet.proofs.Packed.{reads-packed}
 use Rattle.sheet.proofs.RoundTrips.{has-plan}
 use Rattle.judging.specs.Rules.{rules_from_8}
 use Rattle.opening.specs.Opening.{lent_of}
 use Rattle.opening.proofs.Opened.{judge-parts, sheet_held_lem}
-use Rattle.forms.specs.Words.{letters}
-use Rattle.forms.specs.Forms.{mark, stands, filled, line}
 use Rattle.printing.specs.Text.{plan_line, triangle_line, size_line, point_line, point_lines, chart_lines, refusal_line, told, chart_text, sweep_text, scan_text, plan_text, file_text}
-
--- ---- lines of fewer than three numbers, with zeros for the others
-pub plan_form : (n : ℕ) → filled (letters "plan #\n") (n ∷ 0 ∷ 0 ∷ []) ≡ plan_line n
-unfolding plan_line line letters filled stands mark
-plan_form n = refl
-
-pub none_form : filled (letters "triangle none\n") (0 ∷ 0 ∷ 0 ∷ []) ≡ triangle_line none
-unfolding triangle_line letters filled stands mark
-none_form = refl
-
-pub size_form : (w h : ℕ) → filled (letters "size # #\n") (w ∷ h ∷ 0 ∷ []) ≡ size_line w h
-unfolding size_line line letters filled stands mark
-size_form w h = refl
-
-pub refusal_form : (k at : ℕ) → filled (letters "refused # at #\n") (k ∷ at ∷ 0 ∷ []) ≡ refusal_line k at
-unfolding refusal_line line letters filled stands mark
-refusal_form k at = refl
 
 -- ---- refusals
 -- a refused call ends the text
-told-refused : {k at : ℕ} (o : Outcome file.Sheet) (rest : file.Sheet → List ℕ) → refused k at ≡ answer_of o → refusal_line k at ≡ told o rest
-unfolding told answer_of
+told-refused : {k at : ℕ} (o : Outcome file.Sheet) (rest : file.Sheet → List ℕ) → refused k at ≡ packed_as o → refusal_line k at ≡ told o rest
+unfolding told packed_as
 told-refused (accepted s) rest e = not-both e
 told-refused (refused j m) rest e = let (p, q) = same-refusal e in λ i. refusal_line (p i) (q i)
 
 -- so does a refused chart
-pub chart-refused : {k at : ℕ} (s : file.Sheet) → refused k at ≡ answer_of (chart_call s) → refusal_line k at ≡ chart_text s
+pub chart-refused : {k at : ℕ} (s : file.Sheet) → refused k at ≡ packed_as (chart_call s) → refusal_line k at ≡ chart_text s
 unfolding chart_text
 chart-refused s e = told-refused (chart_call s) _ e
 
 -- a refused sweep
-pub sweep-refused : {k at : ℕ} (s : file.Sheet) → refused k at ≡ answer_of (sweep_call s) → refusal_line k at ≡ sweep_text s
+pub sweep-refused : {k at : ℕ} (s : file.Sheet) → refused k at ≡ packed_as (sweep_call s) → refusal_line k at ≡ sweep_text s
 unfolding sweep_text
 sweep-refused s e = told-refused (sweep_call s) chart_text e
 
 -- and a refused open
-pub open_refused : {k at : ℕ} (b : List ℕ) → refused k at ≡ answer_of (open_call b) → refusal_line k at ≡ file_text b
+pub open_refused : {k at : ℕ} (b : List ℕ) → refused k at ≡ packed_as (open_call b) → refusal_line k at ≡ file_text b
 unfolding file_text
 open_refused b e = told-refused (open_call b) plan_text e
 
@@ -116,16 +97,17 @@ unfolding packed pack
 count-packed p ls c = refl
 
 -- an accepted chart call leaves a struct whose chart is printed
-pub chart-accepted : (s t : Sheet) → passed ≡ answer_of (chart_call (reads s)) → t ≡ after s (chart_call (reads s)) → (drawn_text t ≡ chart_text (reads s)) × (t.n ≤ 200)
-unfolding chart_text chart_call answer_of after told chart_of
-chart-accepted s t e q = go (chart_call (reads s)) refl e q
+pub chart-accepted : (s t : Sheet) → accepted t ≡ packed_as (chart_call (reads s)) → (drawn_text t ≡ chart_text (reads s)) × (t.n ≤ 200)
+unfolding chart_text chart_call packed_as told chart_of
+chart-accepted s t e = go (chart_call (reads s)) refl e
   where
     rest : file.Sheet → List ℕ
     rest u = told (chart_of u) (λ (a : Plan × Chart). chart_lines (count a.0) a.1)
 
-    go : (o : Outcome file.Sheet) → chart_call (reads s) ≡ o → passed ≡ answer_of o → t ≡ after s o → (drawn_text t ≡ told o rest) × (t.n ≤ 200)
-    go (refused k at) d f r = not-both (sym f)
-    go (accepted u) d f r =
+    go : (o : Outcome file.Sheet) → chart_call (reads s) ≡ o → accepted t ≡ packed_as o → (drawn_text t ≡ told o rest) × (t.n ≤ 200)
+    go (refused k at) d f = not-both (sym f)
+    go (accepted u) d f =
+        let r = same-value f in
         let (a, e₁, b) = bind_accepted (labels_of (reads s)) _ u d in
         let (c, e₂, v) = bind_accepted (chart a.0 a.1) _ u b in
         let is = same-value v in
@@ -137,13 +119,14 @@ chart-accepted s t e q = go (chart_call (reads s)) refl e q
 
 -- ---- sweep
 -- an accepted sweep prints nothing, and chart goes on with the struct that it leaves
-pub sweep-accepted : (s t : Sheet) → passed ≡ answer_of (sweep_call (reads s)) → t ≡ after s (sweep_call (reads s)) → chart_text (reads t) ≡ sweep_text (reads s)
-unfolding sweep_text sweep_call answer_of after told fits
-sweep-accepted s t e q = go (sweep_call (reads s)) refl e q
+pub sweep-accepted : (s t : Sheet) → accepted t ≡ packed_as (sweep_call (reads s)) → chart_text (reads t) ≡ sweep_text (reads s)
+unfolding sweep_text sweep_call packed_as told fits
+sweep-accepted s t e = go (sweep_call (reads s)) refl e
   where
-    go : (o : Outcome file.Sheet) → sweep_call (reads s) ≡ o → passed ≡ answer_of o → t ≡ after s o → chart_text (reads t) ≡ told o chart_text
-    go (refused k at) d f r = not-both (sym f)
-    go (accepted u) d f r =
+    go : (o : Outcome file.Sheet) → sweep_call (reads s) ≡ o → accepted t ≡ packed_as o → chart_text (reads t) ≡ told o chart_text
+    go (refused k at) d f = not-both (sym f)
+    go (accepted u) d f =
+        let r = same-value f in
         let (p, e₁, b) = bind_accepted (plan_of (reads s)) _ u d in
         let (ms, e₂, v) = bind_accepted (sweep p) _ u b in
         let is = same-value v in
@@ -163,13 +146,14 @@ unfolding plan_text told
 plan_printed s e = ap (λ (n : ℕ). plan_line n ++ scan_text (reads s)) (sym (count_held s)) ∙ ap (λ (o : Outcome Plan). told o (λ (p : Plan). plan_line (count p) ++ scan_text (reads s))) (sym e)
 
 -- an accepted open leaves a struct with the file's plan
-pub open_accepted-on : (b : List ℕ) (first t : Sheet) → passed ≡ answer_of (open_call b) → t ≡ after first (open_call b) → (plan_text (reads t) ≡ file_text b) × (plan_of (reads t) ≡ accepted (held_plan t))
-unfolding file_text told answer_of after
-open_accepted-on b first t e q = go (open_call b) refl e q
+pub open_accepted-on : (b : List ℕ) (t : Sheet) → accepted t ≡ packed_as (open_call b) → (plan_text (reads t) ≡ file_text b) × (plan_of (reads t) ≡ accepted (held_plan t))
+unfolding file_text told packed_as
+open_accepted-on b t e = go (open_call b) refl e
   where
-    go : (o : Outcome file.Sheet) → open_call b ≡ o → passed ≡ answer_of o → t ≡ after first o → (plan_text (reads t) ≡ told o plan_text) × (plan_of (reads t) ≡ accepted (held_plan t))
-    go (refused k at) d f r = not-both (sym f)
-    go (accepted s) d f r =
+    go : (o : Outcome file.Sheet) → open_call b ≡ o → accepted t ≡ packed_as o → (plan_text (reads t) ≡ told o plan_text) × (plan_of (reads t) ≡ accepted (held_plan t))
+    go (refused k at) d f = not-both (sym f)
+    go (accepted s) d f =
+        let r = same-value f in
         let (is, ok) = open_accepted b s d in
         let fit = read_fits b s is in
         let kept = (then_accepted (lent_of s) (rules_from_8 s) tt (sym (judge-parts s) ∙ ok)).0 in

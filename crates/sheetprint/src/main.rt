@@ -2,18 +2,9 @@
 // scan, sweep and chart give for it. The text is made by printing::print_sheet, whose contract says what it is.
 #![tactic(auto)]
 
-ghost use Rattle.std.specs.Prelude.{◌≡◌, length};
-
-// Room for the plan file.
-fn file_room() -> [u8; 8192]
-    ensures { 8192 ≡ length result }
-{
-    [0; 8192]
-}
-
 // Reads, prints.
 fn main() {
-    let mut file = file_room();
+    let mut file = [0u8; 8192];
     let size = io::read_full(0, &mut file);
     let mut text = io::buffer();
     let count = printing::print_sheet(&file[..size], &mut text);

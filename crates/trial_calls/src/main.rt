@@ -16,127 +16,130 @@
 // stdin and stdout beside this crate are made by the reference in rust/, by its examples calls_items and run_calls.
 #![tactic(auto)]
 
-ghost use Rattle.std.specs.Prelude.{◌≡◌, length};
+use refusal::Refusal;
+use sheet::{Sheet, Stage};
 
-use sheet::{Answer, Outcome, Sheet, Written};
-
-// Room for the argument of an item; a file of 200 rings of 199 entries has 80,406 bytes.
-fn argument_room() -> [u8; 131072]
-    ensures { 131072 ≡ length result }
-{
-    [0; 131072]
+// The kinds of items.
+#[derive(Clone, Copy)]
+enum Kind {
+    Fresh,
+    Open,
+    Offer,
+    Sweep,
+    Turn,
+    Chart,
 }
 
-// A buffer that every sheet's file fits into.
-fn sheet_buffer() -> [u8; 8192]
-    ensures { 8192 ≡ length result }
-{
-    [170; 8192]
-}
-
-// The numbers of a turn, which stand behind its direction.
-fn numbers_of(argument: &[u8]) -> [u16; 4096]
-    ensures { 4096 ≡ length result }
-{
-    let mut numbers = [0u16; 4096];
-    let mut i = 0;
-    while i < 4096 {
-        numbers[i] = arrays::word_at(argument, 1 + 2 * i) as u16;
-        i += 1;
+impl Kind {
+    // The kind with this number, if there is one.
+    fn of(number: u8) -> Option<Kind> {
+        match number {
+            0 => Some(Kind::Fresh),
+            1 => Some(Kind::Open),
+            2 => Some(Kind::Offer),
+            3 => Some(Kind::Sweep),
+            4 => Some(Kind::Turn),
+            5 => Some(Kind::Chart),
+            _ => None,
+        }
     }
-    numbers
+
+    // The name that its line begins with.
+    fn name(self) -> &'static [u8] {
+        match self {
+            Kind::Fresh => b"fresh ",
+            Kind::Open => b"open  ",
+            Kind::Offer => b"offer ",
+            Kind::Sweep => b"sweep ",
+            Kind::Turn => b"turn  ",
+            Kind::Chart => b"chart ",
+        }
+    }
 }
 
-// Turn.
-fn run_turn(sheet: Sheet, argument: &[u8]) -> Outcome {
-    let numbers = numbers_of(argument);
-    let count = numbers::lesser(numbers::minus(argument.len(), 1) / 2, 4096);
-    let direction = arrays::byte(argument, 0) as u8;
+// Turn: the direction, and the numbers of the list behind it.
+fn run_turn(sheet: Sheet, argument: &[u8]) -> Result<Sheet, Refusal> {
+    let mut numbers = [0u16; 4096];
+    for i in 0..4096 {
+        numbers[i] = arrays::word_at(argument, 1 + 2 * i) as u16;
+    }
+    let count = (argument.len().saturating_sub(1) / 2).min(4096);
+    let direction = arrays::num(argument, 0) as u8;
     calls::turn(sheet, &numbers[..count], direction)
 }
 
 // The call of an item.
-fn run_call(sheet: Sheet, kind: usize, argument: &[u8]) -> Outcome {
+fn run_call(sheet: Sheet, kind: Kind, argument: &[u8]) -> Result<Sheet, Refusal> {
     match kind {
-        0 => sheet::accept(sheet::fresh_sheet()),
-        1 => opening::open_file(sheet, argument),
-        2 => calls::offer(sheet, argument),
-        3 => calls::sweep(sheet),
-        4 => run_turn(sheet, argument),
-        _ => calls::chart(sheet),
+        Kind::Fresh => Ok(sheet::fresh_sheet()),
+        Kind::Open => opening::open_file(argument),
+        Kind::Offer => calls::offer(sheet, argument),
+        Kind::Sweep => calls::sweep(sheet),
+        Kind::Turn => run_turn(sheet, argument),
+        Kind::Chart => calls::chart(sheet),
     }
 }
 
-// Writes the name of a call and its answer.
-fn show_call(kind: usize, answer: Answer) {
-    let names = b"fresh open  offer sweep turn  chart ";
-    io::write_all(1, arrays::part(names, kind % 6 * 6, 6));
+// Writes the answer of a call.
+fn show_answer(answer: &Result<Sheet, Refusal>) {
     match answer {
-        Answer::Accepted => {
+        Ok(_) => {
             io::write_all(1, b"accepted; ");
         }
-        Answer::Refused(number, place) => {
-            console::show(
-                b"refused # at #; ",
-                numbers::wide_byte(number),
-                place,
-                0,
-                0,
-                0,
-            );
+        Err(refusal) => {
+            let number = usize::from(refusal.number());
+            console::show(b"refused # at #; ", &[number, refusal.place()]);
         }
     }
 }
 
-// A sheet's file in a buffer; its length, 0 on a refusal.
-fn write_into(sheet: Sheet, out: &mut [u8]) -> usize {
-    let written = reports::write(sheet, out);
-    match written {
-        Written::Length(k) => k,
-        Written::Refused(_, _) => 0,
+// The name of a stage, and spaces behind it.
+fn name_of(stage: Stage) -> &'static [u8] {
+    match stage {
+        Stage::Empty => b"EMPTY    ",
+        Stage::Open => b"OPEN     ",
+        Stage::Labelled => b"LABELLED ",
+        Stage::Charted => b"CHARTED  ",
     }
 }
 
 // Writes the sheet after a call, and the end of the line.
-fn show_sheet(sheet: Sheet) {
-    let stage = sheet.stage;
-    let names = b"EMPTY    OPEN     LABELLED CHARTED  ";
-    io::write_all(1, arrays::part(names, sheet::rank_of(stage) % 4 * 9, 9));
-    let mut space = sheet_buffer();
-    let size = write_into(sheet, &mut space);
+fn show_sheet(sheet: &Sheet) {
+    io::write_all(1, name_of(sheet.stage));
+    let mut space = [170u8; 8192];
+    let size = reports::write(sheet, &mut space).unwrap_or(0);
     console::show(
         b"n #, #x#, length #, checksum #\n",
-        numbers::wide_word(sheet.n),
-        numbers::wide_word(sheet.w),
-        numbers::wide_word(sheet.h),
-        size,
-        comparison::checksum(&space),
+        &[
+            usize::from(sheet.n),
+            usize::from(sheet.w),
+            usize::from(sheet.h),
+            size,
+            comparison::checksum(&space),
+        ],
     );
 }
 
-// Runs the items of standard input, one after another; how many there were.
-fn run_items() -> usize {
-    let mut space = argument_room();
-    let mut sheet = sheet::fresh_sheet();
-    let mut done = 0usize;
-    while done < 100000 {
-        let item = console::read_item(&mut space);
-        let kind = item % 256;
-        if 5 < kind {
-            return done;
-        }
-        let outcome = run_call(sheet, kind, arrays::part(&space, 0, item / 256));
-        let answer = outcome.answer;
-        show_call(kind, answer);
-        let after = outcome.sheet;
-        show_sheet(after);
-        sheet = after;
-        done += 1;
-    }
-    done
+// The line of an item; the sheet after its call.
+fn run_item(sheet: Sheet, kind: Kind, argument: &[u8]) -> Sheet {
+    let answer = run_call(sheet, kind, argument);
+    io::write_all(1, kind.name());
+    show_answer(&answer);
+    let after = answer.unwrap_or(sheet);
+    show_sheet(&after);
+    after
 }
 
-// Runs the items, and says how many there were.
+// Runs the items of standard input, one after another, and says how many there were. A file of 200 rings of 199 entries has 80,406 bytes.
 fn main() {
-    console::show(b"# items\n", run_items(), 0, 0, 0, 0);
+    let mut space = [0u8; 131072];
+    let mut sheet = sheet::fresh_sheet();
+    let done = console::run_items(&mut space, |kind, argument| match Kind::of(kind) {
+        None => false,
+        Some(kind) => {
+            sheet = run_item(sheet, kind, argument);
+            true
+        }
+    });
+    console::show(b"# items\n", &[done]);
 }

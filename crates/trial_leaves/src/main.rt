@@ -7,283 +7,244 @@
 
 ghost use Rattle.std.specs.Prelude.{◌≤◌};
 
+use charts::Points;
+use framing::{Layout, Parts};
+use lent::LentRings;
+use refusal::Refusal;
+use rings::{Rings, Table};
+use writing::Held;
+
 // The entries of all rings, copied for each context and each number below 256: behind the end of a ring that is 0, and the next ring is copied over it.
-fn entries_of<'a>(file: &'a [u8], starts: &'a [u16], sizes: &'a [u8], n: usize) -> [u16; 1186]
-    requires { n ≤ 200 }
-{
+fn entries_of(rings: &LentRings) -> [u16; 1186] {
     let mut entries = [0u16; 1186];
-    let mut i = 0;
-    while i < 256 * n {
-        let v = lent::neighbour_in(file, starts, sizes, n, i / 256, i % 256);
-        let at = arrays::num(starts, i / 256) + i % 256;
-        arrays::set_word(&mut entries, at, (v % 65536) as u16);
-        i += 1;
+    for u in 0..rings.n {
+        for i in 0..256 {
+            let v = rings.neighbour_at(u, i);
+            let at = arrays::num(rings.starts, u) + i;
+            arrays::put(&mut entries, at, (v % 65536) as u16);
+        }
     }
     entries
 }
 
 // The places that rules 4, 5 and 6 give; whether all are kept.
-fn print_lent_rules<'a>(file: &'a [u8], starts: &'a [u16], sizes: &'a [u8], n: usize) -> bool {
-    let four = single::rule4_place(file, starts, sizes, n);
-    let five = single::rule5_place(file, starts, sizes, n);
-    let six = mutual::rule6_place(file, starts, sizes, n);
-    console::show(
-        b" 4:# 5:# 6:# entries #",
-        four,
-        five,
-        six,
-        arrays::num(starts, n),
-        0,
-    );
-    n <= numbers::lesser(four, numbers::lesser(five, six))
+fn print_lent_rules(rings: &LentRings) -> bool {
+    let n = rings.n;
+    let four = single::rule4_place(rings);
+    let five = single::rule5_place(rings);
+    let six = mutual::rule6_place(rings);
+    let total = arrays::num(rings.starts, n);
+    console::show(b" 4:# 5:# 6:# entries #", &[four, five, six, total]);
+    n <= four.min(five).min(six)
 }
 
 // The places that rules 8 and 9 give; whether both are kept.
-fn print_flat_rules<'a>(starts: &'a [u16], sizes: &'a [u8], entries: &'a [u16], n: usize) -> bool {
-    let eight = faces::rule8_place(starts, sizes, entries, n);
-    let nine = faces::rule9_place(starts, sizes, entries, n);
-    console::show(b" 8:# 9:#", eight, nine, 0, 0, 0);
-    if eight < 4 {
-        return false;
-    }
-    n <= nine
+fn print_flat_rules(rings: &Rings) -> bool {
+    let eight = faces::rule8_place(rings);
+    let nine = faces::rule9_place(rings);
+    console::show(b" 8:# 9:#", &[eight, nine]);
+    4 <= eight && rings.n <= nine
 }
 
 // The smallest triple of mutual neighbours that are no inner face.
-fn print_scan<'a>(starts: &'a [u16], sizes: &'a [u8], entries: &'a [u16], n: usize) {
-    let scanned = triples::scan(starts, sizes, entries, n);
-    match scanned {
-        triples::Scanned::Nothing => {
+fn print_scan(rings: &Rings) {
+    match triples::scan(rings) {
+        None => {
             io::write_all(1, b" triangle none");
         }
-        triples::Scanned::Triple(a, b, c) => {
-            console::show(b" triangle #,#,#", a, b, c, 0, 0);
+        Some((a, b, c)) => {
+            console::show(b" triangle #,#,#", &[a, b, c]);
         }
     }
 }
 
-// The plan alone, written as a file into the first bytes of a buffer; in place of the labels and points that it does not have stand its sizes and entries.
-fn write_part<'a>(
-    space: &mut [u8],
-    size: usize,
-    sizes: &'a [u8],
-    entries: &'a [u16],
-    n: usize,
-) -> writing::Written {
+// The plan alone, written as a file into the first bytes of a buffer, and how long it is. Where the buffer has fewer bytes, nothing is written.
+fn write_part(space: &mut [u8], size: usize, plan: &Table) -> Result<usize, Refusal> {
     if space.len() < size {
-        return writing::Written::Short(0);
+        return Err(Refusal::ShortBuffer(0));
     }
-    let out = &mut space[..size];
-    writing::write_file(
-        out,
-        writing::Parts::PlanOnly,
-        n,
-        sizes,
-        entries,
-        sizes,
-        0,
-        0,
-        entries,
-        entries,
-    )
+    let held = Held {
+        plan: *plan,
+        parts: writing::Parts::Plan,
+    };
+    writing::write_file(&mut space[..size], &held)
 }
 
 // The plan written into so many bytes, with what is said of it where they suffice: how many it takes, and how many of them are the file's; else how many it needs. Either number.
-fn print_part<'a>(
-    text: &'a [u8],
-    size: usize,
-    file: &'a [u8],
-    sizes: &'a [u8],
-    entries: &'a [u16],
-    n: usize,
-) -> usize {
+fn print_part(text: &[u8], size: usize, file: &[u8], plan: &Table) -> usize {
     let mut space = io::buffer();
-    let written = write_part(&mut space, size, sizes, entries, n);
-    match written {
-        writing::Written::Length(k) => {
-            console::show(text, k, comparison::agreeing(file, &space, k), 0, 0, 0);
+    match write_part(&mut space, size, plan) {
+        Ok(k) => {
+            console::show(text, &[k, comparison::agreeing(file, &space, k)]);
             k
         }
-        writing::Written::Short(k) => {
-            console::show(b" short #", k, 0, 0, 0, 0);
+        Err(refusal) => {
+            let k = refusal.place();
+            console::show(b" short #", &[k]);
             k
         }
     }
 }
 
 // The plan written into a buffer, into one that just fits, and into one that is a byte short.
-fn print_written<'a>(file: &'a [u8], sizes: &'a [u8], entries: &'a [u16], n: usize) {
-    let size = print_part(b" bytes # same #", 4096, file, sizes, entries, n);
-    print_part(b" length #", size, file, sizes, entries, n);
-    let less = numbers::minus(size, 1);
-    print_part(b" length #", less, file, sizes, entries, n);
-}
-
-// The points of n contexts.
-fn print_points<'a>(xs: &'a [u16], ys: &'a [u16], n: usize) {
-    let mut u = 0;
-    while u < n {
-        console::show(b" #,#", arrays::num(xs, u), arrays::num(ys, u), 0, 0, 0);
-        u += 1;
-    }
+fn print_written(file: &[u8], plan: &Table) {
+    let size = print_part(b" bytes # same #", 4096, file, plan);
+    print_part(b" length #", size, file, plan);
+    print_part(b" length #", size.saturating_sub(1), file, plan);
 }
 
 // A chart: its size and the point of each of n contexts.
-fn print_drawn(drawn: &placement::Drawn, n: usize) {
-    let w = numbers::wide_word(drawn.w);
-    let h = numbers::wide_word(drawn.h);
-    console::show(b" chart #x#", w, h, 0, 0, 0);
-    let xs = drawn.xs;
-    let ys = drawn.ys;
-    print_points(&xs, &ys, n);
+fn print_points(drawn: &Points, n: usize) {
+    console::show(b" chart #x#", &[usize::from(drawn.w), usize::from(drawn.h)]);
+    for u in 0..n {
+        console::show(
+            b" #,#",
+            &[arrays::num(drawn.xs, u), arrays::num(drawn.ys, u)],
+        );
+    }
 }
 
 // One coordinate of each point in the body of a chart record, from an offset on.
-fn points_in(chart: &[u8], from: usize) -> [u16; 200]
+fn coordinates_in(record: &[u8], from: usize) -> [u16; 200]
     requires { from ≤ 6 }
 {
-    let mut points = [0u16; 200];
-    let mut u = 0;
-    while u < 200 {
-        points[u] = arrays::word_at(chart, from + 4 * u) as u16;
-        u += 1;
+    let mut numbers = [0u16; 200];
+    for u in 0..200 {
+        numbers[u] = arrays::word_at(record, from + 4 * u) as u16;
     }
-    points
+    numbers
+}
+
+// Is the chart in the body of a chart record the one that is drawn?
+fn judge_record(record: &[u8], n: usize, drawn: &Points) -> Result<(), Refusal> {
+    let xs = coordinates_in(record, 4);
+    let ys = coordinates_in(record, 6);
+    let found = Points {
+        w: arrays::word_at(record, 0) as u16,
+        h: arrays::word_at(record, 2) as u16,
+        xs: &xs,
+        ys: &ys,
+    };
+    if charts::same_chart(n, &found, drawn) {
+        Ok(())
+    } else {
+        Err(Refusal::OtherChart)
+    }
 }
 
 // What the body of a chart record is refused by where a chart is drawn: 0 if it is the same, else 12.
-fn refusal_of<'a>(chart: &'a [u8], n: usize, drawn: &'a placement::Drawn) -> usize {
-    let w = arrays::word_at(chart, 0) as u16;
-    let h = arrays::word_at(chart, 2) as u16;
-    let xs = points_in(chart, 4);
-    let ys = points_in(chart, 6);
-    let dx = drawn.xs;
-    let dy = drawn.ys;
-    if charts::same_chart(n, w, h, &xs, &ys, drawn.w, drawn.h, &dx, &dy) {
-        return 0;
-    }
-    12
+fn print_record(record: &[u8], n: usize, drawn: &Points) {
+    let number = match judge_record(record, n, drawn) {
+        Ok(()) => 0,
+        Err(refusal) => usize::from(refusal.number()),
+    };
+    console::show(b" record #", &[number]);
 }
 
 // The chart of the labels, and whether a chart record, if the file has one at an offset, is the same.
-fn print_chart<'a>(
-    file: &'a [u8],
-    sizes: &'a [u8],
-    entries: &'a [u16],
-    n: usize,
-    labels: &'a [u8],
-    chart: usize,
-)
-    requires { n ≤ 200 }
+fn print_chart(file: &[u8], plan: &Table, labels: &[u8], chart: Option<usize>)
+    requires { plan.now.n ≤ 200 }
 {
-    let drawn = placement::chart_of(sizes, entries, n, labels);
-    if !drawn.found {
-        io::write_all(1, b" chart none");
-        return;
-    }
-    print_drawn(&drawn, n);
-    if chart != 0 {
-        let record = arrays::part(file, chart, 4 + 4 * n);
-        console::show(b" record #", refusal_of(record, n, &drawn), 0, 0, 0, 0);
+    match placement::chart_of(plan, labels) {
+        Err(_) => {
+            io::write_all(1, b" chart none");
+        }
+        Ok(drawn) => {
+            let n = plan.n;
+            print_points(&drawn.points(), n);
+            if let Some(at) = chart {
+                print_record(arrays::part(file, at, 4 + 4 * n), n, &drawn.points());
+            }
+        }
     }
 }
 
-// The place of the label rules where the file has labels at an offset, and the chart where they are kept.
-fn print_labels<'a>(
-    file: &'a [u8],
-    sizes: &'a [u8],
-    entries: &'a [u16],
-    n: usize,
-    at: usize,
-    chart: usize,
-)
-    requires { n ≤ 200 }
+// The place of the label rules for the labels at an offset, and the chart where they are kept.
+fn print_labels(file: &[u8], plan: &Table, at: usize, chart: Option<usize>)
+    requires { plan.now.n ≤ 200 }
 {
-    if at == 0 {
-        return;
-    }
-    let labels = arrays::part(file, at, numbers::minus(6 * n, 14));
-    let ten = conditions::rules_place(sizes, entries, n, labels);
-    console::show(b" 10:#", ten, 0, 0, 0, 0);
+    let n = plan.n;
+    let labels = arrays::part(file, at, (6 * n).saturating_sub(14));
+    let ten = conditions::rules_place(plan, labels);
+    console::show(b" 10:#", &[ten]);
     if n <= ten {
-        print_chart(file, sizes, entries, n, labels, chart);
+        print_chart(file, plan, labels, chart);
     }
 }
 
-// The rules 8 and 9, and on a plan that keeps them the scan, the plan written and the labels.
-fn print_flat<'a>(
-    file: &'a [u8],
-    starts: &'a [u16],
-    sizes: &'a [u8],
-    entries: &'a [u16],
-    n: usize,
-    labels: usize,
-    chart: usize,
-)
-    requires { n ≤ 200 }
+// The rules 8 and 9, and on a plan that keeps them the scan, the plan written and the labels, if the file has any.
+fn print_flat(file: &[u8], layout: &Layout, rings: &Rings)
+    requires { rings.now.n ≤ 200 }
 {
-    if print_flat_rules(starts, sizes, entries, n) {
-        print_scan(starts, sizes, entries, n);
-        print_written(file, sizes, entries, n);
-        print_labels(file, sizes, entries, n, labels, chart);
+    if !print_flat_rules(rings) {
+        return;
+    }
+    print_scan(rings);
+    let plan = Table {
+        sizes: rings.sizes,
+        entries: rings.entries,
+        n: rings.n,
+    };
+    print_written(file, &plan);
+    match layout.parts {
+        Parts::Plan => {}
+        Parts::Labels { labels } => print_labels(file, &plan, labels, None),
+        Parts::Chart { labels, chart } => print_labels(file, &plan, labels, Some(chart)),
     }
 }
 
-// What the leaves find in a plan that is framed, with labels and chart at these offsets.
-fn print_plan<'a>(file: &'a [u8], sizes: &'a [u8], n: usize, labels: usize, chart: usize)
-    requires { n ≤ 200 }
-{
-    let starts = rings::starts_of(sizes);
-    if print_lent_rules(file, &starts, sizes, n) {
-        let entries = entries_of(file, &starts, sizes, n);
-        print_flat(file, &starts, sizes, &entries, n, labels, chart);
+// What the leaves find in a plan that is framed.
+fn print_plan(file: &[u8], layout: &Layout) {
+    let starts = rings::starts_of(&layout.sizes);
+    let lent = LentRings {
+        file,
+        starts: &starts,
+        sizes: &layout.sizes,
+        n: layout.n,
+    };
+    if print_lent_rules(&lent) {
+        let rings = Rings {
+            starts: &starts,
+            sizes: &layout.sizes,
+            entries: &entries_of(&lent),
+            n: layout.n,
+        };
+        print_flat(file, layout, &rings);
     }
+}
+
+// The number of contexts, and the offsets of labels and chart.
+fn print_layout(layout: &Layout) {
+    let (labels, chart) = match layout.parts {
+        Parts::Plan => (0, 0),
+        Parts::Labels { labels } => (labels, 0),
+        Parts::Chart { labels, chart } => (labels, chart),
+    };
+    console::show(b"n # labels # chart #", &[layout.n, labels, chart]);
 }
 
 // A file: the refusal, or what stands in it.
 fn print_file(file: &[u8]) {
-    let layout = framing::frame_file(file);
-    let found = layout.found;
-    match found {
-        framing::Found::Refused(number, place) => {
-            console::show(
-                b"refused # at #",
-                numbers::wide_byte(number),
-                place,
-                0,
-                0,
-                0,
-            );
+    match framing::frame_file(file) {
+        Err(refusal) => {
+            let number = usize::from(refusal.number());
+            console::show(b"refused # at #", &[number, refusal.place()]);
         }
-        _ => {
-            console::show(
-                b"n # labels # chart #",
-                layout.n,
-                layout.labels,
-                layout.chart,
-                0,
-                0,
-            );
-            let sizes = layout.sizes;
-            print_plan(file, &sizes, layout.n, layout.labels, layout.chart);
+        Ok(layout) => {
+            print_layout(&layout);
+            print_plan(file, &layout);
         }
     }
+    io::write_all(1, b"\n");
 }
 
-// The files of an input, one after another.
-fn print_files(input: &[u8]) {
-    let mut at = 0;
-    while at < input.len() {
-        let size = arrays::word_at(input, at);
-        print_file(arrays::part(input, at + 2, size));
-        io::write_all(1, b"\n");
-        at += 2 + size;
-    }
-}
-
-// Runs the files of standard input.
+// Runs the files of standard input, one after another.
 fn main() {
     let mut space = io::large_buffer();
     let got = io::read_full(0, &mut space);
-    print_files(arrays::part(&space, 0, got));
+    let mut rest = arrays::part(&space, 0, got);
+    while let Some((file, behind)) = console::next_file(rest) {
+        print_file(file);
+        rest = behind;
+    }
 }

@@ -16,162 +16,150 @@
 // stdin and stdout beside this crate are made by the reference in rust/, by its examples calls_items and run_calls.
 #![tactic(auto)]
 
-ghost use Rattle.std.specs.Prelude.{◌≡◌, length};
+use refusal::Refusal;
+use sheet::Sheet;
 
-use sheet::{Compared, RingAnswer, Scanned, Sheet, Written};
-
-// Room for the argument of an item.
-fn argument_room() -> [u8; 131072]
-    ensures { 131072 ≡ length result }
-{
-    [0; 131072]
+// The kinds of items.
+#[derive(Clone, Copy)]
+enum Kind {
+    Write,
+    OpenWrite,
+    Ring,
+    Scan,
+    Same,
 }
 
-// A buffer to write into, of which a part is lent.
-fn wide_buffer() -> [u8; 65536]
-    ensures { 65536 ≡ length result }
-{
-    [170; 65536]
+impl Kind {
+    // The kind with this number, if there is one.
+    fn of(number: u8) -> Option<Kind> {
+        match number {
+            0 => Some(Kind::Write),
+            1 => Some(Kind::OpenWrite),
+            2 => Some(Kind::Ring),
+            3 => Some(Kind::Scan),
+            4 => Some(Kind::Same),
+            _ => None,
+        }
+    }
+
+    // The name that its line begins with.
+    fn name(self) -> &'static [u8] {
+        match self {
+            Kind::Write => b"write      ",
+            Kind::OpenWrite => b"open_write ",
+            Kind::Ring => b"ring       ",
+            Kind::Scan => b"scan       ",
+            Kind::Same => b"same       ",
+        }
+    }
 }
 
 // Writes a refusal: its number and its place.
-fn show_refusal(number: u8, place: usize) {
-    console::show(
-        b"refused # at #",
-        numbers::wide_byte(number),
-        place,
-        0,
-        0,
-        0,
-    );
+fn show_refusal(refusal: Refusal) {
+    let number = usize::from(refusal.number());
+    console::show(b"refused # at #", &[number, refusal.place()]);
 }
 
 // Writes how many bytes there are, and their checksum.
 fn show_bytes(bytes: &[u8]) {
     console::show(
         b"; # bytes, checksum #",
-        bytes.len(),
-        comparison::checksum(bytes),
-        0,
-        0,
-        0,
+        &[bytes.len(), comparison::checksum(bytes)],
     );
 }
 
 // The sheet that a fresh one becomes when a file is opened.
 fn opened(file: &[u8]) -> Sheet {
-    let outcome = opening::open_file(sheet::fresh_sheet(), file);
-    outcome.sheet
+    opening::open_file(file).unwrap_or(sheet::fresh_sheet())
 }
 
 // Same.
-fn run_same(one: Sheet, other: Sheet) {
-    let answer = reports::same(one, other);
-    match answer {
-        Compared::Same => {
+fn run_same(one: &Sheet, other: &Sheet) {
+    match reports::same(one, other) {
+        Ok(true) => {
             io::write_all(1, b"yes");
         }
-        Compared::Different => {
+        Ok(false) => {
             io::write_all(1, b"no");
         }
-        Compared::Refused(number, place) => show_refusal(number, place),
+        Err(refusal) => show_refusal(refusal),
     }
 }
 
 // Scan.
-fn run_scan(sheet: Sheet) {
-    let answer = reports::scan(sheet);
-    match answer {
-        Scanned::Triple(a, b, c) => {
-            console::show(b"#,#,#", a, b, c, 0, 0);
+fn run_scan(sheet: &Sheet) {
+    match reports::scan(sheet) {
+        Ok(Some((a, b, c))) => {
+            console::show(b"#,#,#", &[a, b, c]);
         }
-        Scanned::Nothing => {
+        Ok(None) => {
             io::write_all(1, b"none");
         }
-        Scanned::Refused(number, place) => show_refusal(number, place),
+        Err(refusal) => show_refusal(refusal),
     }
 }
 
 // Ring: the answer, and the part that is handed back.
 fn run_ring(file: &[u8], context: usize) {
-    let answer = files::ring_answer(file, context);
-    match answer {
-        RingAnswer::Part(at, size) => {
-            console::show(b"at #, length #", at, size, 0, 0, 0);
+    match files::ring_answer(file, context) {
+        Ok(part) => {
+            console::show(b"at #, length #", &[part.at, part.size]);
         }
-        RingAnswer::Refused(number, place) => show_refusal(number, place),
+        Err(refusal) => show_refusal(refusal),
     }
     show_bytes(files::ring(file, context));
 }
 
-// Write, or open_write.
-fn write_by(kind: usize, file: &[u8], out: &mut [u8]) -> Written {
-    if kind == 0 {
-        return reports::write(opened(file), out);
-    }
-    files::open_write(file, out)
-}
-
-// The same: the answer, and the whole buffer afterwards.
-fn run_into(kind: usize, file: &[u8], out: &mut [u8]) {
-    let answer = write_by(kind, file, out);
-    match answer {
-        Written::Length(k) => {
-            console::show(b"length #", k, 0, 0, 0, 0);
+// A call that writes into a buffer of a length: the answer, and the whole buffer afterwards.
+fn run_write<F: FnOnce(&mut [u8]) -> Result<usize, Refusal>>(size: usize, write: F)
+    requires { F.IsAlwaysCallable write }
+{
+    let mut space = [170u8; 65536];
+    let out = &mut space[..size % 65536];
+    match write(out) {
+        Ok(k) => {
+            console::show(b"length #", &[k]);
         }
-        Written::Refused(number, place) => show_refusal(number, place),
+        Err(refusal) => show_refusal(refusal),
     }
     show_bytes(out);
 }
 
-// The same into a buffer of a length.
-fn run_write(kind: usize, file: &[u8], size: usize) {
-    let mut space = wide_buffer();
-    run_into(kind, file, &mut space[..size % 65536]);
-}
-
 // Bytes from an index on.
 fn behind(bytes: &[u8], at: usize) -> &[u8] {
-    arrays::part(bytes, at, numbers::minus(bytes.len(), at))
+    &bytes[bytes.len().min(at)..]
 }
 
 // The call of an item.
-fn run_call(kind: usize, number: usize, file: &[u8]) {
+fn run_call(kind: Kind, number: usize, file: &[u8]) {
     match kind {
-        2 => run_ring(file, number),
-        3 => run_scan(opened(file)),
-        4 => run_same(
-            opened(arrays::part(file, 0, number)),
-            opened(behind(file, number)),
+        Kind::Write => run_write(number, |out| reports::write(&opened(file), out)),
+        Kind::OpenWrite => run_write(number, |out| files::open_write(file, out)),
+        Kind::Ring => run_ring(file, number),
+        Kind::Scan => run_scan(&opened(file)),
+        Kind::Same => run_same(
+            &opened(arrays::part(file, 0, number)),
+            &opened(behind(file, number)),
         ),
-        _ => run_write(kind, file, number),
     }
 }
 
 // The line of an item.
-fn run_item(kind: usize, argument: &[u8]) {
-    let names = b"write      open_write ring       scan       same       ";
-    io::write_all(1, arrays::part(names, kind % 5 * 11, 11));
+fn run_item(kind: Kind, argument: &[u8]) {
+    io::write_all(1, kind.name());
     run_call(kind, arrays::word_at(argument, 0), behind(argument, 2));
     io::write_all(1, b"\n");
 }
 
-// Runs the items of standard input, one after another; how many there were.
-fn run_items() -> usize {
-    let mut space = argument_room();
-    let mut done = 0usize;
-    while done < 100000 {
-        let item = console::read_item(&mut space);
-        if 4 < item % 256 {
-            return done;
-        }
-        run_item(item % 256, arrays::part(&space, 0, item / 256));
-        done += 1;
-    }
-    done
-}
-
-// Runs the items, and says how many there were.
+// Runs the items of standard input, one after another, and says how many there were.
 fn main() {
-    console::show(b"# items\n", run_items(), 0, 0, 0, 0);
+    let mut space = [0u8; 131072];
+    let done = console::run_items(&mut space, |kind, argument| match Kind::of(kind) {
+        None => false,
+        Some(kind) => {
+            run_item(kind, argument);
+            true
+        }
+    });
+    console::show(b"# items\n", &[done]);
 }

@@ -11,35 +11,29 @@
 fn run_script(script: &[u8]) {
     let ran = script::run_script(script);
     let sheet = ran.sheet;
-    let stage = sheet.stage;
     let mut space = io::large_buffer();
-    reports::write(sheet, &mut space);
+    let _ = reports::write(&sheet, &mut space);
     console::show(
         b"script of # ends at #; stage #, n #, checksum #\n",
-        script.len(),
-        ran.at,
-        sheet::rank_of(stage),
-        numbers::wide_word(sheet.n),
-        comparison::checksum(&space),
+        &[
+            script.len(),
+            ran.at,
+            sheet::rank_of(sheet.stage),
+            usize::from(sheet.n),
+            comparison::checksum(&space),
+        ],
     );
 }
 
-// Runs the items of standard input, one after another; how many there were.
-fn run_items() -> usize {
-    let mut space = io::large_buffer();
-    let mut done = 0usize;
-    while done < 100000 {
-        let item = console::read_item(&mut space);
-        if 0 < item % 256 {
-            return done;
-        }
-        run_script(arrays::part(&space, 0, item / 256));
-        done += 1;
-    }
-    done
-}
-
-// Runs the items, and says how many there were.
+// Runs the items of standard input, one after another, and says how many there were.
 fn main() {
-    console::show(b"# items\n", run_items(), 0, 0, 0, 0);
+    let mut space = io::large_buffer();
+    let done = console::run_items(&mut space, |kind, script| {
+        if kind != 0 {
+            return false;
+        }
+        run_script(script);
+        true
+    });
+    console::show(b"# items\n", &[done]);
 }

@@ -1,5 +1,4 @@
--- What the loops of agreeing keep.
-use Prim.Native.Nat.{◌-◌}
+-- What the loop of agreeing keeps.
 use mathlib.Core.Bool.{not}
 use lib.ListN.{get_or}
 use lib.Dec.{eqb}
@@ -8,6 +7,3 @@ use Rattle.comparison.proofs.agreeing.Given as goal
 
 abbrev pub invariant-loop-i : goal.invariant-loop-i
 invariant-loop-i l = Looks (λ j. not (eqb (get_or l.a j 0) (get_or l.b j 0))) l.k l.i
-
-abbrev pub decreases-loop-i : goal.decreases-loop-i
-decreases-loop-i l = l.k - l.i

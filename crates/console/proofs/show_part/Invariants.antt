@@ -1,12 +1,9 @@
--- What the loops of show_part keep.
+-- What the loop of show_part keeps.
+use Prim.Native.Nat.{◌≤◌, max}
 use mathlib.Core.Path.{◌≡◌}
-use Prim.Native.Nat.{◌-◌}
 use lib.ListN.{length}
 use Rattle.console.specs.Lines.{behind}
 use Rattle.console.proofs.show_part.Given as goal
 
 abbrev pub invariant-loop-i : goal.invariant-loop-i
-invariant-loop-i l = behind l.text l.from ≡ behind l.text l.i
-
-abbrev pub decreases-loop-i : goal.decreases-loop-i
-decreases-loop-i l = length l.text - l.i
+invariant-loop-i l = (l.i ≤ max l.from (length l.text)) × (behind l.text l.from ≡ behind l.text l.i)

@@ -1,7 +1,6 @@
 -- plan_file meets its contract.
-use mathlib.Core.Path.{sym}
+use Rattle.std.proofs.Common.{sym, arith}
 use lib.Seq.{take_all}
-use native.Mathlib.Omega.{arith}
 use Rattle.printing.proofs.plan_file.Goals as goal
 
 pub returns-then-input-lt8192 : goal.returns-then-input-lt8192

@@ -1,20 +1,14 @@
 -- put_chart meets its contract.
-use mathlib.Core.Path.{◌∙◌}
-use mathlib.Core.List.{◌++◌}
+use Rattle.std.proofs.Common.{◌++◌, arith}
 use Rattle.forms.specs.Words.{letters}
+use Rattle.forms.specs.Forms.{line}
 use Rattle.printing.specs.Text.{size_line, point_lines}
 use Rattle.printing.proofs.Prints.{prints_wide, prints_join, prints_as}
-use Rattle.printing.proofs.Texts.{size_form}
-use native.Mathlib.Omega.{arith}
 use Rattle.printing.proofs.put_chart.Goals as goal
 
 pub returns : goal.returns
-unfolding letters
+unfolding size_line line letters
 returns c =
-    let s = c.args.sheet in
-    let w = c.wide_word in
-    let h = c.wide_word-2 in
-    let n = c.wide_word-3 in
-    let wide = w.ensures.upper_bound in
-    let high = h.ensures.upper_bound in
-    prints_as (prints_join (prints_wide _ c.put-to.ensures (omega arith) (omega arith) (omega arith)) c.put_points.ensures) ((λ i. size_form w.result h.result i ++ point_lines s.xs s.ys n.result) ∙ (λ i. size_line (w.ensures.value i) (h.ensures.value i) ++ point_lines s.xs s.ys (n.ensures.value i))) (omega arith)
+    let s = c.args.sheet.now in
+    let p = c.points_of.ensures in
+    prints_as (prints_join (prints_wide _ _ c.put-to.ensures (omega arith, (omega arith, tt))) c.put_points.ensures) (λ i. size_line (c.from.ensures i) (c.from-2.ensures i) ++ point_lines (p.xs i) (p.ys i) (c.from-3.ensures i)) (omega arith)

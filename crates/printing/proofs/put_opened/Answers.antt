@@ -1,19 +1,13 @@
 -- put_opened meets its contract.
-use Prim.Native.Nat.{ℕ}
-use mathlib.Core.Path.{ap, ◌∙◌}
-use mathlib.Core.List.{List, ◌++◌}
-use Rattle.sheet.specs.Sheets.{reads as readsAs}
+use Rattle.std.proofs.Common.{ℕ, ◌++◌, ap, ◌∙◌, arith}
+use Rattle.sheet.specs.Sheets.{reads as reads_as}
 use Rattle.forms.specs.Words.{letters}
+use Rattle.forms.specs.Forms.{line}
 use Rattle.printing.specs.Text.{plan_line, scan_text}
 use Rattle.printing.proofs.Prints.{prints_wide, prints_join, prints_as}
-use Rattle.printing.proofs.Texts.{plan_form, plan_printed}
-use native.Mathlib.Omega.{arith}
+use Rattle.printing.proofs.Texts.{plan_printed}
 use Rattle.printing.proofs.put_opened.Goals as goal
 
 pub returns : goal.returns
-unfolding letters
-returns c =
-    let s = c.args.sheet in
-    let n = c.wide_word.ensures in
-    let small = n.upper_bound in
-    prints_as (prints_join (prints_wide _ c.put-to.ensures (omega arith) (omega arith) (omega arith)) c.put_scanned.ensures) (ap (λ (l : List ℕ). l ++ scan_text (readsAs s)) (plan_form _) ∙ ap (λ (k : ℕ). plan_line k ++ scan_text (readsAs s)) n.value ∙ plan_printed s c.requires) (omega arith)
+unfolding plan_line line letters
+returns c = prints_as (prints_join (prints_wide _ _ c.put-to.ensures (omega arith, tt)) c.put_scanned.ensures) (ap (λ (n : ℕ). plan_line n ++ scan_text (reads_as c.args.sheet.now)) c.from.ensures ∙ plan_printed c.args.sheet.now c.requires) (omega arith)

@@ -1,11 +1,8 @@
--- What the loops of put_points keep.
-use Prim.Native.Nat.{◌-◌, ◌*◌, ◌≤◌}
+-- What the loop of put_points keeps.
+use Rattle.std.proofs.Common.{◌*◌}
 use Rattle.printing.specs.Text.{point_lines}
 use Rattle.printing.specs.Prints.{Prints}
 use Rattle.printing.proofs.put_points.Given as goal
 
 abbrev pub invariant-loop-u : goal.invariant-loop-u
-invariant-loop-u l = (l.u ≤ l.n) × Prints l.initial.out l.at (point_lines l.xs l.ys l.u) l.out l.to (18 * l.u)
-
-abbrev pub decreases-loop-u : goal.decreases-loop-u
-decreases-loop-u l = l.n - l.u
+invariant-loop-u l = Prints l.initial.out l.at (point_lines l.points.xs.now l.points.ys.now l.u) l.out l.to (18 * l.u)

@@ -1,17 +1,12 @@
 -- put_refusal meets its contract.
-use Prim.Native.Nat.{ℕ}
-use mathlib.Core.Path.{ap, ◌∙◌}
+use Rattle.std.proofs.Common.{◌∙◌, arith}
 use Rattle.forms.specs.Words.{letters}
+use Rattle.forms.specs.Forms.{line}
 use Rattle.printing.specs.Text.{refusal_line}
 use Rattle.printing.proofs.Prints.{prints_wide, prints_as}
-use Rattle.printing.proofs.Texts.{refusal_form}
-use native.Mathlib.Omega.{arith}
 use Rattle.printing.proofs.put_refusal.Goals as goal
 
 pub returns : goal.returns
-unfolding letters
+unfolding refusal_line line letters
 returns c =
-    let a = c.args in
-    let n = c.wide_byte.ensures in
-    let small = n.upper_bound in
-    prints_as (prints_wide _ c.put.ensures (omega arith) (omega arith) (omega arith)) (refusal_form _ _ ∙ ap (λ (k : ℕ). refusal_line k a.place) n.value) (omega arith)
+    prints_as (prints_wide _ _ c.put.ensures (omega arith, (omega arith, tt))) (λ i. refusal_line ((c.from-number.ensures ∙ c.number.ensures) i) (c.place.ensures i)) (omega arith)

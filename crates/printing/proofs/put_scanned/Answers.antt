@@ -1,27 +1,29 @@
 -- put_scanned meets its contract.
-use Prim.Native.Nat.{ℕ}
-use mathlib.Core.List.{List, ◌++◌}
-use mathlib.Core.Path.{sym, ap, ◌∙◌}
-use mathlib.Core.Option.{none, some}
+use Rattle.std.proofs.Common.{[], Ok, sym, ap, ◌∙◌, arith}
+use Rattle.std.proofs.Math.Option.{none, some}
 use Rattle.model.specs.Outcome.{accepted, refused}
-use Rattle.sheet.specs.Sheets.{reads as readsAs}
-use Rattle.sheet.specs.Answers.{scanned_as}
+use Rattle.triples.specs.Scanned as plans
+use Rattle.reports.specs.Scanned.{scanned_as}
+use Rattle.sheet.specs.Sheets.{reads as reads_as}
 use Rattle.forms.specs.Words.{letters}
-use Rattle.forms.specs.Forms.{line}
-use Rattle.printing.specs.Text.{triangle_line, told, sweep_text}
+use Rattle.forms.specs.Forms.{filled, stands, mark}
+use Rattle.printing.specs.Text.{triangle_line, told}
 use Rattle.printing.proofs.Prints.{prints_wide, prints_join, prints_as}
-use Rattle.printing.proofs.Texts.{none_form, scan-answered}
-use native.Mathlib.Omega.{arith}
+use Rattle.printing.proofs.Texts.{scan-answered}
 use Rattle.printing.proofs.put_scanned.Goals as goal
 
-pub returns-in-Refused : goal.returns-in-Refused
+pub returns-in-Err : goal.returns-in-Err
 unfolding told scanned_as
-returns-in-Refused c = prints_as c.put_refusal.ensures (scan-answered (readsAs c.args.sheet) (refused _ _) (sym (ap scanned_as c.in-Refused.is) ∙ c.scan-found.ensures)) (omega arith)
+returns-in-Err c = prints_as c.put_refusal.ensures (scan-answered (reads_as c.args.sheet.now) (refused _ _) (sym (ap scanned_as c.in-Err.is) ∙ c.scan.ensures)) (omega arith)
 
-pub returns-in-Nothing : goal.returns-in-Nothing
-unfolding told scanned_as letters
-returns-in-Nothing c = prints_as (prints_join (prints_wide _ c.put-to.ensures (omega arith) (omega arith) (omega arith)) c.put_swept.ensures) (ap (λ (l : List ℕ). l ++ sweep_text (readsAs c.args.sheet)) none_form ∙ scan-answered (readsAs c.args.sheet) (accepted none) (sym (ap scanned_as c.in-Nothing.is) ∙ c.scan-found.ensures)) (omega arith)
+pub returns-in-Ok-None : goal.returns-in-Ok-None
+unfolding told scanned_as plans.scanned_as triangle_line filled stands mark letters
+returns-in-Ok-None c =
+    let is = c.in-Ok-None.is ∙ ap Ok c.in-Ok-None.field-0-is in
+    prints_as (prints_join (prints_wide (letters "triangle none\n") [] c.put-to.ensures tt) c.put_swept.ensures) (scan-answered (reads_as c.args.sheet.now) (accepted none) (sym (ap scanned_as is) ∙ c.scan.ensures)) (omega arith)
 
-pub returns-in-Triple : goal.returns-in-Triple
-unfolding told scanned_as triangle_line line letters
-returns-in-Triple c = prints_as (prints_join (prints_wide _ c.put-to-in-Triple.ensures (omega arith) (omega arith) (omega arith)) c.put_swept-in-Triple.ensures) (scan-answered (readsAs c.args.sheet) (accepted (some _)) (sym (ap scanned_as c.in-Triple.is) ∙ c.scan-found.ensures)) (omega arith)
+pub returns-in-Ok-Some : goal.returns-in-Ok-Some
+unfolding told scanned_as plans.scanned_as
+returns-in-Ok-Some c =
+    let is = c.in-Ok-Some.is ∙ ap Ok c.in-Ok-Some.field-0-is in
+    prints_as (prints_join c.put_triangle-to.ensures c.put_swept-in-Ok-Some.ensures) (scan-answered (reads_as c.args.sheet.now) (accepted (some _)) (sym (ap scanned_as is) ∙ c.scan.ensures)) (omega arith)

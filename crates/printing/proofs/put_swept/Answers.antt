@@ -1,18 +1,14 @@
 -- put_swept meets its contract.
-use mathlib.Core.Path.{sym, ap, ◌∙◌}
-use Rattle.sheet.specs.Sheets.{reads as readsAs}
-use Rattle.sheet.specs.Answers.{answer_as}
+use Rattle.std.proofs.Common.{sym, ap, ◌∙◌, arith}
+use Rattle.refusal.specs.Refusals.{told}
+use Rattle.sheet.specs.Sheets.{reads as reads_as}
 use Rattle.printing.proofs.Prints.{prints_as}
 use Rattle.printing.proofs.Texts.{sweep-refused, sweep-accepted}
-use native.Mathlib.Omega.{arith}
 use Rattle.printing.proofs.put_swept.Goals as goal
 
-pub returns-in-Refused : goal.returns-in-Refused
-unfolding answer_as
-returns-in-Refused c = prints_as c.put_refusal.ensures (sweep-refused (readsAs c.args.sheet) (sym (ap answer_as c.in-Refused.is) ∙ c.sweep-outcome.ensures.answer_value)) (omega arith)
+pub returns-in-Err : goal.returns-in-Err
+returns-in-Err c = prints_as c.put_refusal.ensures (sweep-refused (reads_as c.args.sheet.now) (sym (ap told c.in-Err.is) ∙ c.sweep.ensures)) (omega arith)
 
-pub returns-in-Accepted : goal.returns-in-Accepted
-unfolding answer_as
-returns-in-Accepted c =
-    let o = c.sweep-outcome in
-    prints_as c.put_drawn.ensures (sweep-accepted c.args.sheet o.result.sheet (sym (ap answer_as c.in-Accepted.is) ∙ o.ensures.answer_value) o.ensures.sheet_value) (omega arith)
+pub returns-in-Ok : goal.returns-in-Ok
+returns-in-Ok c =
+    prints_as c.put_drawn.ensures (sweep-accepted c.args.sheet.now c.in-Ok.swept (sym (ap told c.in-Ok.is) ∙ c.sweep.ensures)) (omega arith)

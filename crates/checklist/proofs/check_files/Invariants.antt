@@ -1,9 +1,0 @@
--- What the loops of check_files keep.
-use Rattle.std.proofs.Common.{◌-◌, length}
-use Rattle.checklist.proofs.check_files.Given as goal
-
-abbrev pub invariant-loop-at : goal.invariant-loop-at
-invariant-loop-at l = Unit {0}
-
-abbrev pub decreases-loop-at : goal.decreases-loop-at
-decreases-loop-at l = length l.input - l.at
