@@ -15,14 +15,14 @@ CRATES = ROOT / "crates"
 NAMES = sorted(it.name for it in CRATES.iterdir())
 NAME = r"[A-Za-zℕ_][\w'ℕ-]*"
 # Words of Rattle and of its library, and files and texts that the page names.
-KIT = set("min set get_or requires List io rt name".split())
+KIT = set("min set get_or requires List Result io rt name".split())
 
 
 def declared(path):
     """The names that a file declares: of proofs/ and specs/ whatever stands before a colon, of src/ each function, type, field and case."""
     text = path.read_text(encoding="utf-8")
     if path.suffix == ".rt":
-        return set(re.findall(r"\b(?:fn|struct|enum|mod|const)\s+(\w+)", text)) | set(re.findall(r"(?m)^\s+(?:pub )?(\w+)(?=\(|:|,|$)", text))
+        return set(re.findall(r"\b(?:fn|struct|enum|trait|mod|const)\s+(\w+)", text)) | set(re.findall(r"(?m)^\s+(?:pub )?(\w+)(?=\(|:|,|$)", text))
     found = set()
     for line in text.split("\n"):
         head = re.match(r"\s*(?:(?:abbrev|unfoldable|pub|data|record|ruleset)\s+)*(" + NAME + r")(?:\s*[({][^:]*:[^)}]*[)}])*\s*:(?:\s|$)", line)
