@@ -19,6 +19,11 @@ use Rattle.verdicts.specs.declared.Turned.{Turned}
 abbrev pub tallied : Tally → Bool → Tally
 tallied t right = record { checks = (t.checks + 1) % 2 ^ 64; wrong = (t.wrong + cond right 0 1) % 2 ^ 64 }
 
+-- what is written of an answer: 0 at 0 where it is accepted, else the refusal's number and place
+abbrev pub shown_as : {A : Type 0} → Result A Refusal → ℕ × ℕ
+shown_as (Ok a) = (0, 0)
+shown_as (Err r) = (number_of r, place_of r)
+
 -- a call is refused 13 at 0
 abbrev pub is_early : {A : Type 0} → Result A Refusal → Bool
 is_early (Ok a) = false

@@ -4,7 +4,7 @@
 #![tactic(auto)]
 
 ghost use Rattle.std.specs.Prelude.{◌≡◌};
-ghost use Rattle.verdicts.specs.Verdicts.{tallied, is_early, undrawn, opened_tally, triple, file_tally, chart_due, answered, drawn_tally, areas_tally, chart_tally, turn_tally, afresh, written};
+ghost use Rattle.verdicts.specs.Verdicts.{shown_as, tallied, is_early, undrawn, opened_tally, triple, file_tally, chart_due, answered, drawn_tally, areas_tally, chart_tally, turn_tally, afresh, written};
 
 use refusal::Refusal;
 use sheet::{Sheet, Stage};
@@ -48,7 +48,9 @@ impl Tally {
 }
 
 // The number and the place of an answer, as they are written.
-fn answer_of<A>(answer: &Result<A, Refusal>) -> (usize, usize) {
+fn answer_of<A>(answer: &Result<A, Refusal>) -> (usize, usize)
+    ensures { result ≡ shown_as answer.now }
+{
     match answer {
         Ok(_) => (0, 0),
         Err(refusal) => (usize::from(refusal.number()), refusal.place()),
