@@ -1,9 +1,10 @@
 // Total accessors of lent arrays, for the code of every crate above: what lies outside an array reads as 0, and nothing is put there.
 #![tactic(auto)]
 
-ghost use Rattle.std.specs.Prelude.{◌≡◌, ℕ, ◌+◌, ◌*◌, ◌<◌, ◌^◌, get_or, set, refl};
+ghost use Rattle.std.specs.Prelude.{◌≡◌, ℕ, ◌+◌, ◌*◌, ◌<◌, ◌^◌, min, get_or, set, refl};
 ghost use Rattle.std.proofs.Common.{rules};
-ghost use Rattle.arrays.specs.Parts.{part_at};
+ghost use Rattle.lists.specs.Spans.{padded};
+ghost use Rattle.arrays.specs.Parts.{part_at, words_every};
 
 // What an array holds as a number: a byte, or a number of two bytes.
 pub trait Number: Copy {
@@ -63,31 +64,41 @@ impl Number for u16 {
     }
 }
 
+// What stands at i, as it stands.
+pub fn at<T: Number>(a: &[T], i: usize) -> T
+    ensures { result ≡ get_or a.now i T.nothing }
+{
+    if i < a.len() { a[i] } else { T::zero() }
+}
+
 // The number at i.
 pub fn num<T: Number>(a: &[T], i: usize) -> usize
     ensures value { result ≡ T.value (get_or a.now i T.nothing) }
     ensures upper_bound { result < T.bound }
 {
-    if i < a.len() { a[i].number() } else { 0 }
+    at(a, i).number()
 }
 
 // The number of two bytes, little-endian, at i.
-pub fn word_at(a: &[u8], i: usize) -> usize
-    ensures value { result ≡ get_or a.now i 0 + 256 * get_or a.now (i + 1) 0 }
-    ensures upper_bound { result < 2 ^ 16 }
+pub fn word_at(a: &[u8], i: usize) -> u16
+    ensures { result ≡ get_or a.now i 0 + 256 * get_or a.now (i + 1) 0 }
 {
     if i < a.len() {
-        num(a, i) + 256 * num(a, i + 1)
+        u16::from_le_bytes([a[i], at(a, i + 1)])
     } else {
         0
     }
 }
 
-// The number of two bytes at i, as it stands.
-pub fn word(a: &[u16], i: usize) -> u16
-    ensures { result ≡ get_or a.now i 0 }
+// The first k numbers of two bytes from an index on, one every so many bytes, and zeros behind them; of more than there is room for, the first N.
+pub fn words<const N: usize>(a: &[u8], from: usize, step: usize, k: usize) -> [u16; N]
+    ensures { result ≡ padded N (words_every a.now from step (min k N)) }
 {
-    if i < a.len() { a[i] } else { 0 }
+    let mut numbers = [0u16; N];
+    for i in 0..k.min(N) {
+        numbers[i] = word_at(a, from.saturating_add(step.saturating_mul(i)));
+    }
+    numbers
 }
 
 // Puts a number at a place; past the end there is nothing to put.

@@ -33,12 +33,7 @@ pub fn is_in_bounds(sizes: &[u8], n: usize) -> bool
 fn any_strange(entries: &[u16], k: usize, n: usize) -> bool
     ensures { result ≡ any (strange n) (span entries.now 0 k) }
 {
-    for i in 0..k {
-        if n <= rings::neighbour_of(arrays::num(entries, i)) {
-            return true;
-        }
-    }
-    false
+    (0..k).any(|i| n <= rings::neighbour_of(arrays::num(entries, i)))
 }
 
 // Does the plan fit?

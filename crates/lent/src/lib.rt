@@ -9,6 +9,8 @@ ghost use Rattle.rings.specs.Tables.{size_of};
 ghost use Rattle.rings.specs.Lent.{body_at};
 ghost use Rattle.lent.specs.Plans.{lent_of};
 
+use rings::Ringed;
+
 // Rings in a lent file: the file, where each ring begins among the entries of all, the size of each, and how many contexts there are.
 #[derive(Clone, Copy)]
 pub struct LentRings<'a> {
@@ -18,7 +20,7 @@ pub struct LentRings<'a> {
     pub n: usize,
 }
 
-impl<'a> LentRings<'a> {
+impl LentRings<'_> {
     // The size of u's ring.
     pub fn size_of(&self, u: usize) -> usize
         ensures value { result ≡ size_of self.now.sizes.now self.now.n u }
@@ -28,7 +30,7 @@ impl<'a> LentRings<'a> {
     }
 
     // The number of two bytes that is entry i of u's ring; 0 past the file's end.
-    fn entry_at(&self, u: usize, i: usize) -> usize
+    fn entry_at(&self, u: usize, i: usize) -> u16
         requires { i < 2 ^ 8 }
         ensures { result ≡ get_or self.now.file.now (body_at self.now.starts.now u + 2 * i) 0 + 256 * get_or self.now.file.now (body_at self.now.starts.now u + 2 * i + 1) 0 }
     {
@@ -44,7 +46,7 @@ impl<'a> LentRings<'a> {
         ensures { result ≡ get_or (ring (lent_of self.now) u) i 0 }
     {
         if i < self.size_of(u) {
-            rings::neighbour_of(self.entry_at(u, i))
+            rings::neighbour_of(usize::from(self.entry_at(u, i)))
         } else {
             0
         }
@@ -54,12 +56,22 @@ impl<'a> LentRings<'a> {
     pub fn is_from(&self, u: usize, v: usize, a: usize) -> bool
         ensures { result ≡ member v (span (ring (lent_of self.now) u) a (size_of self.now.sizes.now self.now.n u)) }
     {
-        let e = self.size_of(u);
-        for i in a..e {
-            if v == self.neighbour_at(u, i) {
-                return true;
-            }
-        }
-        false
+        (a..self.size_of(u)).any(|i| v == self.neighbour_at(u, i))
+    }
+}
+
+impl Ringed for LentRings<'_> {
+    ghost plan = { lent_of };
+
+    fn count(&self) -> usize {
+        self.n
+    }
+
+    fn size_of(&self, u: usize) -> usize {
+        self.size_of(u)
+    }
+
+    fn neighbour_at(&self, u: usize, i: usize) -> usize {
+        self.neighbour_at(u, i)
     }
 }

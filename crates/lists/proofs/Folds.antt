@@ -11,7 +11,7 @@ use Rattle.lists.specs.Tests.{all}
 use Rattle.lists.specs.Ranges.{from}
 use Rattle.lists.specs.Folds.{each, through, down, some_of, some}
 
--- ---- while i < e { s = step(i, s); i += 1; }
+-- ---- for i in a..e { s = step(i, s); }
 pub record Goes {A : Type 0} (step : ℕ → A → A) (a e : ℕ) (s₀ : A) (i : ℕ) (s : A) : Type 0 where
   pub same : through step a e s₀ ≡ through step i e s
 
@@ -36,7 +36,7 @@ module _ {A : Type 0} {step : ℕ → A → A} {a e i : ℕ} {s₀ s : A} (inv :
   unfolding each
   goes_end h = let z : e - i ≡ 0 = omega arith in sym (inv.same ∙ rw z)
 
--- ---- while k > 0 { s = step(k - 1, s); k -= 1; }
+-- ---- for k in (0..n).rev() { s = step(k, s); }
 pub record Sinks {A : Type 0} (step : ℕ → A → A) (n : ℕ) (s₀ : A) (k : ℕ) (s : A) : Type 0 where
   pub same : down step n s₀ ≡ down step k s
 
@@ -55,7 +55,7 @@ module _ {A : Type 0} {step : ℕ → A → A} {n k : ℕ} {s₀ s : A} (inv : S
   unfolding down
   sinks_end z = sym (inv.same ∙ rw z)
 
--- ---- while i < e { if p(i) { return true; } i += 1; } false
+-- ---- for i in a..e { if p(i) { return true; } } false
 pub record Seeks (p : ℕ → Bool) (a e i : ℕ) : Type 0 where
   pub same : some p a e ≡ some p i e
 

@@ -8,6 +8,8 @@ pub mod Falling
 pub mod Parts
 pub mod Spans
 pub mod Loops
+pub mod Found
+pub mod Chains
 pub mod Words
 pub mod Once
 pub mod Sums

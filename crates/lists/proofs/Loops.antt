@@ -1,22 +1,18 @@
 -- What the loops of the engine keep, each with a law for its start, its steps and its end:
--- the lowest number that passes (Looks), whether some entry of a span passes (Sees), where an entry stands (Finds), an array that is filled from the front (Fills).
+-- the lowest number that passes (Looks), an array that is filled from the front (Fills).
 use Prim.Native.Nat.{ℕ, suc, ◌+◌, ◌-◌, ◌≤◌, ◌<◌}
 use mathlib.Core.Path.{◌≡◌, refl, sym, ap, ◌∙◌}
 use mathlib.Core.List.{List, [], ◌∷◌, ◌++◌, map, append-nil}
 use mathlib.Core.Bool.{Bool, true, false, cond}
 use native.Mathlib.Omega.{arith}
-use lib.ListN.{length, get_or, set, length-append, replicate, length-replicate}
+use lib.ListN.{length, set, length-append, replicate, length-replicate}
 use lib.Seq.{set-append_seam, append_snoc}
-use borrow.Author.Tests.{eq-eqb, ne_eqb}
-use Rattle.lists.specs.Tests.{any}
 use Rattle.lists.specs.Ranges.{from, first_from, lowest}
-use Rattle.lists.specs.Parts.{index_of}
-use Rattle.lists.specs.Spans.{span, zeros, padded}
+use Rattle.lists.specs.Spans.{zeros, padded}
 use Rattle.lists.proofs.Ranges.{length-map-from}
-use Rattle.lists.proofs.Spans.{span_more, span_end}
 use Rattle.lists.proofs.Stretches.{map-from-more}
 
--- ---- while u < n { if test(u) { return u; } u += 1; } u
+-- ---- the numbers below u do not pass: for u in 0..n { if test(u) { return u; } }
 pub record Looks (f : ℕ → Bool) (n u : ℕ) : Type 0 where
   pub reached : u ≤ n
   pub same : lowest f n ≡ first_from f u (n - u)
@@ -39,56 +35,7 @@ module _ {f : ℕ → Bool} {n u : ℕ} (inv : Looks f n u) where
   unfolding first_from
   looks_end h = let z : n - u ≡ 0 = omega arith in sym (inv.same ∙ ap (first_from f u) z)
 
--- ---- while i < e { if test(l[i]) { return true; } i += 1; } false
-pub record Sees (f : ℕ → Bool) (l : List ℕ) (a e i : ℕ) : Type 0 where
-  pub same : any f (span l a e) ≡ any f (span l i e)
-
-pub sees_start : {f : ℕ → Bool} {l : List ℕ} {a e : ℕ} → Sees f l a e a
-sees_start = record { same = refl }
-
-module _ {f : ℕ → Bool} {l : List ℕ} {a e i : ℕ} (inv : Sees f l a e i) where
-  pub sees_hit : i < e → f (get_or l i 0) ≡ true → true ≡ any f (span l a e)
-  sees_hit h t = sym (inv.same ∙ rw (span_more l i e h, t))
-
-  pub sees_on : {i' : ℕ} → i' ≡ i + 1 → i < e → f (get_or l i 0) ≡ false → Sees f l a e i'
-  sees_on q h t = record { same = inv.same ∙ rw (span_more l i e h, t, q) }
-
-  pub sees_end : e ≤ i → false ≡ any f (span l a e)
-  sees_end h = sym (inv.same ∙ rw (span_end l i e h))
-
--- ---- while i < e { if x == g(l[i]) { return i - a; } i += 1; } i - a
-pub record Finds (g : ℕ → ℕ) (x : ℕ) (l : List ℕ) (a e i : ℕ) : Type 0 where
-  pub reached : a ≤ i
-  pub same : index_of x (map g (span l a e)) ≡ i - a + index_of x (map g (span l i e))
-
-pub finds_start : {g : ℕ → ℕ} {x : ℕ} {l : List ℕ} {a e : ℕ} → Finds g x l a e a
-finds_start = record { reached = omega arith; same = omega arith }
-
-module _ {g : ℕ → ℕ} {x : ℕ} {l : List ℕ} {a e i : ℕ} (inv : Finds g x l a e i) where
-  here : i < e → x ≡ g (get_or l i 0) → index_of x (map g (span l i e)) ≡ 0
-  here h t = rw (span_more l i e h, eq-eqb x (g (get_or l i 0)) t)
-
-  later : i < e → (x ≡ g (get_or l i 0) → ⊥) → index_of x (map g (span l i e)) ≡ suc (index_of x (map g (span l (i + 1) e)))
-  later h t = rw (span_more l i e h, ne_eqb x (g (get_or l i 0)) t)
-
-  nowhere : e ≤ i → index_of x (map g (span l i e)) ≡ 0
-  nowhere h = rw (span_end l i e h)
-
-  pub finds_hit : i < e → x ≡ g (get_or l i 0) → i - a ≡ index_of x (map g (span l a e))
-  finds_hit h t = let q = inv.same in let z = here h t in omega arith
-
-  pub finds_on : {i' : ℕ} → i' ≡ i + 1 → i < e → (x ≡ g (get_or l i 0) → ⊥) → Finds g x l a e i'
-  finds_on {i'} q h t =
-      let s = inv.same in
-      let r = inv.reached in
-      let z = later h t in
-      let w : index_of x (map g (span l (i + 1) e)) ≡ index_of x (map g (span l i' e)) = ap (λ (j : ℕ). index_of x (map g (span l j e))) (sym q) in
-      record { reached = omega arith; same = omega arith }
-
-  pub finds_end : e ≤ i → i - a ≡ index_of x (map g (span l a e))
-  finds_end h = let q = inv.same in let z = nowhere h in omega arith
-
--- ---- an array of k, filled from the front: let mut b = [0; k]; while i < e { b[i] = f(i); i += 1; }
+-- ---- an array of k, filled from the front: let mut b = [0; k]; for i in 0..e { b[i] = f(i); }
 zeros-suc : (j : ℕ) → zeros (suc j) ≡ 0 ∷ zeros j
 unfolding zeros
 zeros-suc j = refl

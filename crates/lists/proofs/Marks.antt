@@ -26,7 +26,7 @@ marked-set b v h w = go (eqb w v) refl
     go true q = ap (λ (a : ℕ). marked (set b v 1) a) (eqb-true w v q) ∙ eq-eqb (get_or (set b v 1) v 0) 1 (get_or-set_same b v 1 0 h) ∙ sym (or-true (marked b w))
     go false q = ap (λ (a : ℕ). eqb a 1) (get_or-set_other b v w 1 0 (eqb-false w v q)) ∙ sym (or-false (marked b w))
 
--- ---- let mut b = [0; k]; while i < e { if b[l[i]] == 1 { return true; } b[l[i]] = 1; i += 1; } false
+-- ---- let mut b = [0; k]; for i in a..e { if b[l[i]] == 1 { return true; } b[l[i]] = 1; } false
 pub record Marks (k : ℕ) (l : List ℕ) (e i : ℕ) (b : List ℕ) : Type 0 where
   pub long : length b ≡ k
   pub same : repeats (span l 0 e) ≡ (any (marked b) (span l i e) || repeats (span l i e))

@@ -1,14 +1,14 @@
 -- The table of positions, noted entry by entry: what a pass over all rings keeps (Notes), with a law for its start, its steps and its end.
-use Prim.Native.Nat.{ℕ, suc, ◌+◌, ◌*◌, ◌/◌, ◌%◌, ◌≤◌, ◌<◌}
+use Prim.Native.Nat.{ℕ, suc, ◌+◌, ◌*◌, ◌/◌, ◌%◌, ◌≤◌, ◌<◌, min}
 use mathlib.Core.Path.{◌≡◌, refl, sym, ap, ◌∙◌}
 use mathlib.Core.List.{List, [], ◌∷◌, ◌++◌, map}
 use mathlib.Core.Bool.{Bool, true, false, cond, ◌&&◌, ◌||◌, false≢true}
 use native.Mathlib.Omega.{arith}
-use lib.ListN.{length, get_or, set, take, replicate, length-set, length-replicate}
+use lib.ListN.{length, get_or, get_or-eq_default, set, take, replicate, length-set, length-replicate}
 use lib.Seq.{ext_get_or, take-suc, take_all, take-nil, length-take-le, get_or-set_same, get_or-set_other}
 use lib.Arith.{lt_of_le-ne}
 use lib.Dec.{eqb, ltb}
-use borrow.Author.Tests.{eqb-true, eqb-false, eq-eqb, ne_eqb, ltb-true, ltb-false, lt-ltb, le-ltb}
+use borrow.Author.Tests.{eqb-true, eqb-false, eq-eqb, ne_eqb, ltb-true, ltb-false, lt-ltb}
 use Rattle.lists.specs.Ranges.{from}
 use Rattle.lists.specs.Tests.{member}
 use Rattle.lists.specs.Parts.{index_of}
@@ -18,7 +18,7 @@ use Rattle.lists.proofs.Tests.{any_append}
 use Rattle.lists.proofs.Spans.{past}
 use Rattle.lists.proofs.Ranges.{length-map-from, get_or-map-from}
 use Rattle.lists.proofs.Padded.{get_or-zeros}
-use Rattle.model.specs.Plan.{Plan, ring}
+use Rattle.model.specs.Plan.{Plan, count, neighbour, entries, ring}
 use Rattle.places.specs.Places.{place, cell, tabled, places_of, noted, over, filled}
 
 -- ---- the table cell by cell
@@ -86,15 +86,10 @@ module _ (v : ℕ) (l : List ℕ) where
 
 -- ---- a number noted
 module _ (t : List ℕ) (u v x : ℕ) where
-  -- there is no such ring in the table
-  pub noted-high : 200 ≤ u → noted t u v x ≡ t
+  -- there is no cell
+  pub noted_off : tabled u v ≡ false → noted t u v x ≡ t
   unfolding noted
-  noted-high h = rw (le-ltb u 200 h)
-
-  -- there is no such entry
-  pub noted_wide : u < 200 → 200 ≤ v → noted t u v x ≡ t
-  unfolding noted
-  noted_wide h k = rw (lt-ltb u 200 h, le-ltb v 200 k)
+  noted_off h = rw h
 
   -- a number is noted already
   pub noted_full : u < 200 → v < 200 → (get_or t (cell u v) 0 ≡ 0 → ⊥) → noted t u v x ≡ t
@@ -134,7 +129,7 @@ noted-apart t u w x k h d = go (ltb w 200) refl
   where
     go : (b : Bool) → ltb w 200 ≡ b → get_or (noted t u w x) k 0 ≡ get_or t k 0
     go true e = noted_other t u w x k (d (ltb-true w 200 e))
-    go false e = ap (λ (s : List ℕ). get_or s k 0) (noted_wide t u w x h (ltb-false w 200 e))
+    go false e = ap (λ (s : List ℕ). get_or s k 0) (noted_off t u w x (rw (lt-ltb u 200 h, e)))
 
 -- ---- a number that gives way to another where it is 0
 -- it is 0
@@ -223,23 +218,23 @@ module _ {p : Plan} {t₀ : List ℕ} {u i : ℕ} {t : List ℕ} (inv : Notes p 
           ap (λ (c : ℕ). get_or t (cell c v) 0) z ∙ inv.here v (omega arith) l (omega arith) ∙ ap (λ (r : List ℕ). over (get_or t₀ (cell u v) 0) (place v r)) (take_all i (ring p u) h) ∙ ap (λ (c : ℕ). over (get_or t₀ (cell c v) 0) (place v (ring p c))) (sym z)
       passed a v k l f m false q = inv.done a v k l f (lt_of_le-ne {i = a} {k = u} (omega arith) (eqb-false a u q))
 
-  -- all rings are passed: from u on they are empty
-  pub notes_end : ((a : ℕ) → u ≤ a → a < 200 → length (ring p a) ≡ 0) → t ≡ filled p t₀
-  unfolding filled
-  notes_end empty = ext_get_or 0 t (map fresh (from 0 (length t₀))) (inv.long ∙ sym (length-map-from fresh 0 (length t₀))) (λ k h. each-cell k h (ltb k 40000) refl ∙ sym (get_or-map-from fresh 0 (length t₀) k 0 (let l = inv.long in omega arith) ∙ ap fresh (omega arith)))
+  -- all rings are passed that the table has room for
+  pub notes_end : min (count p) 200 ≤ u → t ≡ filled p t₀
+  unfolding filled ring entries
+  notes_end last = ext_get_or 0 t (map fresh (from 0 (length t₀))) (inv.long ∙ sym (length-map-from fresh 0 (length t₀))) (λ k h. each-cell k h (ltb k 40000) refl ∙ sym (get_or-map-from fresh 0 (length t₀) k 0 (let l = inv.long in omega arith) ∙ ap fresh (omega arith)))
     where
       fresh : ℕ → ℕ
       fresh k = over (get_or t₀ k 0) (get_or (places_of p) k 0)
 
-      no-entry : (l : List ℕ) → length l ≡ 0 → l ≡ []
-      no-entry [] e = refl
-      no-entry (a ∷ l) e = absurd (omega arith)
+      -- there is no such ring
+      no-ring : (a : ℕ) → u ≤ a → a < 200 → ring p a ≡ []
+      no-ring a h k = ap (map neighbour) (get_or-eq_default p.rings [] (omega arith))
 
       none : (a v : ℕ) → u ≤ a → a < 200 → (j : ℕ) → place v (take j (ring p a)) ≡ 0
-      none a v h k j = ap (λ (l : List ℕ). place v (take j l)) (no-entry (ring p a) (empty a h k)) ∙ ap (place v) (take-nil j) ∙ place_absent v [] refl
+      none a v h k j = ap (λ (l : List ℕ). place v (take j l)) (no-ring a h k) ∙ ap (place v) (take-nil j) ∙ place_absent v [] refl
 
       bare : (a v : ℕ) → u ≤ a → a < 200 → place v (ring p a) ≡ 0
-      bare a v h k = ap (place v) (no-entry (ring p a) (empty a h k)) ∙ place_absent v [] refl
+      bare a v h k = ap (place v) (no-ring a h k) ∙ place_absent v [] refl
 
       by_ring : (a v : ℕ) → a < 200 → v < 200 → cell a v < length t₀ → (x y : Bool) → ltb a u ≡ x → eqb a u ≡ y → get_or t (cell a v) 0 ≡ over (get_or t₀ (cell a v) 0) (place v (ring p a))
       by_ring a v h k f true y e g = inv.done a v h k f (ltb-true a u e)

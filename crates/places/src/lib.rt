@@ -4,7 +4,7 @@
 ghost use Rattle.std.specs.Prelude.{◌≡◌, ◌<◌, ◌^◌};
 ghost use Rattle.rings.specs.Tables.{plan_of};
 
-use rings::Rings;
+use rings::{Ringed, Rings};
 
 // Rings with a table of positions.
 #[derive(Clone, Copy)]
@@ -19,26 +19,18 @@ ghost use Rattle.places.specs.Places.{noted, filled, index_by, adjacent_by};
 pub fn note(table: &mut [u8], u: usize, v: usize, x: u8)
     ensures { table.new ≡ noted table.old u v x }
 {
-    if u >= 200 {
-        return;
-    }
-    if v >= 200 {
-        return;
-    }
-    let at = 200 * u + v;
-    if arrays::num(table, at) != 0 {
-        return;
-    }
-    if at < table.len() {
-        table[at] = x;
+    if let Some(at) = rings::cell(u, v) {
+        if arrays::num(table, at) == 0 {
+            arrays::put(table, at, x);
+        }
     }
 }
 
-// The positions of the plan that the arrays hold, in the cells of a table that are 0.
-pub fn fill(table: &mut [u8], rings: &Rings)
-    ensures { table.new ≡ filled (plan_of rings.now) table.old }
+// The positions of the rings' entries, in the cells of a table that are 0.
+pub fn fill<R: Ringed>(table: &mut [u8], rings: &R)
+    ensures { table.new ≡ filled (R.plan rings.now) table.old }
 {
-    let m = rings.n.min(200);
+    let m = rings.count().min(200);
     for u in 0..m {
         for i in 0..rings.size_of(u) {
             note(table, u, rings.neighbour_at(u, i), i as u8 + 1);
@@ -46,35 +38,28 @@ pub fn fill(table: &mut [u8], rings: &Rings)
     }
 }
 
-impl<'a> Located<'a> {
+impl Located<'_> {
     // Where v stands in u's ring by the table; the ring's size if it does not.
     pub fn index_of(&self, u: usize, v: usize) -> usize
         ensures value { result ≡ index_by self.now.places.now (plan_of self.now.rings) u v }
         ensures upper_bound { result < 2 ^ 8 }
     {
-        if u >= 200 {
+        let Some(cell) = rings::cell(u, v) else {
             return search::index_of(&self.rings, u, v);
-        }
-        if v >= 200 {
-            return search::index_of(&self.rings, u, v);
-        }
-        let place = arrays::num(self.places, 200 * u + v);
-        if place == 0 {
+        };
+        let Some(i) = arrays::num(self.places, cell).checked_sub(1) else {
             return self.rings.size_of(u);
-        }
-        place - 1
+        };
+        i
     }
 
     // Is v in u's ring, by the table?
     pub fn is_adjacent(&self, u: usize, v: usize) -> bool
         ensures { result ≡ adjacent_by self.now.places.now (plan_of self.now.rings) u v }
     {
-        if u >= 200 {
-            return search::is_adjacent(&self.rings, u, v);
+        match rings::cell(u, v) {
+            Some(at) => arrays::num(self.places, at) != 0,
+            None => search::is_adjacent(&self.rings, u, v),
         }
-        if v >= 200 {
-            return search::is_adjacent(&self.rings, u, v);
-        }
-        arrays::num(self.places, 200 * u + v) != 0
     }
 }

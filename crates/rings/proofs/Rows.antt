@@ -1,8 +1,9 @@
 -- The ring of a context in flat arrays, and look-ups in it.
-use Prim.Native.Nat.{ℕ, zero, suc, ◌+◌, ◌-◌, ◌≤◌, ◌<◌, min}
+use Prim.Native.Nat.{ℕ, zero, suc, ◌+◌, ◌-◌, ◌*◌, ◌≤◌, ◌<◌, min}
+use Rattle.std.specs.Prelude.{Option, Some, None}
 use mathlib.Core.Path.{◌≡◌, refl, sym, ap, ◌∙◌}
 use mathlib.Core.List.{List, [], ◌∷◌, map}
-use mathlib.Core.Bool.{Bool, true, false, cond, ◌||◌}
+use mathlib.Core.Bool.{Bool, true, false, cond, ◌||◌, ◌&&◌}
 use native.Mathlib.Omega.{arith}
 use lib.ListN.{length, get_or, drop, drop_of_length-le}
 use lib.Seq.{get_or-take, drop-cons}
@@ -13,7 +14,7 @@ use Rattle.lists.specs.Parts.{index_of}
 use Rattle.lists.specs.Spans.{stretch, span}
 use Rattle.lists.proofs.Spans.{length-stretch, get_or-stretch}
 use Rattle.model.specs.Plan.{count, neighbour, entries, ring, onward, next}
-use Rattle.rings.specs.Tables.{sum_of, start_of, size_of, rows, table, held}
+use Rattle.rings.specs.Tables.{sum_of, start_of, size_of, rows, table, held, cell}
 use Rattle.rings.proofs.Made.{Reads, entries-made, ring-made, count-made, size-made, past-made, at-made}
 
 -- ---- starts: each ring begins where the one before ends
@@ -56,6 +57,38 @@ size-inside sizes n u h = rw (lt-ltb u n h)
 pub size_outside : (sizes : List ℕ) (n u : ℕ) → n ≤ u → size_of sizes n u ≡ 0
 unfolding size_of
 size_outside sizes n u h = rw (le-ltb u n h)
+
+-- the cell of a pair: where both numbers are below 200, and where one is not
+pub cell_in : (u v : ℕ) → u < 200 → v < 200 → Some (200 * u + v) ≡ cell u v
+unfolding cell
+cell_in u v h i = rw (lt-ltb u 200 h, lt-ltb v 200 i)
+
+pub cell_past : (u v : ℕ) → 200 ≤ u → None ≡ cell u v
+unfolding cell
+cell_past u v h = rw (le-ltb u 200 h)
+
+pub cell_beyond : (u v : ℕ) → u < 200 → 200 ≤ v → None ≡ cell u v
+unfolding cell
+cell_beyond u v h i = rw (lt-ltb u 200 h, le-ltb v 200 i)
+
+-- what a cell says of its pair, and what it says where there is none
+module _ (u v : ℕ) {r : Option ℕ} (is : r ≡ cell u v) where
+  pub cell_some : {at : ℕ} → r ≡ Some at → (u < 200) × (v < 200) × (at ≡ 200 * u + v)
+  unfolding cell
+  cell_some {at} e = go (ltb u 200) (ltb v 200) refl refl (sym e ∙ is)
+    where
+      go : (x y : Bool) → ltb u 200 ≡ x → ltb v 200 ≡ y → Some at ≡ cond (x && y) (Some (200 * u + v)) None → (u < 200) × (v < 200) × (at ≡ 200 * u + v)
+      go false y p q e = cc
+      go true false p q e = cc
+      go true true p q e = (ltb-true u 200 p, ltb-true v 200 q, cc)
+
+  pub cell_none : ((at : ℕ) → r ≡ Some at → ⊥) → (ltb u 200 && ltb v 200) ≡ false
+  unfolding cell
+  cell_none never = go (ltb u 200 && ltb v 200) is
+    where
+      go : (x : Bool) → r ≡ cond x (Some (200 * u + v)) None → x ≡ false
+      go false e = refl
+      go true e = absurd (never (200 * u + v) e)
 
 -- the entries from each start on
 pub row_reads : (starts es : List ℕ) → Reads (λ (u k : ℕ). stretch es (get_or starts u 0) k) (λ (u i : ℕ). get_or es (get_or starts u 0 + i) 0)

@@ -1,5 +1,5 @@
 -- A plan in flat arrays: the size of each ring, and the entries of all rings in context order.
-use Rattle.std.specs.Prelude.{ℕ, ◌+◌, min, List, [], ◌∷◌, map, Bool, cond, ◌&&◌, get_or, take, ltb, leb}
+use Rattle.std.specs.Prelude.{ℕ, ◌+◌, ◌*◌, min, List, [], ◌∷◌, map, Bool, cond, ◌&&◌, get_or, take, ltb, leb, Option, Some, None}
 use Rattle.lists.specs.Ranges.{from}
 use Rattle.lists.specs.Spans.{stretch}
 use Rattle.model.specs.Plan.{Plan}
@@ -46,3 +46,7 @@ table_of t = table t.sizes.now t.entries.now t.n
 -- the plan of rings in flat arrays
 abbrev pub plan_of : rings.Rings → Plan
 plan_of r = rows r.starts.now r.sizes.now r.entries.now r.n
+
+-- the cell of the pair u, v in a table of 200 rows of 200; none where there is no room for it
+unfoldable pub cell : ℕ → ℕ → Option ℕ
+cell u v = cond (ltb u 200 && ltb v 200) (Some (200 * u + v)) None

@@ -1,9 +1,18 @@
-// Rings in flat arrays: where they begin, their sizes and their neighbours by place, each equal to a definition of the model on the plan that the arrays hold.
+// Rings in flat arrays: where they begin, their sizes and their neighbours by place, each equal to a definition of the model on the plan that the arrays hold. Rings wherever they stand (Ringed), and the cell of a pair in a table of 200 rows of 200, are here too.
 #![tactic(auto)]
 
-ghost use Rattle.std.specs.Prelude.{◌≡◌, ◌<◌, ◌^◌, get_or};
-ghost use Rattle.model.specs.Plan.{neighbour, ring};
-ghost use Rattle.rings.specs.Tables.{size_of, starts_of, plan_of};
+ghost use Rattle.std.specs.Prelude.{◌≡◌, ◌<◌, ◌^◌, get_or, length};
+ghost use Rattle.model.specs.Plan.{Plan, count, neighbour, ring};
+ghost use Rattle.rings.specs.Tables.{size_of, starts_of, plan_of, cell};
+
+// The border contexts.
+pub const NORTH: u16 = 0;
+
+pub const EAST: u16 = 1;
+
+pub const SOUTH: u16 = 2;
+
+pub const WEST: u16 = 3;
 
 // A plan in flat arrays: the number of its contexts, the size of each ring, and the entries of all rings in context order.
 #[derive(Clone, Copy)]
@@ -22,9 +31,9 @@ pub struct Rings<'a> {
     pub n: usize,
 }
 
-impl<'a> Table<'a> {
+impl Table<'_> {
     // The plan's rings, which begin at these starts.
-    pub fn rings(&self, starts: &'a [u16]) -> Rings<'a>
+    pub fn rings<'b>(&'b self, starts: &'b [u16]) -> Rings<'b>
         ensures starts { result.starts.now ≡ starts.now }
         ensures sizes { result.sizes.now ≡ self.now.sizes.now }
         ensures entries { result.entries.now ≡ self.now.entries.now }
@@ -40,6 +49,7 @@ impl<'a> Table<'a> {
 }
 
 // The neighbour that a ring entry names.
+#[tactic(auto, unfolding(model::specs::Plan::neighbour))]
 pub fn neighbour_of(entry: usize) -> usize
     ensures { result ≡ neighbour entry }
 {
@@ -62,12 +72,26 @@ pub fn starts_of(sizes: &[u8]) -> [u16; 200]
     let mut sum: u16 = 0;
     for u in 0..200 {
         starts[u] = sum;
-        sum += arrays::num(sizes, u) as u16;
+        sum += u16::from(arrays::at(sizes, u));
     }
     starts
 }
 
-impl<'a> Rings<'a> {
+// The cell of the pair u, v in a table of 200 rows of 200; none where there is no room for it.
+#[tactic(auto, using(crate::proofs::Rows::cell_in, crate::proofs::Rows::cell_past, crate::proofs::Rows::cell_beyond))]
+pub fn cell(u: usize, v: usize) -> Option<usize>
+    ensures { result ≡ cell u v }
+{
+    if u >= 200 {
+        return None;
+    }
+    if v >= 200 {
+        return None;
+    }
+    Some(200 * u + v)
+}
+
+impl Rings<'_> {
     // The size of u's ring.
     pub fn size_of(&self, u: usize) -> usize
         ensures value { result ≡ size_of self.now.sizes.now self.now.n u }
@@ -76,14 +100,57 @@ impl<'a> Rings<'a> {
         size_of(self.sizes, self.n, u)
     }
 
-    // The i-th neighbour in u's ring; 0 past its end.
-    pub fn neighbour_at(&self, u: usize, i: usize) -> usize
+    // The i-th entry of u's ring, as it stands; 0 past its end.
+    pub fn entry_at(&self, u: usize, i: usize) -> u16
         ensures { result ≡ get_or (ring (plan_of self.now) u) i 0 }
     {
         if i < self.size_of(u) {
-            neighbour_of(arrays::num(self.entries, arrays::num(self.starts, u) + i))
+            arrays::at(self.entries, arrays::num(self.starts, u) + i)
         } else {
             0
         }
+    }
+
+    // The i-th neighbour in u's ring; 0 past its end.
+    #[tactic(auto, unfolding(model::specs::Plan::neighbour))]
+    pub fn neighbour_at(&self, u: usize, i: usize) -> usize
+        ensures { result ≡ get_or (ring (plan_of self.now) u) i 0 }
+    {
+        neighbour_of(usize::from(self.entry_at(u, i)))
+    }
+}
+
+// Rings wherever they stand, by the plan that they are.
+pub trait Ringed {
+    // the plan
+    ghost plan: { Self → Plan };
+
+    // How many contexts there are.
+    fn count(&self) -> usize
+        ensures { result ≡ count (plan self.now) };
+
+    // The size of u's ring.
+    fn size_of(&self, u: usize) -> usize
+        ensures value { result ≡ length (ring (plan self.now) u) }
+        ensures upper_bound { result < 2 ^ 8 };
+
+    // The i-th neighbour in u's ring; 0 past its end.
+    fn neighbour_at(&self, u: usize, i: usize) -> usize
+        ensures { result ≡ get_or (ring (plan self.now) u) i 0 };
+}
+
+impl Ringed for Rings<'_> {
+    ghost plan = { plan_of };
+
+    fn count(&self) -> usize {
+        self.n
+    }
+
+    fn size_of(&self, u: usize) -> usize {
+        self.size_of(u)
+    }
+
+    fn neighbour_at(&self, u: usize, i: usize) -> usize {
+        self.neighbour_at(u, i)
     }
 }

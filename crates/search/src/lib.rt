@@ -14,12 +14,9 @@ fn find(entries: &[u16], a: usize, e: usize, v: usize) -> usize
     requires { a ≤ e }
     ensures { result ≡ index_of v (map neighbour (span entries.now a e)) }
 {
-    for i in a..e {
-        if v == rings::neighbour_of(arrays::num(entries, i)) {
-            return i - a;
-        }
-    }
-    e - a
+    (a..e)
+        .position(|i| v == rings::neighbour_of(arrays::num(entries, i)))
+        .unwrap_or(e - a)
 }
 
 // Where v stands in u's ring; the ring's size if it does not.

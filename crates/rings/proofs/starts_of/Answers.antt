@@ -1,5 +1,5 @@
 -- starts_of meets its contract.
-use mathlib.Core.Path.{refl}
+use mathlib.Core.Path.{refl, ◌∙◌}
 use Prim.Native.Nat.{◌+◌}
 use Rattle.lists.proofs.Loops.{fills_start, fills_on, fills_end}
 use Rattle.rings.specs.Tables.{starts_of}
@@ -14,8 +14,7 @@ pub loop-u-preserved : goal.loop-u-preserved
 loop-u-preserved c =
     let z = c.args.sizes.now in
     let l = c.loop-u in
-    let b = c.num.ensures in
-    (omega arith, omega arith, start-next z l.u (l.u + 1) c.num.result l.sum (omega arith) l.invariant.2 b.value, fills_on l.invariant.3 (omega arith) (omega arith) l.invariant.2 refl)
+    (omega arith, omega arith, start-next z l.u (l.u + 1) c.from-sum.result l.sum (omega arith) l.invariant.2 (c.from-sum.ensures ∙ c.at.ensures), fills_on l.invariant.3 (omega arith) (omega arith) l.invariant.2 refl)
 
 pub returns : goal.returns
 unfolding starts_of

@@ -15,4 +15,4 @@ returns c =
     let a = c.args in
     let s = c.num.ensures.value in
     let at : 10 + 4 * a.u + 2 * c.num.result + 2 * a.i ≡ body_at a.self.now.starts.now a.u + 2 * a.i = omega arith in
-    c.word_at.ensures.value ∙ ap (word_of a.self.now.file.now) at
+    c.word_at.ensures ∙ ap (word_of a.self.now.file.now) at

@@ -1,24 +1,21 @@
 -- is_adjacent meets its contract.
-use mathlib.Core.Path.{◌∙◌}
-use Rattle.rings.specs.Tables.{rows}
-use Rattle.places.proofs.Look.{adjacent-high, adjacent_wide, adjacent-cell}
-use native.Mathlib.Omega.{arith}
+use mathlib.Core.Path.{ap, ◌∙◌}
+use Prim.Native.Nat.{ℕ}
+use lib.ListN.{get_or}
+use Rattle.rings.specs.Tables.{plan_of}
+use Rattle.rings.proofs.Rows.{cell_some, cell_none}
+use Rattle.places.proofs.Look.{adjacent_off, adjacent-cell}
 use Rattle.places.proofs.Located.is_adjacent.Goals as goal
 
-pub returns-then-u-ge200 : goal.returns-then-u-ge200
-returns-then-u-ge200 c =
+pub returns-in-Some : goal.returns-in-Some
+returns-in-Some c =
     let a = c.args in
-    let p = rows a.self.now.rings.starts.now a.self.now.rings.sizes.now a.self.now.rings.entries.now a.self.now.rings.n in
-    c.is_adjacent.ensures ∙ adjacent-high a.self.now.places.now p a.u a.v c.if-u-ge200.true
+    let t = a.self.now.places.now in
+    let (h, k, e) = cell_some a.u a.v c.cell.ensures c.in-Some.is in
+    adjacent-cell t (plan_of a.self.now.rings) a.u a.v (c.num.ensures.value ∙ ap (λ (at : ℕ). get_or t at 0) e) h k
 
-pub returns-then-v-ge200 : goal.returns-then-v-ge200
-returns-then-v-ge200 c =
+pub returns-in-None : goal.returns-in-None
+returns-in-None c =
     let a = c.args in
-    let p = rows a.self.now.rings.starts.now a.self.now.rings.sizes.now a.self.now.rings.entries.now a.self.now.rings.n in
-    c.is_adjacent-then-v-ge200.ensures ∙ adjacent_wide a.self.now.places.now p a.u a.v (omega arith) c.if-v-ge200.true
-
-pub returns : goal.returns
-returns c =
-    let a = c.args in
-    let p = rows a.self.now.rings.starts.now a.self.now.rings.sizes.now a.self.now.rings.entries.now a.self.now.rings.n in
-    adjacent-cell a.self.now.places.now p a.u a.v c.num.ensures.value (omega arith) (omega arith)
+    let none = c.in-None.is in
+    c.is_adjacent.ensures ∙ adjacent_off a.self.now.places.now (plan_of a.self.now.rings) a.u a.v (cell_none a.u a.v c.cell.ensures (λ at e. cc))
