@@ -114,17 +114,6 @@ module _ (p : Plan) (u v : ℕ) {o : Bool} (outside : o ≡ outer (u, v)) where
   pub dart_inner : {t : Bool} → o ≡ false → t ≡ closes p (u, v) → not t ≡ bad_dart p u v
   dart_inner h back = rw (flag_no outside h) (ap not back)
 
--- the dart to the entry w of u's ring, by what the code finds of it
-module _ (p : Plan) (u : ℕ) {v w : ℕ} {t : Bool} (there : v ≡ w) (bad : t ≡ bad_dart p u v) where
-  bad_there : t ≡ bad_dart p u w
-  bad_there = bad ∙ ap (bad_dart p u) there
-
-  pub dart_bad : t ≡ true → bad_dart p u w ≡ true
-  dart_bad h = flag_yes bad_there h
-
-  pub dart_good : t ≡ false → bad_dart p u w ≡ false
-  dart_good h = flag_no bad_there h
-
 pub face_darts : (p : Plan) (u k : ℕ) → k ≡ length (ring p u) → any (bad_dart p u) (span (ring p u) 0 k) ≡ bad_face p u
 unfolding bad_face darts_from
 face_darts p u k e = ap (any (bad_dart p u)) (span_whole (ring p u) k e) ∙ any-map (λ (d : Dart). not (outer d || closes p d)) (λ (v : ℕ). (u, v)) (ring p u)

@@ -1,11 +1,13 @@
-// Faces over flat arrays: the face step, the outer darts and the places of plan rules 8 and 9.
+// Faces over flat arrays: the face step, the outer darts and the plan rules 8 and 9.
 #![tactic(auto)]
 
 ghost use Rattle.std.specs.Prelude.{◌≡◌, not, ◌||◌, ◌<◌};
-ghost use Rattle.lists.specs.Ranges.{lowest};
+ghost use Rattle.model.specs.Outcome.{rule};
 ghost use Rattle.model.specs.Plan.{step, outer, closes, bad_border, bad_face};
+ghost use Rattle.refusal.specs.Refusals.{told};
 ghost use Rattle.rings.specs.Tables.{plan_of};
 
+use refusal::Refusal;
 use rings::Rings;
 
 // Is the dart from u to v one of the four outer darts?
@@ -19,7 +21,7 @@ pub fn is_outer(u: usize, v: usize) -> bool
 }
 
 // The context after v on the face of the dart from u to v.
-fn third_of(rings: &Rings, u: usize, v: usize) -> usize
+pub fn third_of(rings: &Rings, u: usize, v: usize) -> usize
     ensures { result ≡ (step (plan_of rings.now) (u, v)).1 }
 {
     search::next_of(rings, v, u)
@@ -55,16 +57,14 @@ fn bad_border(rings: &Rings, u: usize) -> bool
     search::is_adjacent(rings, u, (u + 2) % 4)
 }
 
-// The lowest border context that breaks rule 8; 4 if none does.
-pub fn rule8_place(rings: &Rings) -> usize
-    ensures { result ≡ lowest (bad_border (plan_of rings.now)) 4 }
+// 8: each border context's ring is as the border asks; refused at the lowest whose ring is not.
+pub fn rule8(rings: &Rings) -> Result<(), Refusal>
+    ensures { told result ≡ rule 8 4 (bad_border (plan_of rings.now)) }
 {
-    for side in 0..4 {
-        if bad_border(rings, side) {
-            return side;
-        }
+    match (0..4).find(|u| bad_border(rings, *u)) {
+        Some(u) => Err(Refusal::BadBorder(u)),
+        None => Ok(()),
     }
-    4
 }
 
 // Does the dart from u to v break rule 9: it is not outer and does not come back to itself?
@@ -81,23 +81,15 @@ fn bad_dart(rings: &Rings, u: usize, v: usize) -> bool
 fn bad_face(rings: &Rings, u: usize) -> bool
     ensures { result ≡ bad_face (plan_of rings.now) u }
 {
-    let k = rings.size_of(u);
-    for i in 0..k {
-        if bad_dart(rings, u, rings.neighbour_at(u, i)) {
-            return true;
-        }
-    }
-    false
+    (0..rings.size_of(u)).any(|i| bad_dart(rings, u, rings.neighbour_at(u, i)))
 }
 
-// The lowest context that a dart breaking rule 9 leaves; n if there is none.
-pub fn rule9_place(rings: &Rings) -> usize
-    ensures { result ≡ lowest (bad_face (plan_of rings.now)) rings.now.n }
+// 9: each dart lies on a face; refused at the lowest context that another dart leaves.
+pub fn rule9(rings: &Rings) -> Result<(), Refusal>
+    ensures { told result ≡ rule 9 rings.now.n (bad_face (plan_of rings.now)) }
 {
-    for u in 0..rings.n {
-        if bad_face(rings, u) {
-            return u;
-        }
+    match (0..rings.n).find(|u| bad_face(rings, *u)) {
+        Some(u) => Err(Refusal::BadFace(u)),
+        None => Ok(()),
     }
-    rings.n
 }

@@ -1,6 +1,6 @@
--- Entries noted one by one, as the code makes it: a note case by case, and what a pass over a ring keeps (Back).
-use Prim.Native.Nat.{ℕ, zero, suc, ◌+◌, ◌-◌, ◌≤◌, ◌<◌, min}
-use Rattle.std.specs.Prelude.{SomeIff, Option, Some, None, nat_eq}
+-- Entries noted one by one, as the code makes it: what a pass over a ring keeps (Back).
+use Prim.Native.Nat.{ℕ, zero, suc, ◌+◌, ◌-◌, ◌<◌, min}
+use Rattle.std.specs.Prelude.{Option, Some, None, nat_eq}
 use Rattle.std.specs.Option.{option_eq}
 use mathlib.Core.Path.{◌≡◌, refl, sym, ap, ◌∙◌}
 use mathlib.Core.List.{List, [], ◌∷◌, map}
@@ -9,7 +9,7 @@ use native.Mathlib.Numerals.{add-one}
 use native.Mathlib.Omega.{arith}
 use lib.ListN.{length, get_or, set, replicate, length-set}
 use lib.Dec.{eqb, ltb, eqb-suc-suc}
-use borrow.Author.Tests.{ltb-true, lt-ltb, le-ltb, eq-eqb, ne_eqb}
+use borrow.Author.Tests.{ltb-true, lt-ltb, eq-eqb, ne_eqb}
 use Rattle.lists.specs.Spans.{stretch, span, zeros}
 use Rattle.lists.specs.Folds.{through}
 use Rattle.lists.proofs.Spans.{span_more, span_end}
@@ -27,28 +27,6 @@ parts e = (sym (ap (λ (s : Noted). s.0) e), sym (ap (λ (s : Noted). s.1) e))
 
 pub paired : {t : List ℕ} {b : Bool} {s : Noted} → t ≡ s.0 → b ≡ s.1 → (t, b) ≡ s
 paired e f = λ i. (e i, f i)
-
-module _ (u v x : ℕ) (t : List ℕ) (b : Bool) where
-  -- there is no cell for the ring
-  pub note_high : 200 ≤ u → Leaves t false (note_at u v x (t, b))
-  unfolding note_at
-  note_high h = parts (rw (le-ltb u 200 h))
-
-  -- there is no cell for the entry
-  pub note_wide : u < 200 → 200 ≤ v → Leaves t false (note_at u v x (t, b))
-  unfolding note_at
-  note_wide h k = parts (rw (lt-ltb u 200 h, le-ltb v 200 k))
-
-  module _ (high : u < 200) (wide : v < 200) {old : ℕ} (is : old ≡ get_or t (cell u v) 0) {t' : List ℕ} (now : t' ≡ set t (cell u v) x) where
-    -- the cell was 0
-    pub note_bare : old ≡ 0 → Leaves t' b (note_at u v x (t, b))
-    unfolding note_at
-    note_bare z = parts (rw (lt-ltb u 200 high, lt-ltb v 200 wide, eq-eqb (get_or t (cell u v) 0) 0 (sym is ∙ z), now))
-
-    -- it was not
-    pub note_full : (old ≡ 0 → ⊥) → Leaves t' false (note_at u v x (t, b))
-    unfolding note_at
-    note_full f = parts (rw (lt-ltb u 200 high, lt-ltb v 200 wide, ne_eqb (get_or t (cell u v) 0) 0 (λ z. f (is ∙ z)), now))
 
 -- the table keeps its length: over a note
 pub note_long : (u v x : ℕ) (s : Noted) → length (note_at u v x s).0 ≡ length s.0
@@ -145,22 +123,8 @@ pub named : (o : Option ℕ) (x : ℕ) → option_eq nat_eq o (Some x) ≡ eqb (
 named None x = sym (ne_eqb 0 (x + 1) (λ z. omega arith))
 named (Some w) x = sym (ap (eqb (suc w)) (add-one x) ∙ eqb-suc-suc w x)
 
--- a number, less one where it is not 0
-less : (x : ℕ) (o : Option ℕ) → SomeIff o (1 ≤ x) (x - 1) → marked o ≡ x
-less zero None f = refl
-less (suc k) None f = absurd (f (omega arith))
-less x (Some w) e = let l = e.0 in let m = e.1 in omega arith
-
--- ---- a look-up: no cell for the ring, none for the entry, a cell
+-- ---- a look-up that has a cell
 module _ (t : List ℕ) (u v : ℕ) where
-  pub told-high : 200 ≤ u → 0 ≡ told t u v
-  unfolding told
-  told-high h = sym (rw (le-ltb u 200 h))
-
-  pub told_wide : u < 200 → 200 ≤ v → 0 ≡ told t u v
-  unfolding told
-  told_wide h k = sym (rw (lt-ltb u 200 h, le-ltb v 200 k))
-
   pub told-cell : u < 200 → v < 200 → get_or t (cell u v) 0 ≡ told t u v
   unfolding told
   told-cell h k = sym (rw (lt-ltb u 200 h, lt-ltb v 200 k))
@@ -174,10 +138,6 @@ module _ (t : List ℕ) (u v : ℕ) where
       go true true x y f = (ltb-true u 200 x, ltb-true v 200 y)
       go true false x y f = absurd (f refl)
       go false b x y f = absurd (f refl)
-
-  -- the cell's number, less one where it is not 0
-  pub told-less : {x : ℕ} (o : Option ℕ) → u < 200 → v < 200 → x ≡ get_or t (cell u v) 0 → SomeIff o (1 ≤ x) (x - 1) → marked o ≡ told t u v
-  told-less {x} o h k q e = less x o e ∙ q ∙ told-cell h k
 
   -- ---- three face steps from the dart u to v, test by test
   -- no context comes after v

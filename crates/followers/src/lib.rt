@@ -16,22 +16,17 @@ fn mark_of(v: usize) -> u8
 }
 
 // A number noted for the entry v of u's ring. Is it clear still: the entry has a cell, which was 0?
+#[tactic(auto, unfolding(rings::specs::Tables::cell, crate::specs::Followers::note_at))]
 fn note(table: &mut [u8], u: usize, v: usize, x: u8, clear: bool) -> bool
     ensures table_after { table.new ≡ (note_at u v x (table.old, clear)).0 }
     ensures value { result ≡ (note_at u v x (table.old, clear)).1 }
 {
-    if u >= 200 {
+    let Some(cell) = rings::cell(u, v) else {
         return false;
-    }
-    if v >= 200 {
-        return false;
-    }
-    let old = arrays::num(table, 200 * u + v);
-    arrays::put(table, 200 * u + v, x);
-    if old == 0 {
-        return clear;
-    }
-    false
+    };
+    let old = arrays::num(table, cell);
+    arrays::put(table, cell, x);
+    old == 0 && clear
 }
 
 // The followers in u's ring: from its last entry to its first.
@@ -65,17 +60,13 @@ pub fn fill(table: &mut [u8], rings: &Rings) -> bool
 }
 
 // The context that a table says of the entry v of u's ring; 254 is told for every context from 254 on.
+#[tactic(auto, unfolding(rings::specs::Tables::cell, crate::specs::Followers::told))]
 pub fn told(table: &[u8], u: usize, v: usize) -> Option<usize>
     ensures value { marked result ≡ told table.now u v }
     ensures upper_bound { marked result < 2 ^ 8 }
 {
-    if u >= 200 {
-        return None;
-    }
-    if v >= 200 {
-        return None;
-    }
-    arrays::num(table, 200 * u + v).checked_sub(1)
+    let cell = rings::cell(u, v)?;
+    arrays::num(table, cell).checked_sub(1)
 }
 
 // By a table, does the dart from u to v come back to itself after three face steps? Where the table has no room for one of them, the answer is no.

@@ -1,18 +1,14 @@
 -- Rule 6 of a ring of a lent file, as the code goes through it.
 use Prim.Native.Nat.{ℕ}
-use mathlib.Core.Path.{◌≡◌, sym, ap, ◌∙◌}
+use mathlib.Core.Path.{◌≡◌, ap}
 use mathlib.Core.List.{List}
-use mathlib.Core.Bool.{Bool, not}
+use mathlib.Core.Bool.{not}
 use Rattle.lists.specs.Tests.{any, member}
 use Rattle.lists.specs.Spans.{span}
-use Rattle.model.specs.Plan.{Plan, ring, adjacent, unreturned}
+use Rattle.model.specs.Plan.{ring, adjacent, unreturned}
 use Rattle.rings.specs.Tables.{size_of}
 use Rattle.rings.specs.Lent.{lent}
 use Rattle.lent.proofs.Rings.{ring_whole}
-
--- 6: t says whether v lists u, of the entry w that is v
-pub return_same : (p : Plan) (u : ℕ) {v w : ℕ} {t : Bool} → v ≡ w → t ≡ adjacent p v u → not (adjacent p w u) ≡ not t
-return_same p u q e = sym (ap not (e ∙ ap (λ (a : ℕ). adjacent p a u) q))
 
 -- ---- a ring gone through from 0 to its size is the ring
 module _ (starts sizes file : List ℕ) (n : ℕ) where

@@ -1,15 +1,17 @@
-// The seventeen refusals, each with the place it tells of: a crate finds one, and `?` hands it on to the call.
+// The seventeen refusals, eleven of them with the place they tell of: a crate finds one, and `?` hands it on to the call.
 #![tactic(auto)]
 
-ghost use Rattle.std.specs.Prelude.{◌≡◌};
+ghost use Rattle.std.specs.Prelude.{◌≡◌, ◌++◌, codes, decimal, Some};
 ghost use Rattle.refusal.specs.Refusals.{number_of, place_of};
+
+use std::fmt;
 
 // Why a call is refused. Each case that can stand at more than one place tells where.
 #[derive(Clone, Copy, PartialEq, Eq)]
 pub enum Refusal {
     // the offset of a record whose length is missing, under 2 or past the end
     BrokenRecord(usize),
-    // the offset of a record of another kind or length than due
+    // the offset of a record of another kind or length than due; 0 where labels that are offered are not as many as due
     OtherRecord(usize),
     // the number of contexts is outside 5 to 200
     ContextCount,
@@ -92,5 +94,16 @@ impl Refusal {
             Refusal::ShortBuffer(at) => at,
             Refusal::NoSuchContext(at) => at,
         }
+    }
+}
+
+// A refusal as it is written: its number and its place.
+impl fmt::Display for Refusal {
+    ghost output = { λ r. Some (codes "refused " ++ decimal (number_of r) ++ codes " at " ++ decimal (place_of r)) };
+
+    fn fmt<W: fmt::Write>(&self, f: &mut fmt::Formatter<W>) -> fmt::Result {
+        let number = self.number();
+        let place = self.place();
+        write!(f, "refused {number} at {place}")
     }
 }

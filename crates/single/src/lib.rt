@@ -2,76 +2,66 @@
 #![tactic(auto)]
 
 ghost use Rattle.std.specs.Prelude.{◌≡◌};
-ghost use Rattle.lists.specs.Ranges.{lowest};
+ghost use Rattle.model.specs.Outcome.{rule};
 ghost use Rattle.model.specs.Plan.{bad_entry, bad_repeat};
+ghost use Rattle.refusal.specs.Refusals.{told};
 ghost use Rattle.lent.specs.Plans.{lent_of};
 
 use lent::LentRings;
+use refusal::Refusal;
 
 // 4: has u's ring an entry that is not below n, or is u itself?
-fn rule4_at(rings: &LentRings, u: usize) -> bool
+fn bad_entry(rings: &LentRings, u: usize) -> bool
     ensures { result ≡ bad_entry (lent_of rings.now) u }
 {
-    let e = rings.size_of(u);
-    for i in 0..e {
+    (0..rings.size_of(u)).any(|i| {
         let v = rings.neighbour_at(u, i);
-        if rings.n <= v {
-            return true;
-        }
-        if v == u {
-            return true;
-        }
-    }
-    false
+        rings.n <= v || v == u
+    })
 }
 
 // Does u's ring repeat an entry? Each entry is looked for among those after it.
 fn repeats_at(rings: &LentRings, u: usize) -> bool
     ensures { result ≡ bad_repeat (lent_of rings.now) u }
 {
-    let e = rings.size_of(u);
-    for i in 0..e {
-        let v = rings.neighbour_at(u, i);
-        if rings.is_from(u, v, i + 1) {
-            return true;
-        }
-    }
-    false
+    (0..rings.size_of(u)).any(|i| rings.is_from(u, rings.neighbour_at(u, i), i + 1))
 }
 
 // 5: does u's ring repeat an entry? Each neighbour below 256 is marked; a ring that names another is searched.
-fn rule5_at(rings: &LentRings, u: usize) -> bool
+fn bad_repeat(rings: &LentRings, u: usize) -> bool
     ensures { result ≡ bad_repeat (lent_of rings.now) u }
 {
     let e = rings.size_of(u);
-    let mut marks = [0u8; 256];
+    let mut marks = [false; 256];
     for i in 0..e {
         let v = rings.neighbour_at(u, i);
         if 256 <= v {
             return repeats_at(rings, u);
         }
-        if marks[v] == 1 {
+        if marks[v] {
             return true;
         }
-        marks[v] = 1;
+        marks[v] = true;
     }
     false
 }
 
-// The lowest context whose ring has a bad entry; n if there is none.
-pub fn rule4_place(rings: &LentRings) -> usize
-    ensures { result ≡ lowest (bad_entry (lent_of rings.now)) rings.now.n }
+// 4: each ring's entries are other contexts; refused at the lowest context whose ring has another entry.
+pub fn rule4(rings: &LentRings) -> Result<(), Refusal>
+    ensures { told result ≡ rule 4 rings.now.n (bad_entry (lent_of rings.now)) }
 {
-    (0..rings.n)
-        .find(|u| rule4_at(rings, *u))
-        .unwrap_or(rings.n)
+    match (0..rings.n).find(|u| bad_entry(rings, *u)) {
+        Some(u) => Err(Refusal::BadEntry(u)),
+        None => Ok(()),
+    }
 }
 
-// The lowest context whose ring repeats an entry; n if there is none.
-pub fn rule5_place(rings: &LentRings) -> usize
-    ensures { result ≡ lowest (bad_repeat (lent_of rings.now)) rings.now.n }
+// 5: no ring repeats an entry; refused at the lowest context whose ring does.
+pub fn rule5(rings: &LentRings) -> Result<(), Refusal>
+    ensures { told result ≡ rule 5 rings.now.n (bad_repeat (lent_of rings.now)) }
 {
-    (0..rings.n)
-        .find(|u| rule5_at(rings, *u))
-        .unwrap_or(rings.n)
+    match (0..rings.n).find(|u| bad_repeat(rings, *u)) {
+        Some(u) => Err(Refusal::RepeatedEntry(u)),
+        None => Ok(()),
+    }
 }

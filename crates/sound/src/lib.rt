@@ -30,24 +30,14 @@ fn is_doubted(table: &[u8], rings: &Rings, u: usize) -> bool
 {
     let a = arrays::num(rings.starts, u);
     let e = a + rings.size_of(u);
-    for i in a..e {
-        if is_doubtful(table, u, rings::neighbour_of(arrays::num(rings.entries, i))) {
-            return true;
-        }
-    }
-    false
+    (a..e).any(|i| is_doubtful(table, u, rings::neighbour_of(arrays::num(rings.entries, i))))
 }
 
 // By a table of followers, is some dart in doubt?
 fn any_doubted(table: &[u8], rings: &Rings) -> bool
     ensures { result ≡ some (doubted table.now (plan_of rings.now)) 0 rings.now.n }
 {
-    for u in 0..rings.n {
-        if is_doubted(table, rings, u) {
-            return true;
-        }
-    }
-    false
+    (0..rings.n).any(|u| is_doubted(table, rings, u))
 }
 
 // Is the plan that the rings hold sound?
@@ -57,7 +47,7 @@ fn is_sound_from(rings: &Rings) -> bool
     if 200 < rings.n {
         return false;
     }
-    if faces::rule8_place(rings) < 4 {
+    if faces::rule8(rings).is_err() {
         return false;
     }
     let mut table = [0u8; 40000];
@@ -72,10 +62,5 @@ pub fn is_sound(plan: &Table) -> bool
     ensures { result ≡ sound (table_of plan.now) }
 {
     let starts = rings::starts_of(plan.sizes);
-    is_sound_from(&Rings {
-        starts: &starts,
-        sizes: plan.sizes,
-        entries: plan.entries,
-        n: plan.n,
-    })
+    is_sound_from(&plan.rings(&starts))
 }

@@ -1,19 +1,15 @@
--- What a test of the code says of the definition that the tested result is equal to: a test turned round, and a number that lies below another or not.
+-- A number that lies below another or not, as the code tells it.
 use Rattle.std.specs.Prelude.{Option, Some, None, is_some}
+use Rattle.std.specs.Bool.{then_some}
 use Prim.Native.Nat.{ℕ, ◌≤◌, ◌<◌}
 use mathlib.Core.Path.{◌≡◌, refl, sym, ap, ◌∙◌}
-use mathlib.Core.Bool.{Bool, true, false, cond, not}
+use mathlib.Core.Bool.{Bool, true, false, cond}
 use native.Mathlib.Omega.{arith}
-use lib.Dec.{ltb}
-use borrow.Author.Tests.{ltb-true, ltb-false, lt-ltb, le-ltb, not-true, not-false}
+use lib.Dec.{ltb, leb}
+use borrow.Author.Tests.{ltb-true, ltb-false, lt-ltb, le-ltb, leb-true, leb-false}
+use Rattle.lists.specs.Ranges.{lowest}
+use Rattle.lists.proofs.Found.{Found, found_none, found_one}
 use Rattle.triples.specs.Scanned.{below}
-
--- if !f() { .. }
-pub not_flag_yes : {r d : Bool} → r ≡ d → not r ≡ true → d ≡ false
-not_flag_yes {r} e h = sym e ∙ not-true r h
-
-pub not_flag_no : {r d : Bool} → r ≡ d → not r ≡ false → d ≡ true
-not_flag_no {r} e h = sym e ∙ not-false r h
 
 -- ---- a number that lies below n, or not
 pub below-some : (n x : ℕ) → x < n → Some x ≡ below n x
@@ -23,6 +19,15 @@ below-some n x h = sym (rw (lt-ltb x n h))
 pub below-none : (n x : ℕ) → n ≤ x → None ≡ below n x
 unfolding below
 below-none n x h = sym (rw (le-ltb x n h))
+
+-- (x < n).then_some(x)
+pub below-is : (n x : ℕ) → then_some (ltb x n) x ≡ below n x
+unfolding below
+below-is n x = go (ltb x n)
+  where
+    go : (t : Bool) → then_some t x ≡ cond t (Some x) None
+    go true = refl
+    go false = refl
 
 -- what it says that there is one, and that there is none
 pub below-says : {n x a : ℕ} → Some a ≡ below n x → (a ≡ x) × (a < n)
@@ -49,3 +54,16 @@ below-test n x e = ap is_some e ∙ go (ltb x n)
     go : (t : Bool) → is_some (cond t (Some x) None) ≡ t
     go true = refl
     go false = refl
+
+-- (0..n).find(..)
+pub below-found : (f : ℕ → Bool) (n : ℕ) (o : Option ℕ) → Found f n o → o ≡ below n (lowest f n)
+unfolding below
+below-found f n o found = go o found
+  where
+    turned : (x : ℕ) (t : Bool) → leb n x ≡ t → cond t None (Some x) ≡ cond (ltb x n) (Some x) None
+    turned x true e = sym (rw (le-ltb x n (leb-true n x e)))
+    turned x false e = sym (rw (lt-ltb x n (leb-false n x e)))
+
+    go : (o : Option ℕ) → Found f n o → o ≡ cond (ltb (lowest f n) n) (Some (lowest f n)) None
+    go None found = found_none f n None Some found refl ∙ turned (lowest f n) (leb n (lowest f n)) refl
+    go (Some a) found = found_one f n None Some found refl ∙ turned (lowest f n) (leb n (lowest f n)) refl

@@ -4,22 +4,20 @@ use Rattle.std.specs.Prelude as std
 use Rattle.std.specs.Option.{option_eq}
 use Prim.Native.Nat.{ℕ, zero, suc, ◌+◌, ◌-◌, ◌≤◌, ◌<◌}
 use mathlib.Core.Path.{◌≡◌, refl, sym, ap, ◌∙◌}
-use mathlib.Core.List.{List, [], ◌∷◌, ◌++◌, map, Memᴰ}
+use mathlib.Core.List.{List, [], ◌∷◌, ◌++◌, map}
 use mathlib.Core.Bool.{Bool, true, false, cond, not, ◌&&◌, ◌||◌, and-true, and-false, or-true, true≢false}
 use mathlib.Core.Option.{Option, none, some}
+use native.Mathlib.Numerals.{add-one}
 use native.Mathlib.Omega.{arith}
-use lib.Dec.{eqb, ltb}
-use borrow.Author.Tests.{ltb-true, ltb-false, lt-ltb, le-ltb, eqb-true, eqb-false, eq-eqb, ne_eqb, not-true, not-false}
+use lib.Dec.{eqb, ltb, eqb-suc-suc}
+use borrow.Author.Tests.{ltb-true, ltb-false, lt-ltb, le-ltb, eqb-true, eqb-false, eq-eqb, not-true}
 use Rattle.lists.proofs.Bools.{and_yes}
 use Rattle.lists.specs.Ranges.{from, first_from}
 use Rattle.lists.specs.Parts.{concat}
 use Rattle.lists.proofs.Ranges.{first_found}
-use Rattle.model.proofs.Plans.{adjacent-mem}
 use Rattle.model.specs.Plan.{Plan, count, ring, adjacent, next, step, outer, closes, walk, on_inner_face}
 use Rattle.model.specs.Scan.{Triple, after, triples, inner_face, enclosing, first_enclosing, scan}
 use Rattle.faces.proofs.FaceTests.{closes_last, closes_never}
-use Rattle.faces.proofs.Flags.{flag_yes, flag_no}
-use Rattle.triples.proofs.Flags.{not_flag_yes, not_flag_no}
 use Rattle.triples.specs.Scanned.{apart_by, face_by, harmless, third_for, second_for, first_for}
 use Rattle.followers.specs.Followers.{tabled, followers_of, marked, told, closes_by}
 use Rattle.followers.proofs.Notes.{named, closes-none}
@@ -37,137 +35,67 @@ module _ (p : Plan) (a b c : ℕ) where
   unfolding inner_face on_inner_face walk step
   face_is = rw (eq-eqb a a refl, eq-eqb b b refl, and-true (eqb third c))
 
-  face_elsewhere : (j o t s : Bool) → s ≡ false → false ≡ (j && (not o && t) && s)
-  face_elsewhere true true t s e = refl
-  face_elsewhere true false true s e = sym e
-  face_elsewhere true false false s e = refl
-  face_elsewhere false o t s e = refl
+  -- the dart comes back if the other two steps lead to a and to b
+  closes_is : c ≡ third → closes p (a, b) ≡ (eqb (next b (ring p c)) a && eqb (next c (ring p a)) b)
+  unfolding step
+  closes_is e = go (eqb (next b (ring p c)) a) refl
+    where
+      go : (t : Bool) → eqb (next b (ring p c)) a ≡ t → closes p (a, b) ≡ (t && eqb (next c (ring p a)) b)
+      go true t = sym (closes_last p a b c a e (sym (eqb-true (next b (ring p c)) a t)) _ refl refl)
+      go false t = sym (closes_never p a b c (next b (ring p c)) e refl (eqb-false (next b (ring p c)) a t))
 
-  face_outside : (j o t s : Bool) → o ≡ true → false ≡ (j && (not o && t) && s)
-  face_outside true o t s e = rw e
-  face_outside false o t s e = refl
+  -- the tests in the code's order
+  pub face_tests : inner_face p a b c ≡ (eqb third c && not (outer (a, b)) && adjacent p a b && eqb (next b (ring p c)) a && eqb (next c (ring p a)) b)
+  face_tests = face_is ∙ go (eqb third c) refl
+    where
+      order : (j o x y : Bool) → (j && (o && (x && y)) && true) ≡ (o && j && x && y)
+      order true true x y = and-true (x && y)
+      order true false x y = refl
+      order false true x y = refl
+      order false false x y = refl
 
-  pub inner_third : {w : ℕ} → w ≡ third → (w ≡ c → ⊥) → false ≡ inner_face p a b c
-  inner_third e h = face_elsewhere (adjacent p a b) (outer (a, b)) (closes p (a, b)) (eqb third c) (ne_eqb third c (λ q. h (e ∙ q))) ∙ sym face_is
+      go : (s : Bool) → eqb third c ≡ s → (adjacent p a b && (not (outer (a, b)) && closes p (a, b)) && s) ≡ (s && not (outer (a, b)) && adjacent p a b && eqb (next b (ring p c)) a && eqb (next c (ring p a)) b)
+      go true q =
+          ap (λ (t : Bool). adjacent p a b && (not (outer (a, b)) && t) && true) (closes_is (sym (eqb-true third c q)))
+          ∙ order (adjacent p a b) (not (outer (a, b))) (eqb (next b (ring p c)) a) (eqb (next c (ring p a)) b)
+      go false q = and-false (adjacent p a b && (not (outer (a, b)) && closes p (a, b)))
 
-  pub inner_outer : {o : Bool} → o ≡ outer (a, b) → o ≡ true → false ≡ inner_face p a b c
-  inner_outer e t = face_outside (adjacent p a b) (outer (a, b)) (closes p (a, b)) (eqb third c) (flag_yes e t) ∙ sym face_is
-
-  pub inner_apart : {j : Bool} → j ≡ adjacent p a b → not j ≡ true → false ≡ inner_face p a b c
-  inner_apart e t = sym (face_is ∙ rw (not_flag_yes e t))
-
-  -- the third context is c, the dart is inner and a lists b: the walk is a face if the dart comes back
-  module _ {w : ℕ} {o j : Bool} (third-is : w ≡ third) (same : w ≡ c) (outer-is : o ≡ outer (a, b)) (inside : o ≡ false) (near : j ≡ adjacent p a b) (apart : not j ≡ false) where
-    inner_closes : {t : Bool} → t ≡ closes p (a, b) → t ≡ inner_face p a b c
-    inner_closes back = back ∙ sym (face_is ∙ rw (not_flag_no near apart, flag_no outer-is inside, eq-eqb third c (sym third-is ∙ same)) (and-true (closes p (a, b))))
-
-    pub inner_astray : {x : ℕ} → x ≡ next b (ring p c) → (x ≡ a → ⊥) → false ≡ inner_face p a b c
-    unfolding step
-    inner_astray e h = inner_closes (closes_never p a b c _ (sym same ∙ third-is) e h)
-
-    pub inner_back : {x y : ℕ} → x ≡ next b (ring p c) → x ≡ a → y ≡ next c (ring p a) → eqb y b ≡ inner_face p a b c
-    unfolding step
-    inner_back e h f = inner_closes (closes_last p a b c a (sym same ∙ third-is) (sym h ∙ e) _ f refl)
-
--- ---- a, b, c enclose: the tests in the order in which the code makes them
+-- ---- a, b, c enclose: the tests in the code's order
 abbrev Encloses : Bool → Bool → Bool → Bool → Bool → Bool
 Encloses ab ac bc f g = ab && ac && bc && not (f || g)
 
-no_ac : (ab ac bc f g : Bool) → ac ≡ false → false ≡ Encloses ab ac bc f g
-no_ac true ac bc f g e = rw e
-no_ac false ac bc f g e = refl
+pub enclosing_tests : (p : Plan) (a b c : ℕ) → enclosing p (a, b, c) ≡ (adjacent p a c && adjacent p b c && adjacent p a b && not (inner_face p a b c) && not (inner_face p a c b))
+unfolding enclosing
+enclosing_tests p a b c = go (adjacent p a b) (adjacent p a c) (adjacent p b c) (inner_face p a b c) (inner_face p a c b)
+  where
+    go : (ab ac bc f g : Bool) → Encloses ab ac bc f g ≡ (ac && bc && ab && not f && not g)
+    go true true true true g = refl
+    go true true true false g = refl
+    go true true false f g = refl
+    go true false bc f g = refl
+    go false true true f g = refl
+    go false true false f g = refl
+    go false false bc f g = refl
 
-no_bc : (ab ac bc f g : Bool) → bc ≡ false → false ≡ Encloses ab ac bc f g
-no_bc true true bc f g e = rw e
-no_bc true false bc f g e = refl
-no_bc false ac bc f g e = refl
+-- ---- by a table of followers, the walk a, b, c is an inner face: the tests in the code's order
+module _ (t : List ℕ) (a b c : ℕ) (x : std.Option ℕ) (third-is : marked x ≡ told t b a) where
+  asked : eqb (told t b a) (c + 1) ≡ option_eq nat_eq x (Some c)
+  asked = ap (λ (k : ℕ). eqb k (c + 1)) (sym third-is) ∙ sym (named x c)
 
-module _ (p : Plan) (a b c : ℕ) where
-  pub apart_ac : {t : Bool} → t ≡ adjacent p a c → not t ≡ true → false ≡ enclosing p (a, b, c)
-  unfolding enclosing
-  apart_ac e h = no_ac (adjacent p a b) (adjacent p a c) (adjacent p b c) (inner_face p a b c) (inner_face p a c b) (not_flag_yes e h)
-
-  pub apart_bc : {t : Bool} → t ≡ adjacent p b c → not t ≡ true → false ≡ enclosing p (a, b, c)
-  unfolding enclosing
-  apart_bc e h = no_bc (adjacent p a b) (adjacent p a c) (adjacent p b c) (inner_face p a b c) (inner_face p a c b) (not_flag_yes e h)
-
-  pub apart_ab : {t : Bool} → t ≡ adjacent p a b → not t ≡ true → false ≡ enclosing p (a, b, c)
-  unfolding enclosing
-  apart_ab e h = rw (not_flag_yes e h)
-
-  -- three mutual neighbours: x, y, z are the results of the three tests
-  module _ {x y z : Bool} (ac : x ≡ adjacent p a c) (ac-yes : not x ≡ false) (bc : y ≡ adjacent p b c) (bc-yes : not y ≡ false) (ab : z ≡ adjacent p a b) (ab-yes : not z ≡ false) where
-    pub face_abc : {t : Bool} → t ≡ inner_face p a b c → t ≡ true → false ≡ enclosing p (a, b, c)
-    unfolding enclosing
-    face_abc e h = rw (not_flag_no ab ab-yes, not_flag_no ac ac-yes, not_flag_no bc bc-yes, flag_yes e h)
-
-    pub face_acb : {s t : Bool} → s ≡ inner_face p a b c → s ≡ false → t ≡ inner_face p a c b → not t ≡ enclosing p (a, b, c)
-    unfolding enclosing
-    face_acb e h f = rw (not_flag_no ab ab-yes, not_flag_no ac ac-yes, not_flag_no bc bc-yes, flag_no e h) (ap not f)
-
--- ---- by a table of followers, test by test
--- there is nothing where 0 is told
-none-zero : (o : std.Option ℕ) (d : Bool) → is_some o ≡ not d → d ≡ eqb (marked o) 0
-none-zero None true e = sym (eq-eqb 0 0 refl)
-none-zero None false e = cc
-none-zero (Some w) true e = cc
-none-zero (Some w) false e = sym (ne_eqb (suc w) 0 (λ z. omega arith))
-
-module _ (t : List ℕ) where
-  -- there is no cell for the ring, none for the entry; the cell
-  pub apart-high : (a c : ℕ) → 200 ≤ a → false ≡ apart_by t a c
-  unfolding apart_by
-  apart-high a c h = sym (rw (le-ltb a 200 h))
-
-  pub apart_wide : (a c : ℕ) → a < 200 → 200 ≤ c → false ≡ apart_by t a c
-  unfolding apart_by
-  apart_wide a c h k = sym (rw (lt-ltb a 200 h, le-ltb c 200 k))
-
-  pub apart-cell : (a c : ℕ) (o : std.Option ℕ) {d : Bool} → a < 200 → c < 200 → marked o ≡ told t a c → is_some o ≡ not d → d ≡ apart_by t a c
-  unfolding apart_by
-  apart-cell a c o {d} h k e f = none-zero o d f ∙ ap (λ (x : ℕ). eqb x 0) e ∙ sym (rw (lt-ltb a 200 h, lt-ltb c 200 k))
-
-  -- the third context is another, the dart is outer, the dart comes back or not
-  module _ (a b c : ℕ) (x : std.Option ℕ) (third-is : marked x ≡ told t b a) {d : Bool} (other : d ≡ not (option_eq nat_eq x (Some c))) where
-    asked : eqb (told t b a) (c + 1) ≡ option_eq nat_eq x (Some c)
-    asked = ap (λ (k : ℕ). eqb k (c + 1)) (sym third-is) ∙ sym (named x c)
-
-    pub face_other : d ≡ true → false ≡ face_by t a b c
-    unfolding face_by
-    face_other h = go (told t b a) refl
-      where
-        go : (w : ℕ) → told t b a ≡ w → false ≡ (eqb (told t b a - 1) c && not (outer (a, b)) && closes_by t a b)
-        go zero e = sym (and-false (eqb (told t b a - 1) c && not (outer (a, b)))) ∙ ap (λ (k : Bool). eqb (told t b a - 1) c && not (outer (a, b)) && k) (closes-none t a b (sym e))
-        go (suc k) e =
-            let no = eqb-false (told t b a) (c + 1) (asked ∙ not-true (option_eq nat_eq x (Some c)) (sym other ∙ h)) in
-            sym (rw (ne_eqb (told t b a - 1) c (λ q. no (omega arith))))
-
-    module _ (yes : d ≡ false) where
-      third-c : told t b a - 1 ≡ c
-      third-c = let e = eqb-true (told t b a) (c + 1) (asked ∙ not-false (option_eq nat_eq x (Some c)) (sym other ∙ yes)) in omega arith
-
-      pub face_outer : {o : Bool} → o ≡ outer (a, b) → o ≡ true → false ≡ face_by t a b c
-      unfolding face_by
-      face_outer e q = sym (rw (eq-eqb (told t b a - 1) c third-c, flag_yes e q))
-
-      pub face_closes : {o r : Bool} → o ≡ outer (a, b) → o ≡ false → r ≡ closes_by t a b → r ≡ face_by t a b c
-      unfolding face_by
-      face_closes e q f = f ∙ sym (rw (eq-eqb (told t b a - 1) c third-c, flag_no e q))
-
-  -- the first of the three that holds, or the last
-  module _ (a b c : ℕ) {x : Bool} (first : x ≡ apart_by t a c) where
-    pub harmless-apart : x ≡ true → true ≡ harmless t a b c
-    unfolding harmless
-    harmless-apart h = sym (rw (flag_yes first h))
-
-    module _ (no : x ≡ false) {y : Bool} (second : y ≡ face_by t a b c) where
-      pub harmless_face : y ≡ true → true ≡ harmless t a b c
-      unfolding harmless
-      harmless_face h = sym (rw (flag_no first no, flag_yes second h))
-
-      pub harmless_back : {z : Bool} → y ≡ false → z ≡ face_by t a c b → z ≡ harmless t a b c
-      unfolding harmless
-      harmless_back h e = e ∙ sym (rw (flag_no first no, flag_no second h))
+  pub told_tests : (option_eq nat_eq x (Some c) && not (outer (a, b)) && closes_by t a b) ≡ face_by t a b c
+  unfolding face_by
+  told_tests = ap (λ (d : Bool). d && not (outer (a, b)) && closes_by t a b) (sym asked) ∙ sym (go (told t b a) refl)
+    where
+      go : (w : ℕ) → told t b a ≡ w → (eqb (told t b a - 1) c && not (outer (a, b)) && closes_by t a b) ≡ (eqb (told t b a) (c + 1) && not (outer (a, b)) && closes_by t a b)
+      go zero e =
+          let never = closes-none t a b (sym e) in
+          ap (λ (d : Bool). eqb (told t b a - 1) c && not (outer (a, b)) && d) (sym never)
+          ∙ and-false (eqb (told t b a - 1) c && not (outer (a, b)))
+          ∙ sym (and-false (eqb (told t b a) (c + 1) && not (outer (a, b))))
+          ∙ ap (λ (d : Bool). eqb (told t b a) (c + 1) && not (outer (a, b)) && d) never
+      go (suc k) e =
+          let less : told t b a - 1 ≡ k = omega arith in
+          ap (λ (d : Bool). d && not (outer (a, b)) && closes_by t a b) (ap (λ (j : ℕ). eqb j c) less ∙ sym (eqb-suc-suc k c) ∙ λ i. eqb (sym e i) (sym (add-one c) i))
 
 -- ---- what the plan's own table tells of a triple holds
 no_face : (ab ac bc f g : Bool) → (f || g) ≡ true → Encloses ab ac bc f g ≡ false
@@ -187,7 +115,7 @@ module _ (p : Plan) {t : List ℕ} (own : t ≡ followers_of p) where
       let (marked, room) = closes_byte t a b back in
       let one : w ≡ suc (w - 1) = omega arith in
       let third-is : next a (ring p b) ≡ c = told-next p own b a (w - 1) one (λ q. room (one ∙ q)) ∙ eqb-true (w - 1) c x in
-      sym (inner_closes p a b c {w = next a (ring p b)} {j = true} refl third-is refl (not-true (outer (a, b)) y) (sym near) refl (sym (told-closes p own a b back)))
+      face_is p a b c ∙ rw (near, not-true (outer (a, b)) y, told-closes p own a b back, eq-eqb (next a (ring p b)) c third-is)
 
   -- so a harmless triple does not enclose
   pub harmless_so : (a b c : ℕ) → harmless t a b c ≡ true → enclosing p (a, b, c) ≡ false
@@ -223,19 +151,19 @@ first-empty : (f : ℕ → Bool) (a : ℕ) → first_from f a 0 ≡ a
 unfolding first_from
 first-empty f a = refl
 
--- so whatever encloses with a and some c stands in a's ring
-pub third_near : (p : Plan) (n a b : ℕ) → ltb (third_for p n a b) n ≡ true → Memᴰ b (ring p a)
+-- so a lists whatever encloses with it and some c
+pub third_near : (p : Plan) (n a b : ℕ) → ltb (third_for p n a b) n ≡ true → adjacent p a b ≡ true
 unfolding third_for
 third_near p n a b e = go (ltb (suc b) n) refl
   where
     f : ℕ → Bool
     f c = enclosing p (a, b, c)
 
-    go : (t : Bool) → ltb (suc b) n ≡ t → Memᴰ b (ring p a)
+    go : (t : Bool) → ltb (suc b) n ≡ t → adjacent p a b ≡ true
     go true q =
         let h = ltb-true (suc b) n q in
         let low = ltb-true (first_from f (suc b) (n - suc b)) n e in
-        adjacent-mem p a b (enclosing-says p a b (first_from f (suc b) (n - suc b)) (first_found f (suc b) (n - suc b) (omega arith)).passes).0
+        (enclosing-says p a b (first_from f (suc b) (n - suc b)) (first_found f (suc b) (n - suc b) (omega arith)).passes).0
     go false q =
         let h = ltb-false (suc b) n q in
         let low = ltb-true (first_from f (suc b) (n - suc b)) n e in

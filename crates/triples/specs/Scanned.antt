@@ -1,10 +1,9 @@
 -- What a scan says in 01's words, and the search for the smallest triple context by context.
-use Rattle.std.specs.Prelude.{ℕ, suc, ◌-◌, List, Option, Some, None, Bool, cond, not, ◌&&◌, ◌||◌, eqb, ltb}
-use Rattle.std.specs.Option.{unwrap_or}
+use Rattle.std.specs.Prelude.{◌≡◌, ℕ, suc, ◌-◌, ◌^◌, ◌<◌, true, List, Option, Some, None, Bool, cond, not, ◌&&◌, ◌||◌, eqb, ltb}
 use Rattle.std.proofs.Math.Option.{none, some}
 use Rattle.std.proofs.Math.Option as maybe
 use Rattle.lists.specs.Ranges.{first_from, lowest}
-use Rattle.model.specs.Plan.{Plan, outer}
+use Rattle.model.specs.Plan.{Plan, adjacent, outer}
 use Rattle.model.specs.Scan.{enclosing}
 use Rattle.model.specs.Scan as model
 use Rattle.followers.specs.Followers.{tabled, told, closes_by}
@@ -30,9 +29,13 @@ harmless t a b c = apart_by t a c || face_by t a b c || face_by t a c b
 unfoldable pub below : ℕ → ℕ → Option ℕ
 below n x = cond (ltb x n) (Some x) None
 
--- c, if it lies above b and below the best so far and passes; else the best so far. Without a best c may be any number below n
-unfoldable pub nearer : (ℕ → Bool) → ℕ → ℕ → ℕ → Option ℕ → Option ℕ
-nearer f n b c best = cond (ltb b c && (ltb c (unwrap_or best n) && f c)) (Some c) best
+-- what is found for a test that says this of each number: where whatever passes stands in u's ring, the lowest number above u, below n, that passes
+abbrev pub LowestAbove : (ℕ → Bool → Type 0) → Plan → ℕ → ℕ → Option ℕ → Type 0
+LowestAbove says p n u found =
+    (f : ℕ → Bool)
+    → ((v : ℕ) (t : Bool) → v < 2 ^ 64 → says v t → t ≡ f v)
+    → ((v : ℕ) → f v ≡ true → adjacent p u v ≡ true)
+    → found ≡ below n (first_from f (suc u) (n - suc u))
 
 -- the lowest c above b, below n, for which a, b, c enclose; n if there is none
 unfoldable pub third_for : Plan → ℕ → ℕ → ℕ → ℕ

@@ -1,27 +1,25 @@
 -- bad_face meets its contract.
-use Rattle.rings.specs.Tables.{plan_of}
 use mathlib.Core.Path.{refl, ◌∙◌}
-use Rattle.faces.proofs.FaceTests.{ring_long, dart_bad, dart_good, face_darts}
-use Rattle.lists.proofs.Loops.{sees_hit, sees_on, sees_end}
-use native.Mathlib.Omega.{arith}
+use mathlib.Core.Bool.{Bool}
+use Prim.Native.Nat.{ℕ, ◌-◌}
+use lib.ListN.{get_or}
+use borrow.Author.Tests.{tests}
+use borrow.Author.Rules.{rules}
+use Rattle.std.proofs.lemmas.Iterator.{YieldsList-from_range}
+use Rattle.std.proofs.lemmas.Iterator.Search.{any_from_yields_List}
+use Rattle.lists.proofs.Chains.{any_entry}
+use Rattle.model.specs.Plan.{ring}
+use Rattle.rings.specs.Tables.{plan_of}
+use Rattle.faces.proofs.FaceTests.{bad_dart, ring_long, face_darts}
 use Rattle.faces.proofs.bad_face.Goals as goal
-
-pub returns-then-bad_dart : goal.returns-then-bad_dart
-returns-then-bad_dart c =
-    let a = c.args in
-    let p = plan_of a.rings.now in
-    let long = ring_long a.rings.now.starts.now a.rings.now.sizes.now a.rings.now.entries.now a.rings.now.n a.u c.size_of-k.ensures.value in
-    sees_hit c.loop-i.invariant (omega arith) (dart_bad p a.u c.neighbour_at.ensures c.bad_dart.ensures c.if-bad_dart.true) ∙ face_darts p a.u _ long
-
-pub loop-i-preserved : goal.loop-i-preserved
-loop-i-preserved c =
-    let a = c.args in
-    let p = plan_of a.rings.now in
-    sees_on c.loop-i.invariant refl (omega arith) (dart_good p a.u c.neighbour_at.ensures c.bad_dart.ensures c.if-bad_dart.false)
 
 pub returns : goal.returns
 returns c =
-    let a = c.args in
-    let p = plan_of a.rings.now in
-    let long = ring_long a.rings.now.starts.now a.rings.now.sizes.now a.rings.now.entries.now a.rings.now.n a.u c.size_of-k.ensures.value in
-    sees_end c.loop-i.invariant (omega arith) ∙ face_darts p a.u _ long
+    let r = c.args.rings.now in
+    let u = c.args.u in
+    let p = plan_of r in
+    let e = c.size_of.result in
+    let test : ℕ → Bool = λ i. bad_dart p u (get_or (ring p u) i 0) in
+    any_from_yields_List test _ _ c.any.result c.any.ensures.ran (YieldsList-from_range 0 e (e - 0) refl refl) (λ x b f k. search (rules, tests))
+    ∙ any_entry (ring p u) (bad_dart p u) 0 (e - 0)
+    ∙ face_darts p u e (ring_long r.starts.now r.sizes.now r.entries.now r.n u c.size_of.ensures.value)

@@ -1,39 +1,29 @@
 -- repeats_at meets its contract.
-use Prim.Native.Nat.{◌+◌}
+use mathlib.Core.Path.{refl, ◌∙◌}
+use mathlib.Core.Bool.{Bool}
+use Prim.Native.Nat.{ℕ, ◌+◌, ◌-◌}
 use lib.ListN.{get_or}
+use native.Mathlib.Omega.{arith}
+use borrow.Author.Tests.{tests}
+use borrow.Author.Rules.{rules}
+use Rattle.std.proofs.lemmas.Iterator.{YieldsList-from_range}
+use Rattle.std.proofs.lemmas.Iterator.Search.{any_from_yields_List}
 use Rattle.lists.specs.Tests.{member}
-use Rattle.lists.proofs.Spans.{span_more, span_end}
-use mathlib.Core.Path.{◌≡◌, sym, ◌∙◌}
 use Rattle.lists.specs.Spans.{span}
+use Rattle.lists.proofs.Chains.{any_again}
 use Rattle.model.specs.Plan.{ring}
 use Rattle.lent.specs.Plans.{lent_of}
+use Rattle.rings.specs.Tables.{size_of}
 use Rattle.single.proofs.Entries.{whole_repeat}
-use native.Mathlib.Omega.{arith}
 use Rattle.single.proofs.repeats_at.Goals as goal
-
-pub returns-then-is_from : goal.returns-then-is_from
-returns-then-is_from c =
-    let a = c.args in
-    let e = c.size_of-e.ensures.value in
-    let l = ring (lent_of a.rings.now) a.u in
-    let i = c.loop-i.i in
-    let v = c.neighbour_at-v.ensures in
-    let here : member (get_or l i 0) (span l (i + 1) c.size_of-e.result) ≡ c.is_from.result = sym (c.is_from.ensures ∙ (λ t. member (v t) (span l (i + 1) (sym e t)))) in
-    sym (c.loop-i.invariant ∙ rw (span_more l i c.size_of-e.result (omega arith), here ∙ c.if-is_from.true)) ∙ whole_repeat a.rings.now.starts.now a.rings.now.sizes.now a.rings.now.file.now a.rings.now.n a.u _ e
-
-pub loop-i-preserved : goal.loop-i-preserved
-loop-i-preserved c =
-    let a = c.args in
-    let e = c.size_of-e.ensures.value in
-    let l = ring (lent_of a.rings.now) a.u in
-    let i = c.loop-i.i in
-    let v = c.neighbour_at-v.ensures in
-    let here : member (get_or l i 0) (span l (i + 1) c.size_of-e.result) ≡ c.is_from.result = sym (c.is_from.ensures ∙ (λ t. member (v t) (span l (i + 1) (sym e t)))) in
-    c.loop-i.invariant ∙ rw (span_more l i c.size_of-e.result (omega arith), here ∙ c.if-is_from.false)
 
 pub returns : goal.returns
 returns c =
-    let a = c.args in
-    let e = c.size_of-e.ensures.value in
-    let l = ring (lent_of a.rings.now) a.u in
-    sym (c.loop-i.invariant ∙ rw (span_end l c.loop-i.i c.size_of-e.result (omega arith))) ∙ whole_repeat a.rings.now.starts.now a.rings.now.sizes.now a.rings.now.file.now a.rings.now.n a.u _ e
+    let r = c.args.rings.now in
+    let u = c.args.u in
+    let l = ring (lent_of r) u in
+    let e = size_of r.sizes.now r.n u in
+    let test : ℕ → Bool = λ i. member (get_or l i 0) (span l (i + 1) e) in
+    any_from_yields_List test _ _ c.any.result c.any.ensures.ran (YieldsList-from_range 0 c.size_of.result (e - 0) refl (let s = c.size_of.ensures.value in omega arith)) (λ x b f k. search (rules, tests))
+    ∙ any_again l e 0 (e - 0) (omega arith)
+    ∙ whole_repeat r.starts.now r.sizes.now r.file.now r.n u e refl

@@ -1,26 +1,29 @@
 -- is_doubted meets its contract.
-use mathlib.Core.Path.{refl, ap, ◌∙◌}
-use Rattle.lists.proofs.Loops.{sees_hit, sees_on, sees_end}
-use Rattle.model.specs.Plan.{neighbour}
-use Rattle.sound.proofs.Doubts.{ring-doubted, entry-doubtful}
+use mathlib.Core.Path.{refl, ◌∙◌}
+use mathlib.Core.Bool.{Bool}
+use Prim.Native.Nat.{ℕ, ◌+◌, ◌-◌}
+use lib.ListN.{get_or}
 use native.Mathlib.Omega.{arith}
+use borrow.Author.Tests.{tests}
+use borrow.Author.Rules.{rules}
+use Rattle.std.proofs.lemmas.Iterator.{YieldsList-from_range}
+use Rattle.std.proofs.lemmas.Iterator.Search.{any_from_yields_List}
+use Rattle.lists.proofs.Chains.{any_entry}
+use Rattle.model.specs.Plan.{neighbour}
+use Rattle.sound.specs.Sound.{doubtful}
+use Rattle.sound.proofs.Doubts.{ring-doubted}
 use Rattle.sound.proofs.is_doubted.Goals as goal
-
-pub returns-then-is_doubtful : goal.returns-then-is_doubtful
-returns-then-is_doubtful c =
-    let a = c.args in
-    let size = c.size_of.ensures.value in
-    let there = c.neighbour_of.ensures ∙ ap neighbour c.num.ensures.value in
-    sees_hit c.loop-i.invariant (omega arith) (entry-doubtful a.table.now a.u there c.is_doubtful.ensures c.if-is_doubtful.true) ∙ ring-doubted a.table.now a.rings.now.starts.now a.rings.now.sizes.now a.rings.now.entries.now a.rings.now.n a.u c.num-a.ensures.value (omega arith)
-
-pub loop-i-preserved : goal.loop-i-preserved
-loop-i-preserved c =
-    let a = c.args in
-    let there = c.neighbour_of.ensures ∙ ap neighbour c.num.ensures.value in
-    sees_on c.loop-i.invariant refl (omega arith) (entry-doubtful a.table.now a.u there c.is_doubtful.ensures c.if-is_doubtful.false)
 
 pub returns : goal.returns
 returns c =
-    let a = c.args in
+    let r = c.args.rings.now in
+    let t = c.args.table.now in
+    let u = c.args.u in
+    let a = c.num-a.result in
+    let e = a + c.size_of.result in
     let size = c.size_of.ensures.value in
-    sees_end c.loop-i.invariant (omega arith) ∙ ring-doubted a.table.now a.rings.now.starts.now a.rings.now.sizes.now a.rings.now.entries.now a.rings.now.n a.u c.num-a.ensures.value (omega arith)
+    let f : ℕ → Bool = λ x. doubtful t u (neighbour x) in
+    let test : ℕ → Bool = λ i. f (get_or r.entries.now i 0) in
+    any_from_yields_List test _ _ c.any.result c.any.ensures.ran (YieldsList-from_range a e (e - a) refl refl) (λ x b g k. search (rules, tests))
+    ∙ any_entry r.entries.now f a (e - a)
+    ∙ ring-doubted t r.starts.now r.sizes.now r.entries.now r.n u c.num-a.ensures.value (omega arith)

@@ -16,9 +16,6 @@ returns-in_err-a c =
     let over = below-over c.in_err-a.ensures in
     ap scanned_as c.from_residual.ensures ∙ scan-none (plan_of r) r.n _ size refl over
 
-pub second_for-requires : goal.second_for-requires
-second_for-requires c = (below-says c.in_ok-a.ensures).1
-
 pub returns-in_err-b : goal.returns-in_err-b
 returns-in_err-b c =
     let r = c.args.self.now.rings in
@@ -27,9 +24,6 @@ returns-in_err-b c =
     let second = second_below (plan_of r) r.n c.in_ok-a.a size first low in
     let over = below-over c.in_err-b.ensures in
     absurd (omega arith)
-
-pub third_for-requires : goal.third_for-requires
-third_for-requires c = (below-says c.in_ok-b.ensures).1
 
 pub returns-in_err-c : goal.returns-in_err-c
 returns-in_err-c c =
