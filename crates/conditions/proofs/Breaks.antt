@@ -5,11 +5,12 @@ use mathlib.Core.List.{List}
 use mathlib.Core.Bool.{Bool, true, false, cond, not, ◌&&◌, ◌||◌, true≢false, and-false, or-false}
 use native.Mathlib.Omega.{arith}
 use lib.ListN.{get_or}
-use lib.Dec.{eqb, ltb}
+use lib.Dec.{eqb, ltb, leb}
 use borrow.Author.Tests.{ltb-true, ltb-false, lt-ltb, le-ltb, ne_eqb}
 use Rattle.lists.specs.Tests.{any}
 use Rattle.lists.specs.Ranges.{first_from, lowest}
 use Rattle.lists.proofs.Tests.{any_same, any-or}
+use Rattle.model.specs.Outcome.{require, rule}
 use Rattle.model.specs.Plan.{Plan, ring, border}
 use Rattle.model.specs.Labels.{unlabelled, label_of, labels_around, due, bad_dart, not_due, four_runs, bad_ring, breaks}
 use Rattle.rings.specs.Tables.{starts_of, rows, table}
@@ -120,11 +121,15 @@ module _ (starts sizes es : List ℕ) (n : ℕ) (same : starts ≡ starts_of siz
       ∙ one_pass (bad_dart P ls u) (not_due P ls u) (border u) (not (four_runs (labels_around P ls u))) (ring (rows starts sizes es n) u)
       ∙ ap (λ (p : Plan). any (bad_dart P ls u) (ring p u) || cond (border u) (any (not_due P ls u) (ring p u)) (not (four_runs (labels_around P ls u)))) (is-table starts sizes es n same small)
 
--- The lowest context that breaks the rules by the plan's own table is the lowest that breaks them
-pub rules_own : (starts sizes es : List ℕ) (n : ℕ) → starts ≡ starts_of sizes → n ≤ 200 → {t : List ℕ} → t ≡ places_of (rows starts sizes es n) → (ls : List ℕ) → lowest (breaks_by t starts (rows starts sizes es n) ls) n ≡ lowest (breaks (table sizes es n) ls) n
+-- the lowest context that breaks the rules by the plan's own table is the lowest that breaks them
+lowest_own : (starts sizes es : List ℕ) (n : ℕ) → starts ≡ starts_of sizes → n ≤ 200 → {t : List ℕ} → t ≡ places_of (rows starts sizes es n) → (ls : List ℕ) → lowest (breaks_by t starts (rows starts sizes es n) ls) n ≡ lowest (breaks (table sizes es n) ls) n
 unfolding first_from
-rules_own starts sizes es n same small {t} own ls = go 0 n (omega arith)
+lowest_own starts sizes es n same small {t} own ls = go 0 n (omega arith)
   where
     go : (a k : ℕ) → a + k ≤ n → first_from (breaks_by t starts (rows starts sizes es n) ls) a k ≡ first_from (breaks (table sizes es n) ls) a k
     go a zero h = refl
     go a (suc k) h = λ i. cond (breaks-own starts sizes es n same small own ls a (omega arith) i) a (go (suc a) k (omega arith) i)
+
+-- The label rules by the plan's own table are the label rules
+pub rules_own : (starts sizes es : List ℕ) (n : ℕ) → starts ≡ starts_of sizes → n ≤ 200 → {t : List ℕ} → t ≡ places_of (rows starts sizes es n) → (ls : List ℕ) → rule 10 n (breaks_by t starts (rows starts sizes es n) ls) ≡ rule 10 n (breaks (table sizes es n) ls)
+rules_own starts sizes es n same small {t} own ls = let e = lowest_own starts sizes es n same small own ls in λ i. require (leb n (e i)) 10 (e i)

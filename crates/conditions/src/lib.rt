@@ -1,15 +1,17 @@
 // The label rules: the lowest context that breaks them, with the label of each dart found by a table of positions.
 #![tactic(auto)]
 
-ghost use Rattle.std.specs.Prelude.{◌≡◌, map, min, ◌≤◌, ◌<◌, ◌^◌};
+ghost use Rattle.std.specs.Prelude.{◌≡◌, map, min};
 ghost use Rattle.lists.specs.Tests.{any};
-ghost use Rattle.lists.specs.Ranges.{lowest};
 ghost use Rattle.lists.specs.Spans.{span};
+ghost use Rattle.model.specs.Outcome.{rule};
 ghost use Rattle.model.specs.Plan.{neighbour};
 ghost use Rattle.model.specs.Labels.{breaks};
+ghost use Rattle.refusal.specs.Refusals.{told};
 ghost use Rattle.rings.specs.Tables.{rows, held};
 ghost use Rattle.conditions.specs.LabelBy.{label_by, bad_dart_by, not_due_by, wrong_dart_by, breaks_by};
 
+use refusal::Refusal;
 use rings::Table;
 
 // A plan with its labels, with where each ring begins and a table of positions.
@@ -24,22 +26,17 @@ pub struct Labelled<'a> {
 
 impl<'a> Labelled<'a> {
     // The label of the dart from u to v; none where there is no dart, and from 200 on.
-    #[tactic(auto, unfolding(crate::specs::LabelBy::label_by, crate::specs::LabelBy::label_at))]
-    fn label_of(&self, u: usize, v: usize) -> usize
-        ensures value { result ≡ label_by self.now.places.now self.now.starts.now self.now.labels.now u v }
-        ensures upper_bound { result < 2 ^ 8 }
+    #[tactic(auto, unfolding(rings::specs::Tables::cell, crate::specs::LabelBy::label_by, crate::specs::LabelBy::label_at))]
+    fn label_of(&self, u: usize, v: usize) -> u8
+        ensures { result ≡ label_by self.now.places.now self.now.starts.now self.now.labels.now u v }
     {
-        if u >= 200 {
+        let Some(cell) = rings::cell(u, v) else {
             return labels::NONE;
-        }
-        if v >= 200 {
+        };
+        let Some(i) = usize::from(self.places[cell]).checked_sub(1) else {
             return labels::NONE;
-        }
-        let place = usize::from(self.places[200 * u + v]);
-        if place == 0 {
-            return labels::NONE;
-        }
-        labels::label_at(self.labels, usize::from(self.starts[u]) + place - 1)
+        };
+        labels::label_at(self.labels, usize::from(self.starts[u]) + i)
     }
 
     // Does the dart from u to v break the rules? The border's label stands between border contexts, and only there; elsewhere a dart and its reverse differ by two quarters.
@@ -77,13 +74,7 @@ impl<'a> Labelled<'a> {
     fn has_wrong(&self, u: usize, a: usize, e: usize) -> bool
         ensures { result ≡ any (wrong_dart_by self.now.places.now self.now.starts.now self.now.labels.now u) (map neighbour (span self.now.plan.entries.now a e)) }
     {
-        for i in a..e {
-            let v = rings::neighbour_of(arrays::num(self.plan.entries, i));
-            if self.is_wrong(u, v) {
-                return true;
-            }
-        }
-        false
+        (a..e).any(|i| self.is_wrong(u, rings::neighbour_of(arrays::num(self.plan.entries, i))))
     }
 
     // Does u break the rules: is one of its darts wrong, or are the labels of an inner context not four runs?
@@ -96,24 +87,20 @@ impl<'a> Labelled<'a> {
         self.has_wrong(u, a, e) || u >= 4 && !labels::runs::four_runs(self.labels, a, e)
     }
 
-    // The lowest context that breaks the rules by the table of positions, or the number of contexts.
-    pub fn place(&self) -> usize
-        ensures value { result ≡ lowest (breaks_by self.now.places.now self.now.starts.now (rows self.now.starts.now self.now.plan.sizes.now self.now.plan.entries.now self.now.plan.n) self.now.labels.now) self.now.plan.n }
-        ensures upper_bound { result ≤ self.now.plan.n }
+    // No context breaks the rules by the table of positions; or the lowest that does.
+    pub fn check(&self) -> Result<(), Refusal>
+        ensures { told result ≡ rule 10 self.now.plan.n (breaks_by self.now.places.now self.now.starts.now (rows self.now.starts.now self.now.plan.sizes.now self.now.plan.entries.now self.now.plan.n) self.now.labels.now) }
     {
-        for u in 0..self.plan.n {
-            if self.is_broken_at(u) {
-                return u;
-            }
+        match (0..self.plan.n).find(|u| self.is_broken_at(*u)) {
+            Some(u) => Err(Refusal::BadLabels(u)),
+            None => Ok(()),
         }
-        self.plan.n
     }
 }
 
-// The lowest context that breaks the label rules; the number of contexts, at most 200, where none does.
-pub fn rules_place(plan: &Table, labels: &[u8]) -> usize
-    ensures value { result ≡ lowest (breaks (held plan.now.sizes.now plan.now.entries.now plan.now.n) labels.now) (min plan.now.n 200) }
-    ensures upper_bound { result ≤ min plan.now.n 200 }
+// No context breaks the label rules, of at most 200; or the lowest that does.
+pub fn check(plan: &Table, labels: &[u8]) -> Result<(), Refusal>
+    ensures { told result ≡ rule 10 (min plan.now.n 200) (breaks (held plan.now.sizes.now plan.now.entries.now plan.now.n) labels.now) }
 {
     let starts = rings::starts_of(plan.sizes);
     let plan = Table {
@@ -128,5 +115,5 @@ pub fn rules_place(plan: &Table, labels: &[u8]) -> usize
         plan,
         labels,
     };
-    labelled.place()
+    labelled.check()
 }

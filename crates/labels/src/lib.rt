@@ -2,44 +2,40 @@
 // A label is a number: files and calls bring any byte, and labels are turned by adding quarters.
 #![tactic(auto)]
 
-ghost use Rattle.std.specs.Prelude.{◌≡◌, ◌&&◌, ◌<◌, ◌^◌, get_or};
+ghost use Rattle.std.specs.Prelude.{◌≡◌, ◌&&◌, get_or};
 ghost use Rattle.model.specs.Plan.{border};
 ghost use Rattle.model.specs.Labels.{unlabelled, due};
 
 pub mod runs;
 
 // The label up.
-pub const UP: usize = 0;
+pub const UP: u8 = 0;
 
 // The label right, a quarter clockwise from up.
-pub const RIGHT: usize = 1;
+pub const RIGHT: u8 = 1;
 
 // The label down.
-pub const DOWN: usize = 2;
+pub const DOWN: u8 = 2;
 
 // The label left.
-pub const LEFT: usize = 3;
+pub const LEFT: u8 = 3;
 
 // The label between border contexts.
-pub const BORDER: usize = 4;
+pub const BORDER: u8 = 4;
 
 // What stands where there is no label.
-pub const NONE: usize = 5;
+pub const NONE: u8 = 5;
 
 // The label at i; past the last there is none.
-pub fn label_at(labels: &[u8], i: usize) -> usize
-    ensures value { result ≡ get_or labels.now i unlabelled }
-    ensures upper_bound { result < 2 ^ 8 }
+pub fn label_at(labels: &[u8], i: usize) -> u8
+    ensures { result ≡ get_or labels.now i unlabelled }
 {
-    match labels.get(i) {
-        Some(label) => usize::from(*label),
-        None => NONE,
-    }
+    labels.get(i).copied().unwrap_or(NONE)
 }
 
 // The label due on the inner darts that leave a context: North's are down, East's left, South's up, West's right; no one label is due at an inner context.
 #[tactic(auto, unfolding(model::specs::Labels::due))]
-pub fn due_label(u: usize) -> usize
+pub fn due_label(u: usize) -> u8
     ensures { result ≡ due u }
 {
     match u {

@@ -6,7 +6,7 @@ ghost use Rattle.labels.specs.Changes.{change_weight};
 
 // What a change from label a to label b weighs: 0 where there is none, 1 to the next label clockwise, 5 otherwise.
 #[tactic(auto, unfolding(crate::specs::Changes::change_weight))]
-fn change_weight(a: usize, b: usize) -> usize
+fn change_weight(a: u8, b: u8) -> u8
     ensures value { result ≡ change_weight a b }
     ensures upper_bound { result ≤ 5 }
 {
@@ -28,10 +28,9 @@ pub fn four_runs(labels: &[u8], a: usize, e: usize) -> bool
         return false;
     }
     let round = &labels[a..end];
-    let mut last = usize::from(round[round.len() - 1]);
+    let mut last = round[round.len() - 1];
     let mut weight = 0;
-    for label in round {
-        let label = usize::from(*label);
+    for &label in round {
         weight += change_weight(last, label);
         if weight > 4 {
             return false;

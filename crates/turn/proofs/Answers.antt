@@ -14,7 +14,7 @@ use Rattle.lists.specs.Spans.{stretch}
 use Rattle.lists.proofs.Parts.{length_pairs}
 use Rattle.lists.proofs.Spans.{length-stretch, stretch-first}
 use Rattle.lists.proofs.Stretches.{stretch-front}
-use Rattle.model.specs.Outcome.{Outcome, accepted, refused, ◌>>◌, require, taken}
+use Rattle.model.specs.Outcome.{Outcome, accepted, refused, ◌>>◌, require, rule, taken}
 use Rattle.model.specs.Plan.{Plan, Dart, count, entry_count}
 use Rattle.model.specs.Labels.{label_of, turned, put, breaks, label_rules}
 use Rattle.model.specs.Turn.{bad_pair, quarters, turn_dart, turned_edges, turn}
@@ -85,18 +85,6 @@ module _ (p : Plan) (ls items : List ℕ) (direction : ℕ) where
   turn_rules : Many ≤ First → length items % 2 ≡ 0 → direction < 2 → turn p ls items direction ≡ (label_rules p After >> accepted After)
   unfolding turn
   turn_rules h even near = rw (le-leb Many First h, eq-eqb (length items % 2) 0 even, lt-ltb direction 2 near)
-
--- ---- the label rules, broken and kept
--- broken, at the lowest context that breaks them
-rules_broken : (p : Plan) (ms : List ℕ) {place : ℕ} → place ≡ lowest (breaks p ms) (count p) → place < count p → (label_rules p ms >> accepted ms) ≡ refused 10 place
-unfolding label_rules
-rules_broken p ms e h =
-    ap (λ (t : Bool). require t 10 (lowest (breaks p ms) (count p)) >> accepted ms) (lt-leb (count p) (lowest (breaks p ms) (count p)) (omega arith)) ∙ (λ i. refused 10 (sym e i))
-
--- kept by every context
-rules_kept : (p : Plan) (ms : List ℕ) {place : ℕ} → place ≡ lowest (breaks p ms) (count p) → count p ≤ place → (label_rules p ms >> accepted ms) ≡ accepted ms
-unfolding label_rules
-rules_kept p ms e h = ap (λ (t : Bool). require t 10 (lowest (breaks p ms) (count p)) >> accepted ms) (le-leb (count p) (lowest (breaks p ms) (count p)) (omega arith))
 
 -- ---- the pass over the pairs
 module _ (p : Plan) (q : ℕ) (es : List Dart) (old : List ℕ) where
@@ -200,7 +188,7 @@ module _ (sizes es : List ℕ) (n : ℕ) (labels items : List ℕ) (direction : 
         pub answer_direction : {m : ℕ} → m ≡ length items / 2 → 1 < direction → Answers (refused 15 m)
         answer_direction halves far = refusal (fits ∙ turn_direction P Old items direction good even (omega arith) ∙ ap (refused 15) (length_pairs items ∙ sym halves))
 
-        module _ (near : direction ≤ 1) (by : q ≡ quarters direction) {place : ℕ} (tested : place ≡ lowest (breaks P new) n) where
+        module _ (near : direction ≤ 1) (by : q ≡ quarters direction) where
           -- the labels after all edges are turned
           abbrev New : List ℕ
           New = After P Old items direction
@@ -216,26 +204,28 @@ module _ (sizes es : List ℕ) (n : ℕ) (labels items : List ℕ) (direction : 
           new_long : length New ≡ length Old
           new_long = turns_long P (quarters direction) (pairs items) Old
 
-          -- the context that the code found
-          place_is : place ≡ lowest (breaks P New) (count P)
-          place_is =
-              tested
-              ∙ (λ i. lowest (breaks P (new_front i)) (sym many i))
-              ∙ rules_behind P New Rest (new_long ∙ old-each) (count P)
+          -- the lowest context that breaks the rules, by the array and by the labels alone
+          lowest_behind : lowest (breaks P new) n ≡ lowest (breaks P New) (count P)
+          lowest_behind = (λ i. lowest (breaks P (new_front i)) (sym many i)) ∙ rules_behind P New Rest (new_long ∙ old-each) (count P)
 
-          -- only the label rules are left
-          answered : turn_of sizes es n labels items direction ≡ (label_rules P New >> accepted New)
-          answered = fits ∙ turn_rules P Old items direction good even (omega arith)
+          module _ {judged : Outcome (Unit {0})} (ten : judged ≡ rule 10 n (breaks P new)) where
+            -- only the label rules are left
+            answered : turn_of sizes es n labels items direction ≡ (judged >> accepted New)
+            unfolding label_rules
+            answered =
+                fits
+                ∙ turn_rules P Old items direction good even (omega arith)
+                ∙ ap (λ (o : Outcome (Unit {0})). o >> accepted New) (sym (ten ∙ λ i. require (leb (sym many i) (lowest_behind i)) 10 (lowest_behind i)))
 
           -- 10 at the lowest context that breaks them
-          pub answer_broken : place < n → Answers (refused 10 place)
-          answer_broken h = refusal (answered ∙ rules_broken P New place_is (let c = many in omega arith))
+          pub answer_broken : {k at : ℕ} → refused k at ≡ rule 10 n (breaks P new) → Answers (refused k at)
+          answer_broken ten = refusal (answered ten)
 
           -- none breaks them
-          pub answer_labelled : n ≤ place → Answers (accepted new)
+          pub answer_labelled : accepted tt ≡ rule 10 n (breaks P new) → Answers (accepted new)
           unfolding labels_in
-          answer_labelled h =
-              let done : turn_of sizes es n labels items direction ≡ accepted New = answered ∙ rules_kept P New place_is (let c = many in omega arith) in
+          answer_labelled ten =
+              let done : turn_of sizes es n labels items direction ≡ accepted New = answered ten in
               let size : length New ≡ start_of sizes n = new_long ∙ old_long in
               record {
                 answer = (λ i. accepted (stretch (new_front i) 0 (sym size i))) ∙ ap accepted (stretch-front New Rest) ∙ sym done;

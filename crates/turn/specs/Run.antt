@@ -5,6 +5,12 @@ use Rattle.model.specs.Outcome.{Outcome, accepted, ◌>>◌, rule}
 use Rattle.model.specs.Plan.{Plan, Dart, ring, adjacent, border}
 use Rattle.model.specs.Labels.{unlabelled, start, turned}
 use Rattle.model.specs.Turn.{bad_pair, turned_edges}
+use Rattle.rings.specs.Tables.{table}
+use Rattle.rings.specs.declared.Rings.{Rings}
+
+-- the plan of rings in flat arrays, by their sizes alone
+abbrev pub sized : Rings → Plan
+sized r = table r.sizes.now r.entries.now r.n
 
 -- where the label of the dart from u to v stands, if there is a dart
 unfoldable pub place_of : Plan → ℕ → ℕ → Option ℕ

@@ -6,10 +6,10 @@ ghost use Rattle.std.specs.Prelude.{◌≡◌, ◌≤◌, ◌<◌, ◌%◌};
 ghost use Rattle.lists.specs.Parts.{pairs};
 ghost use Rattle.model.specs.Turn.{quarters};
 ghost use Rattle.refusal.specs.Refusals.{told};
-ghost use Rattle.rings.specs.Tables.{start_of, starts_of, plan_of, table};
+ghost use Rattle.rings.specs.Tables.{start_of, starts_of, plan_of};
 ghost use Rattle.places.specs.Places.{places_of};
 ghost use Rattle.turn.specs.Turned.{turn_of, held_labels, in_array};
-ghost use Rattle.turn.specs.Run.{place_of, turn_at, unturned, pairs_turned};
+ghost use Rattle.turn.specs.Run.{sized, place_of, turn_at, unturned, pairs_turned};
 
 use conditions::Labelled;
 use places::Located;
@@ -25,39 +25,6 @@ fn quarters_of(direction: u8) -> u8
     if direction == 0 { 1 } else { 3 }
 }
 
-// Where the label of the dart from u to v stands, if there is a dart.
-fn place_of(located: &Located, u: usize, v: usize) -> Option<usize>
-    requires starts_value { located.now.rings.starts.now ≡ starts_of located.now.rings.sizes.now }
-    requires n_bound { located.now.rings.n ≤ 200 }
-    requires places_value { located.now.places.now ≡ places_of (plan_of located.now.rings) }
-    ensures { result ≡ place_of (table located.now.rings.sizes.now located.now.rings.entries.now located.now.rings.n) u v }
-{
-    let i = located.index_of(u, v);
-    let rings = located.rings;
-    if i < rings.size_of(u) {
-        return Some(arrays::num(rings.starts, u) + i);
-    }
-    None
-}
-
-// Where the label of the dart from u to v stands, if it is an inner dart whose label was not turned yet.
-#[tactic(auto, unfolding(crate::specs::Run::unturned, crate::specs::Run::bad_at))]
-fn unturned_place(located: &Located, old: &[u8], new: &[u8], u: usize, v: usize) -> Option<usize>
-    requires starts_value { located.now.rings.starts.now ≡ starts_of located.now.rings.sizes.now }
-    requires n_bound { located.now.rings.n ≤ 200 }
-    requires places_value { located.now.places.now ≡ places_of (plan_of located.now.rings) }
-    ensures { result ≡ unturned old.now new.now u v (place_of (table located.now.rings.sizes.now located.now.rings.entries.now located.now.rings.n) u v) }
-{
-    let i = place_of(located, u, v)?;
-    if labels::both_border(u, v) {
-        return None;
-    }
-    if labels::label_at(new, i) != labels::label_at(old, i) {
-        return None;
-    }
-    Some(i)
-}
-
 // The label at i turned clockwise by q quarters; nothing where i is past the last.
 fn turn_at(labels: &mut [u8], i: usize, q: u8)
     requires { q < 4 }
@@ -68,32 +35,64 @@ fn turn_at(labels: &mut [u8], i: usize, q: u8)
     }
 }
 
-// The labels with each named edge turned by q quarters, where every pair is an inner edge that was not named before.
-fn turn_pairs(
-    located: &Located,
-    labels: [u8; 1186],
-    items: &[u16],
-    q: u8,
-) -> Result<[u8; 1186], Refusal>
-    requires starts_value { located.now.rings.starts.now ≡ starts_of located.now.rings.sizes.now }
-    requires n_bound { located.now.rings.n ≤ 200 }
-    requires places_value { located.now.places.now ≡ places_of (plan_of located.now.rings) }
-    requires n_bound_2 { start_of located.now.rings.sizes.now located.now.rings.n ≤ 1186 }
-    requires q_bound { (q < 4) × (q % 2 ≡ 1) }
-    ensures { told result ≡ pairs_turned (table located.now.rings.sizes.now located.now.rings.entries.now located.now.rings.n) q (pairs items.now) labels }
-{
-    let (pairs, _) = items.as_chunks::<2>();
-    let mut turned = labels;
-    for (k, pair) in pairs.iter().enumerate() {
-        let u = usize::from(pair[0]);
-        let v = usize::from(pair[1]);
-        let i = unturned_place(located, &labels, &turned, u, v).ok_or(Refusal::BadPair(k))?;
-        if let Some(back) = place_of(located, v, u) {
-            turn_at(&mut turned, back, q);
+// The rings of a plan that fits the arrays, with the starts of its rings and its own table of positions: by them the label of each dart is found where the model has it.
+#[derive(Clone, Copy)]
+struct Placed<'a> {
+    located: Located<'a>,
+    ghost starts: { located.rings.starts.now ≡ starts_of located.rings.sizes.now },
+    ghost few: { located.rings.n ≤ 200 },
+    ghost own: { located.places.now ≡ places_of (plan_of located.rings) },
+    ghost room: { start_of located.rings.sizes.now located.rings.n ≤ 1186 },
+}
+
+impl Placed<'_> {
+    // Where the label of the dart from u to v stands, if there is a dart.
+    fn place_of(&self, u: usize, v: usize) -> Option<usize>
+        ensures { result ≡ place_of (sized self.now.located.rings) u v }
+    {
+        let i = self.located.index_of(u, v);
+        let rings = self.located.rings;
+        if i < rings.size_of(u) {
+            return Some(arrays::num(rings.starts, u) + i);
         }
-        turn_at(&mut turned, i, q);
+        None
     }
-    Ok(turned)
+
+    // Where the label of the dart from u to v stands, if it is an inner dart whose label was not turned yet.
+    #[tactic(auto, unfolding(crate::specs::Run::unturned, crate::specs::Run::bad_at))]
+    fn unturned_place(&self, old: &[u8], new: &[u8], u: usize, v: usize) -> Option<usize>
+        ensures { result ≡ unturned old.now new.now u v (place_of (sized self.now.located.rings) u v) }
+    {
+        let i = self.place_of(u, v)?;
+        if labels::both_border(u, v) {
+            return None;
+        }
+        if labels::label_at(new, i) != labels::label_at(old, i) {
+            return None;
+        }
+        Some(i)
+    }
+
+    // The labels with each named edge turned by q quarters, where every pair is an inner edge that was not named before.
+    fn turn_pairs(&self, labels: [u8; 1186], items: &[u16], q: u8) -> Result<[u8; 1186], Refusal>
+        requires { (q < 4) × (q % 2 ≡ 1) }
+        ensures { told result ≡ pairs_turned (sized self.now.located.rings) q (pairs items.now) labels }
+    {
+        let (pairs, _) = items.as_chunks::<2>();
+        let mut turned = labels;
+        for (k, pair) in pairs.iter().enumerate() {
+            let u = usize::from(pair[0]);
+            let v = usize::from(pair[1]);
+            let i = self
+                .unturned_place(&labels, &turned, u, v)
+                .ok_or(Refusal::BadPair(k))?;
+            if let Some(back) = self.place_of(v, u) {
+                turn_at(&mut turned, back, q);
+            }
+            turn_at(&mut turned, i, q);
+        }
+        Ok(turned)
+    }
 }
 
 // The labels with both darts of each named edge turned by a quarter, after the list, the direction and the label rules are tested.
@@ -114,11 +113,13 @@ pub fn turn_labels(
     let rings = plan.rings(&starts);
     let mut places = [0u8; 40000];
     places::fill(&mut places, &rings);
-    let located = Located {
-        rings,
-        places: &places,
+    let placed = Placed {
+        located: Located {
+            rings,
+            places: &places,
+        },
     };
-    let turned = turn_pairs(&located, labels, items, quarters_of(direction))?;
+    let turned = placed.turn_pairs(labels, items, quarters_of(direction))?;
     if items.len() % 2 != 0 || 1 < direction {
         return Err(Refusal::BadPair(items.len() / 2));
     }
@@ -128,9 +129,6 @@ pub fn turn_labels(
         plan,
         labels: &turned,
     };
-    let place = labelled.place();
-    if place < plan.n {
-        return Err(Refusal::BadLabels(place));
-    }
+    labelled.check()?;
     Ok(turned)
 }

@@ -15,17 +15,16 @@ use Rattle.turn.proofs.Answers.{answer_unfit, answer_pair, answer_odd, answer_di
 use Rattle.turn.proofs.turn_labels.Goals as goal
 use Rattle.turn.proofs.turn_labels.Goals.{then-items-ne0-via-then-items-ne0, then-items-ne0-via-else-items-ne0+then-direction-gt1}
 
-pub turn_pairs-requires : goal.turn_pairs-requires
-turn_pairs-requires c =
+pub invariant_of-placed : goal.invariant_of-placed
+invariant_of-placed c =
     let t = c.args.plan.now in
     let r = c.rings-rings.ensures in
     let b = bounds_say t.sizes.now t.n (sym c.is_in_bounds.ensures ∙ not-false _ (ap not c.if-not-is_in_bounds.false)) in
     record {
-      starts_value = r.starts ∙ c.starts_of-starts.ensures ∙ ap starts_of (sym r.sizes);
-      n_bound = let e = r.n in let h = b.0 in omega arith;
-      places_value = c.fill.ensures ∙ filled-zeros _ refl;
-      n_bound_2 = let e : start_of c.rings-rings.result.sizes.now c.rings-rings.result.n ≡ start_of t.sizes.now t.n = λ i. start_of (r.sizes i) (r.n i) in let h = b.1 in omega arith;
-      q_bound = c.quarters_of.ensures.upper_bound;
+      starts = r.starts ∙ c.starts_of-starts.ensures ∙ ap starts_of (sym r.sizes);
+      few = let e = r.n in let h = b.0 in omega arith;
+      own = c.fill.ensures ∙ filled-zeros _ refl;
+      room = let e : start_of c.rings-rings.result.sizes.now c.rings-rings.result.n ≡ start_of t.sizes.now t.n = λ i. start_of (r.sizes i) (r.n i) in let h = b.1 in omega arith;
     }
 
 pub returns-then-not-is_in_bounds : goal.returns-then-not-is_in_bounds
@@ -56,8 +55,8 @@ returns-then-items-ne0 c =
       | then-items-ne0-via-else-items-ne0+then-direction-gt1 w ↦ answer_direction t.sizes.now t.entries.now t.n c.args.labels c.args.items.now c.args.direction b.0 b.1 (omega arith) c.quarters_of.result passed w.if-items-ne0.false refl w.if-direction-gt1.true
     ]
 
-pub returns-then-place-plan : goal.returns-then-place-plan
-returns-then-place-plan c =
+pub returns-in_err-check : goal.returns-in_err-check
+returns-in_err-check c =
     let t = c.args.plan.now in
     let r = c.rings-rings.ensures in
     let long = c.well_formed in
@@ -65,7 +64,9 @@ returns-then-place-plan c =
     let passed = c.in_ok-turned.ensures ∙ (λ i. pairs_turned (table (r.sizes i) (r.entries i) (r.n i)) c.quarters_of.result (pairs c.args.items.now) c.args.labels) in
     let filled = c.fill.ensures ∙ filled-zeros _ refl ∙ (λ i. places_of (rows (r.starts i) (r.sizes i) (r.entries i) (r.n i))) in
     let own = rules_own _ t.sizes.now t.entries.now t.n c.starts_of-starts.ensures b.0 filled c.in_ok-turned.turned in
-    answer_broken t.sizes.now t.entries.now t.n c.args.labels c.args.items.now c.args.direction b.0 b.1 (omega arith) c.quarters_of.result passed c.if-items-ne0.false c.if-direction-gt1.false c.quarters_of.ensures.value (c.place-place.ensures.value ∙ own) (omega arith)
+    let p = err_from_is_err_and c.from_residual-in_err-check.result c.from_residual-in_err-check.ensures.1 in
+    let a = answer_broken t.sizes.now t.entries.now t.n c.args.labels c.args.items.now c.args.direction b.0 b.1 (omega arith) c.quarters_of.result passed c.if-items-ne0.false c.if-direction-gt1.false c.quarters_of.ensures.value (c.in_err-check.ensures ∙ own) in
+    rw (p.1, p.2) a
 
 pub returns : goal.returns
 returns c =
@@ -76,4 +77,4 @@ returns c =
     let passed = c.in_ok-turned.ensures ∙ (λ i. pairs_turned (table (r.sizes i) (r.entries i) (r.n i)) c.quarters_of.result (pairs c.args.items.now) c.args.labels) in
     let filled = c.fill.ensures ∙ filled-zeros _ refl ∙ (λ i. places_of (rows (r.starts i) (r.sizes i) (r.entries i) (r.n i))) in
     let own = rules_own _ t.sizes.now t.entries.now t.n c.starts_of-starts.ensures b.0 filled c.in_ok-turned.turned in
-    answer_labelled t.sizes.now t.entries.now t.n c.args.labels c.args.items.now c.args.direction b.0 b.1 (omega arith) c.quarters_of.result passed c.if-items-ne0.false c.if-direction-gt1.false c.quarters_of.ensures.value (c.place-place.ensures.value ∙ own) (omega arith)
+    answer_labelled t.sizes.now t.entries.now t.n c.args.labels c.args.items.now c.args.direction b.0 b.1 (omega arith) c.quarters_of.result passed c.if-items-ne0.false c.if-direction-gt1.false c.quarters_of.ensures.value (c.in_ok-check.ensures ∙ own)

@@ -1,22 +1,26 @@
--- wrong_darts meets its contract.
-use mathlib.Core.Path.{refl, sym, ap, ◌∙◌}
-use Rattle.lists.proofs.Tests.{any-map}
-use Rattle.lists.proofs.Loops.{sees_hit, sees_on, sees_end}
+-- has_wrong meets its contract.
+use mathlib.Core.Path.{refl, ◌∙◌}
+use mathlib.Core.Bool.{Bool}
+use Prim.Native.Nat.{ℕ, ◌-◌}
+use lib.ListN.{get_or}
+use borrow.Author.Tests.{tests}
+use borrow.Author.Rules.{rules}
+use Rattle.std.proofs.lemmas.Iterator.{YieldsList-from_range}
+use Rattle.std.proofs.lemmas.Iterator.Search.{any_from_yields_List}
 use Rattle.lists.specs.Spans.{span}
+use Rattle.lists.proofs.Chains.{any_entry}
+use Rattle.lists.proofs.Tests.{any-map}
 use Rattle.model.specs.Plan.{neighbour}
 use Rattle.conditions.specs.LabelBy.{wrong_dart_by}
-use native.Mathlib.Omega.{arith}
 use Rattle.conditions.proofs.Labelled.has_wrong.Goals as goal
-
-pub returns-then-is_wrong : goal.returns-then-is_wrong
-returns-then-is_wrong c =
-    sees_hit c.loop-i.invariant (omega arith) (ap (wrong_dart_by c.args.self.now.places.now c.args.self.now.starts.now c.args.self.now.labels.now c.args.u) (sym (c.neighbour_of-v.ensures ∙ ap neighbour c.num.ensures.value)) ∙ sym c.is_wrong.ensures ∙ c.if-is_wrong.true)
-    ∙ any-map (wrong_dart_by c.args.self.now.places.now c.args.self.now.starts.now c.args.self.now.labels.now c.args.u) neighbour (span c.args.self.now.plan.entries.now c.args.a c.args.e)
-
-pub loop-i-preserved : goal.loop-i-preserved
-loop-i-preserved c = sees_on c.loop-i.invariant refl (omega arith) (ap (wrong_dart_by c.args.self.now.places.now c.args.self.now.starts.now c.args.self.now.labels.now c.args.u) (sym (c.neighbour_of-v.ensures ∙ ap neighbour c.num.ensures.value)) ∙ sym c.is_wrong.ensures ∙ c.if-is_wrong.false)
 
 pub returns : goal.returns
 returns c =
-    sees_end c.loop-i.invariant (omega arith)
-    ∙ any-map (wrong_dart_by c.args.self.now.places.now c.args.self.now.starts.now c.args.self.now.labels.now c.args.u) neighbour (span c.args.self.now.plan.entries.now c.args.a c.args.e)
+    let a = c.args in
+    let s = a.self.now in
+    let l = s.plan.entries.now in
+    let wrong : ℕ → Bool = wrong_dart_by s.places.now s.starts.now s.labels.now a.u in
+    let test : ℕ → Bool = λ i. wrong (neighbour (get_or l i 0)) in
+    any_from_yields_List test _ _ c.any.result c.any.ensures.ran (YieldsList-from_range a.a a.e (a.e - a.a) refl refl) (λ x b f k. search (rules, tests))
+    ∙ any_entry l (λ (x : ℕ). wrong (neighbour x)) a.a (a.e - a.a)
+    ∙ any-map wrong neighbour (span l a.a a.e)

@@ -1,4 +1,4 @@
--- breaks_at meets its contract.
+-- is_broken_at meets its contract.
 use mathlib.Core.Path.{◌∙◌}
 use borrow.Author.Tests.{lt-leb}
 use Rattle.rings.specs.Tables.{rows}

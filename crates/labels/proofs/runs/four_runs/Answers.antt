@@ -9,17 +9,17 @@ pub returns-then-end-a : goal.returns-then-end-a
 returns-then-end-a c = let a = c.args in runs_none a.labels.now a.a a.e c.min-end.result c.min-end.ensures (omega arith)
 
 pub loop-label-init : goal.loop-label-init
-loop-label-init c = weighs_start (omega arith) c.from-last.ensures
+loop-label-init c = weighs_start (omega arith) refl
 
 pub returns-then-weight-gt4 : goal.returns-then-weight-gt4
 returns-then-weight-gt4 c =
     let a = c.args in
-    weighs_heavy c.loop-label.invariant c.loop-label-test.true c.from-label.ensures c.change_weight-weight.ensures.value (omega arith)
+    weighs_heavy c.loop-label.invariant c.loop-label-test.true refl c.change_weight-weight.ensures.value (omega arith)
     ∙ ap four_runs (round_is a.labels.now a.a a.e c.min-end.result c.min-end.ensures (omega arith))
 
 pub loop-label-preserved : goal.loop-label-preserved
 loop-label-preserved c =
-    weighs_on c.loop-label.invariant refl c.loop-label-test.true c.from-label.ensures c.change_weight-weight.ensures.value (omega arith)
+    weighs_on c.loop-label.invariant refl c.loop-label-test.true refl c.change_weight-weight.ensures.value (omega arith)
 
 pub returns : goal.returns
 returns c =

@@ -16,16 +16,16 @@ use mathlib.Core.List.{List, []}
 use Prim.Native.Nat.{◌/◌}
 use lib.ListN.{length, get_or}
 use Rattle.lists.specs.Parts.{pairs}
-use Rattle.turn.proofs.turn_pairs.Goals as goal
-use Rattle.turn.proofs.turn_pairs.Goals.{in-Some, in_default}
+use Rattle.turn.proofs.Placed.turn_pairs.Goals as goal
+use Rattle.turn.proofs.Placed.turn_pairs.Goals.{in-Some, in_default}
 
 pub loop-k-init : goal.loop-k-init
 loop-k-init c = (let l = c.well_formed in omega arith, turns-start)
 
 pub returns-in_err-i : goal.returns-in_err-i
 returns-in_err-i c =
-    let r = c.args.located.now.rings in
-    let s = c.requires in
+    let r = c.args.self.now.located.rings in
+    let s = c.args.self.now in
     let items = c.args.items.now in
     let inv = c.loop-k.invariant in
     let none : c.unturned_place.result ≡ None = grind arith in
@@ -35,7 +35,7 @@ returns-in_err-i c =
     let f = c.as_chunks.ensures.front in
     chunk_is items (length items / 2) c.loop-k.k (omega arith) (omega arith) (c.from-u.ensures ∙ ap (λ (l : List (List ℕ)). get_or (get_or l c.loop-k.k []) 0 0) f) (c.from-v.ensures ∙ ap (λ (l : List (List ℕ)). get_or (get_or l c.loop-k.k []) 1 0) f)
     in
-    let room : entry_count (table r.sizes.now r.entries.now r.n) ≤ 1186 = let e = count-table r.starts.now r.sizes.now r.entries.now r.n s.starts_value s.n_bound in omega arith in
+    let room : entry_count (table r.sizes.now r.entries.now r.n) ≤ 1186 = let e = count-table r.starts.now r.sizes.now r.entries.now r.n s.starts s.few in let h = s.room in omega arith in
     let hit = turns_hit inv.1 room (omega arith) c.from-u.result c.from-v.result pair (sym (length_pairs items)) (omega arith) (sym none ∙ c.unturned_place.ensures) in
     let p = err_from_is_err_and c.from_residual.result c.from_residual.ensures.1 in
     let bad : c.in_err-i.field-0.0 ≡ BadPair c.loop-k.k = grind arith in
@@ -43,8 +43,8 @@ returns-in_err-i c =
 
 pub loop-k-preserved : goal.loop-k-preserved
 loop-k-preserved c =
-    let r = c.args.located.now.rings in
-    let s = c.requires in
+    let r = c.args.self.now.located.rings in
+    let s = c.args.self.now in
     let items = c.args.items.now in
     let plan : Plan = table r.sizes.now r.entries.now r.n in
     let u : ℕ = c.from-u.result in
@@ -57,12 +57,12 @@ loop-k-preserved c =
     let f = c.as_chunks.ensures.front in
     chunk_is items (length items / 2) c.loop-k.k (omega arith) (omega arith) (c.from-u.ensures ∙ ap (λ (l : List (List ℕ)). get_or (get_or l c.loop-k.k []) 0 0) f) (c.from-v.ensures ∙ ap (λ (l : List (List ℕ)). get_or (get_or l c.loop-k.k []) 1 0) f)
     in
-    let room : entry_count plan ≤ 1186 = let e = count-table r.starts.now r.sizes.now r.entries.now r.n s.starts_value s.n_bound in omega arith in
+    let room : entry_count plan ≤ 1186 = let e = count-table r.starts.now r.sizes.now r.entries.now r.n s.starts s.few in omega arith in
     let back : c.match-place_of.turned ≡ turn_dart plan c.args.q (dart v u) c.loop-k.turned = elim c.match-place_of.branch [
       | in-Some w ↦ w.turned-is ∙ w.turn_at.ensures ∙ turned-at plan v u c.args.q c.loop-k.turned w.in-Some.ensures
       | in_default w ↦ w.turned-is ∙ turned_none plan v u c.args.q c.loop-k.turned w.in_default.ensures
     ] in
-    let next = turns-on inv.1 room (omega arith) u v pair (sym (length_pairs items)) (omega arith) s.q_bound.1 (sym some ∙ c.unturned_place.ensures) back c.turn_at-in-loop-k.ensures in
+    let next = turns-on inv.1 room (omega arith) u v pair (sym (length_pairs items)) (omega arith) c.requires.1 (sym some ∙ c.unturned_place.ensures) back c.turn_at-in-loop-k.ensures in
     (turns_long next ∙ omega arith, next)
 
 pub returns : goal.returns
