@@ -25,11 +25,11 @@ use Rattle.model.specs.Sweep.{State, below, listed, replaced, chordless, eligibl
 use Rattle.model.proofs.Plans.{mem-adjacent}
 use Rattle.model.proofs.Eligible.{mem-get_or, squeeze-mem, chordless-apart, replaced-left, replaced-list, replaced-right, replaced-length, something-below, below-listed, eligible_clear, Clear}
 use Rattle.model.proofs.Choices.{Positions, chosen_taken, none-taken}
-use Rattle.frontier.specs.declared.Line.{Line}
 use Rattle.choice.specs.declared.Lead.{Lead}
+use Rattle.frontier.specs.Run.{Line}
 use Rattle.frontier.specs.Front.{Sane, Front}
 use Rattle.chords.specs.Run.{fits}
-use Rattle.choice.specs.Run.{Trail, trail_of, placed, same, start_trail}
+use Rattle.choice.specs.Run.{Trail, trail_of, placed, stands, same, start_trail}
 use Rattle.choice.specs.Search.{found_as, Trails, Reason, edge, old, twice, right, beside, later, split, Stops, bare, barred, Extends, Best}
 use Rattle.pairs.proofs.Dirt.{repeats-right, or_left, squeeze-before, clean_once}
 use Rattle.pairs.proofs.Gather.{raw}
@@ -253,22 +253,20 @@ module _ (p : Plan) (sane : Sane p) (s : State) (v : Line) (fr : Front s v) (pla
             both (adjacent p c (get_or f j 0)) a (sym (λ d. adjacent p (c-at r q d) (there d)) ∙ no_chord (suc i + length r) (suc i + length l + 0) (omega arith) (omega arith))
 
         -- nor has it one beyond j
-        not_right : (w : ℕ) → adjacent p c w ≡ true → suc j < get_or place w 0 → ⊥
-        not_right w a far =
-            let x : ℕ = get_or place w 0 - 1 in
-            let z : get_or place w 0 ≡ suc x = omega arith in
-            let (x-in, x-is) = placed_real v.at v.len w x (ap (λ (l : List ℕ). get_or l w 0) (sym hi) ∙ z) in
+        not_right : (w : ℕ) → adjacent p c w ≡ true → (x : ℕ) → stands place w ≡ Some x → j < x → ⊥
+        not_right w a x z far =
+            let (x-in, x-is) = placed_real v.at v.len w x (ap (λ (l : List ℕ). stands l w) (sym hi) ∙ z) in
             let len = fr.rep.len in
             both (adjacent p c (get_or f x 0)) (ap (adjacent p c) (sym (at_same x) ∙ x-is) ∙ a) (clear.right_clear x (omega arith) (omega arith))
 
         -- nor, before a list, one from j on
-        not-from : (head : ℕ) → t.first ≡ Some head → (w : ℕ) → adjacent p c w ≡ true → j < get_or place w 0 → (b : Bool) → ltb (suc j) (get_or place w 0) ≡ b → ⊥
-        not-from head some w a far true e = not_right w a (ltb-true (suc j) (get_or place w 0) e)
-        not-from head some w a far false e =
-            let h = ltb-false (suc j) (get_or place w 0) e in
-            let z : get_or place w 0 ≡ suc j = omega arith in
-            let (_, is) = placed_real v.at v.len w j (ap (λ (l : List ℕ). get_or l w 0) (sym hi) ∙ z) in
-            not-beside head some (ap (adjacent p c) (sym (at_same j) ∙ is) ∙ a)
+        not-from : (head : ℕ) → t.first ≡ Some head → (w : ℕ) → adjacent p c w ≡ true → (x : ℕ) → stands place w ≡ Some x → j ≤ x → (b : Bool) → ltb j x ≡ b → ⊥
+        not-from head some w a x z far true e = not_right w a x z (ltb-true j x e)
+        not-from head some w a x z far false e =
+            let h = ltb-false j x e in
+            let y : x ≡ j = omega arith in
+            let (_, is) = placed_real v.at v.len w x (ap (λ (l : List ℕ). stands l w) (sym hi) ∙ z) in
+            not-beside head some (ap (λ (n : ℕ). adjacent p c (get_or f n 0)) (sym y) ∙ ap (adjacent p c) (sym (at_same x) ∙ is) ∙ a)
 
         -- nor was c on the frontier
         not-old : (get_or v.marks c 0 ≡ 0 → ⊥) → ⊥
@@ -281,8 +279,8 @@ module _ (p : Plan) (sane : Sane p) (s : State) (v : Line) (fr : Front s v) (pla
         no_reason (edge b) = both (border c) (lt-ltb c 4 b) clear.inner
         no_reason (old b) = not-old b
         no_reason (twice b) = not-twice (tr.marks c b)
-        no_reason (right w a b) = not_right w a b
-        no_reason (beside head some w a b) = not-from head some w a b (ltb (suc j) (get_or place w 0)) refl
+        no_reason (right w a x z b) = not_right w a x z b
+        no_reason (beside head some w a x z b) = not-from head some w a x z b (ltb j x) refl
         no_reason (later head some w a n m) = not-later head some w (tr.marks w m) n a
         no_reason (split h) = not-split h.at h.before (subst (Memᴰ c) (below-same h.at) h.under) (ap (λ (u : ℕ). adjacent p u c) (sym (at_same (suc h.at))) ∙ h.apart)
 

@@ -1,20 +1,20 @@
 -- What a look at the neighbours of a context says: why it may not come before the list, or what the list comes to with it.
-use Prim.Native.Nat.{ℕ, suc, ◌-◌, ◌<◌, min}
+use Prim.Native.Nat.{ℕ, ◌<◌, min}
 use mathlib.Core.Path.{◌≡◌, refl, ap, sym, subst, ◌∙◌}
 use mathlib.Core.Logic.{◌⊎◌, inl, inr, ◌≢◌}
 use mathlib.Core.List.{List}
 use mathlib.Core.Bool.{Bool, true, false, cond, not, false≢true}
 use native.Mathlib.Omega.{arith}
 use lib.ListN.{get_or}
-use lib.Dec.{eqb, ltb}
-use borrow.Author.Tests.{eqb-true, eqb-false, ltb-true}
+use lib.Dec.{eqb, leb, ltb}
+use borrow.Author.Tests.{eqb-true, eqb-false, leb-true, ltb-true}
 use Rattle.std.specs.Prelude.{Option, Some, None}
 use Rattle.std.specs.Option.{option_eq}
 use Rattle.lists.proofs.Tests.{eqb_swap}
 use Rattle.model.specs.Plan.{Plan, adjacent}
 use Rattle.places.specs.Places.{adjacent_by}
 use Rattle.choice.specs.declared.Lead.{Lead}
-use Rattle.choice.specs.Run.{lead, same, barred, knot}
+use Rattle.choice.specs.Run.{lead, stands, passes, same, barred, knot}
 use Rattle.choice.specs.Search.{Reason, edge, old, twice, right, beside, later, Lowest, Takes}
 
 -- ---- the lowest position
@@ -27,23 +27,29 @@ module _ {t : List ℕ} {p : Plan} {place : List ℕ} {m c : ℕ} where
   pub lowest-on : {lo mid r : ℕ} → Lowest t p place m c lo mid → Lowest t p place m c mid r → Lowest t p place m c lo r
   lowest-on {lo} {mid} {r} h k = record { is = λ n. go n (k.is n) }
     where
-      go : r < m → (r ≡ mid) ⊎ ((w : ℕ) × (get_or place w 0 ≡ suc r) × (adjacent_by t p w c ≡ true)) → (r ≡ lo) ⊎ ((w : ℕ) × (get_or place w 0 ≡ suc r) × (adjacent_by t p w c ≡ true))
-      go n (inl e) = subst (λ (x : ℕ). (x ≡ lo) ⊎ ((w : ℕ) × (get_or place w 0 ≡ suc x) × (adjacent_by t p w c ≡ true))) (sym e) (h.is (omega arith))
+      go : r < m → (r ≡ mid) ⊎ ((w : ℕ) × (stands place w ≡ Some r) × (adjacent_by t p w c ≡ true)) → (r ≡ lo) ⊎ ((w : ℕ) × (stands place w ≡ Some r) × (adjacent_by t p w c ≡ true))
+      go n (inl e) = subst (λ (x : ℕ). (x ≡ lo) ⊎ ((w : ℕ) × (stands place w ≡ Some x) × (adjacent_by t p w c ≡ true))) (sym e) (h.is (omega arith))
       go n (inr w) = inr w
 
   -- the lower of what was known and what the look found
   pub lowest_of : {lo found r : ℕ} → Lowest t p place m c m found → r ≡ min lo found → Lowest t p place m c lo r
   lowest_of {lo} {found} {r} h e = record { is = λ n. go n (eqb r lo) refl }
     where
-      mine : (found ≡ m) ⊎ ((w : ℕ) × (get_or place w 0 ≡ suc found) × (adjacent_by t p w c ≡ true)) → found < m → r ≡ found → (r ≡ lo) ⊎ ((w : ℕ) × (get_or place w 0 ≡ suc r) × (adjacent_by t p w c ≡ true))
+      mine : (found ≡ m) ⊎ ((w : ℕ) × (stands place w ≡ Some found) × (adjacent_by t p w c ≡ true)) → found < m → r ≡ found → (r ≡ lo) ⊎ ((w : ℕ) × (stands place w ≡ Some r) × (adjacent_by t p w c ≡ true))
       mine (inl q) n z = absurd (omega arith)
-      mine (inr w) n z = inr (subst (λ (x : ℕ). (w : ℕ) × (get_or place w 0 ≡ suc x) × (adjacent_by t p w c ≡ true)) (sym z) w)
+      mine (inr w) n z = inr (subst (λ (x : ℕ). (w : ℕ) × (stands place w ≡ Some x) × (adjacent_by t p w c ≡ true)) (sym z) w)
 
-      go : r < m → (b : Bool) → eqb r lo ≡ b → (r ≡ lo) ⊎ ((w : ℕ) × (get_or place w 0 ≡ suc r) × (adjacent_by t p w c ≡ true))
+      go : r < m → (b : Bool) → eqb r lo ≡ b → (r ≡ lo) ⊎ ((w : ℕ) × (stands place w ≡ Some r) × (adjacent_by t p w c ≡ true))
       go n true q = inl (eqb-true r lo q)
       go n false q = let d : r ≢ lo = eqb-false r lo q in let z : r ≡ found = omega arith in mine (h.is (omega arith)) (omega arith) z
 
 -- ---- reasons
+-- where a test of a position is passed, there is one that passes it
+passes_one : (q : ℕ → Bool) (x : Option ℕ) → passes q x ≡ true → (k : ℕ) × (x ≡ Some k) × (q k ≡ true)
+unfolding passes
+passes_one q None e = absurd (false≢true e)
+passes_one q (Some k) e = (k, refl, e)
+
 module _ {p : Plan} {f on seen place : List ℕ} {first : Option ℕ} {c j k : ℕ} where
   -- a context that is barred
   pub barred_reason : barred on seen c ≡ true → Reason p f on seen place first c j k
@@ -57,19 +63,19 @@ module _ {p : Plan} {f on seen place : List ℕ} {first : Option ℕ} {c j k : �
       go false x true y true z e = absurd (false≢true e)
 
   -- a neighbour that would not be adjacent to it, before a list or before none
-  knot_case : (w : ℕ) {x : ℕ} → adjacent p c w ≡ true → x ≡ get_or place w 0 → (s : Option ℕ) → first ≡ s → knot on s j x w ≡ true → Reason p f on seen place first c j k
+  knot_case : (w : ℕ) {x : Option ℕ} → adjacent p c w ≡ true → x ≡ stands place w → (s : Option ℕ) → first ≡ s → knot on s j x w ≡ true → Reason p f on seen place first c j k
   unfolding knot
-  knot_case w {x} a q None s e = let h = ltb-true 1 (x - j) e in right w a (omega arith)
-  knot_case w {x} a q (Some i) s e = go (ltb j x) refl (eqb w i) refl (eqb (get_or on w 0) 0) refl e
+  knot_case w {x} a q None s e = let (y, z, h) = passes_one (ltb j) x e in right w a y (sym q ∙ z) (ltb-true j y h)
+  knot_case w {x} a q (Some i) s e = go (passes (leb j) x) refl (eqb w i) refl (eqb (get_or on w 0) 0) refl e
     where
-      go : (b : Bool) → ltb j x ≡ b → (y : Bool) → eqb w i ≡ y → (z : Bool) → eqb (get_or on w 0) 0 ≡ z → cond b true (cond y false (not z)) ≡ true → Reason p f on seen place first c j k
-      go true b y y' z z' e = let h = ltb-true j x b in beside i s w a (omega arith)
+      go : (b : Bool) → passes (leb j) x ≡ b → (y : Bool) → eqb w i ≡ y → (z : Bool) → eqb (get_or on w 0) 0 ≡ z → cond b true (cond y false (not z)) ≡ true → Reason p f on seen place first c j k
+      go true b y y' z z' e = let (n, is, h) = passes_one (leb j) x b in beside i s w a n (sym q ∙ is) (leb-true j n h)
       go false b true y z z' e = absurd (false≢true e)
       go false b false y true z e = absurd (false≢true e)
       go false b false y false z e = later i s w a (eqb-false w i y) (eqb-false (get_or on w 0) 0 z)
 
   -- a neighbour that would not be adjacent to it
-  pub knot_reason : (w : ℕ) {x : ℕ} → adjacent p c w ≡ true → x ≡ get_or place w 0 → knot on first j x w ≡ true → Reason p f on seen place first c j k
+  pub knot_reason : (w : ℕ) {x : Option ℕ} → adjacent p c w ≡ true → x ≡ stands place w → knot on first j x w ≡ true → Reason p f on seen place first c j k
   knot_reason w a q e = knot_case w a q first refl e
 
 -- what the comparison of a list's first tells

@@ -19,7 +19,7 @@ use Rattle.model.specs.Plan.{Plan, adjacent}
 use Rattle.model.specs.Sweep.{below}
 use Rattle.frontier.specs.Run.{depth, under}
 use Rattle.choice.specs.declared.Lead.{Lead}
-use Rattle.choice.specs.Run.{Trail, lead, trail_of, start_trail, placed, same}
+use Rattle.choice.specs.Run.{Trail, lead, trail_of, start_trail, placed, in_cell, stands, same}
 use Rattle.choice.specs.Search.{Trails, Reason, edge, old, twice, right, beside, later, split, Lowest, Takes, Stops, bare, barred, Extends}
 use Rattle.frontier.proofs.Under.{below-is, depth_le, back_suc}
 use Rattle.pockets.proofs.Pocketed.{back_split}
@@ -45,6 +45,12 @@ some_number zero h = absurd (h refl)
 some_number (suc t) h = (t, refl)
 
 -- ---- a number in the table of positions is a position of its context
+-- a number that stands for a position is one more than it
+cell_told : (n t : ℕ) → in_cell n ≡ Some t → n ≡ suc t
+unfolding in_cell
+cell_told zero t e = absurd (cc)
+cell_told (suc k) t e = let z : k ≡ t = cc in ap suc z
+
 -- positions put into the table one after the other
 place_real : (f : List ℕ) (a k : ℕ) (place : List ℕ) → ((c t : ℕ) → get_or place c 0 ≡ suc t → (t < a) × (get_or f t 0 ≡ c))
     → (c t : ℕ) → get_or (each (λ (i : ℕ) l. set l (get_or f i 0) (suc i)) a k place) c 0 ≡ suc t → (t < a + k) × (get_or f t 0 ≡ c)
@@ -59,10 +65,10 @@ place_real f a (suc k) place h c t e =
     go d u (inr q) = let (x, y) = h d u q in (omega arith, y)
 
 -- of the whole table
-pub placed_real : (f : List ℕ) (m c t : ℕ) → get_or (placed f m) c 0 ≡ suc t → (t < m) × (get_or f t 0 ≡ c)
-unfolding placed
+pub placed_real : (f : List ℕ) (m c t : ℕ) → stands (placed f m) c ≡ Some t → (t < m) × (get_or f t 0 ≡ c)
+unfolding placed stands
 placed_real f m c t e =
-    let (x, y) = place_real f 0 (min m 512 - 0) (zeros 256) (λ d u q. let z = get_or-zeros 256 d in absurd (omega arith)) c t e in
+    let (x, y) = place_real f 0 (min m 512 - 0) (zeros 256) (λ d u q. let z = get_or-zeros 256 d in absurd (omega arith)) c t (cell_told (get_or (placed f m) c 0) t e) in
     (omega arith, y)
 
 module _ {p : Plan} where
@@ -86,10 +92,10 @@ module _ {p : Plan} where
       mark : (d : ℕ) → (t' : ℕ) × (get_or (set on c 1) d 0 ≡ suc t') → Memᴰ d (c ∷ l)
       mark d (t', z) = put d t' (set_cases on c 1 d t' z)
 
-      least : r.lo < m → (r.lo ≡ before.lo) ⊎ ((w : ℕ) × (get_or place w 0 ≡ suc r.lo) × (adjacent_by tab p w c ≡ true)) → (d : ℕ) × Memᴰ d (c ∷ l) × (adjacent p (get_or f r.lo 0) d ≡ true)
+      least : r.lo < m → (r.lo ≡ before.lo) ⊎ ((w : ℕ) × (stands place w ≡ Some r.lo) × (adjacent_by tab p w c ≡ true)) → (d : ℕ) × Memᴰ d (c ∷ l) × (adjacent p (get_or f r.lo 0) d ≡ true)
       least n (inl z) = let (d, w, a) = h.lo (omega arith) in (d, Memᴰ.tail w, ap (λ (i : ℕ). adjacent p (get_or f i 0) d) z ∙ a)
       least n (inr (w, z, a)) =
-          let (_, at) = placed_real f m w r.lo (ap (λ (b : List ℕ). get_or b w 0) (sym hi) ∙ z) in
+          let (_, at) = placed_real f m w r.lo (ap (λ (b : List ℕ). stands b w) (sym hi) ∙ z) in
           (c, Memᴰ.head refl, ap (λ (u : ℕ). adjacent p u c) at ∙ sym (adjacent-told p own w c refl) ∙ a)
 
 -- ---- what is below a position, put before the list from right to left
@@ -150,8 +156,8 @@ alone : {p : Plan} {f seen place : List ℕ} {c j k : ℕ} → Reason p f seen s
 alone (edge h) = edge h
 alone (old h) = old h
 alone (twice h) = old h
-alone (right x a h) = right x a h
-alone (beside i h x a b) = absurd (cc)
+alone (right w a x z h) = right w a x z h
+alone (beside i h w a x z b) = absurd (cc)
 alone (later i h x a y b) = absurd (cc)
 alone (split h) = split h
 

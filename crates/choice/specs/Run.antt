@@ -1,5 +1,5 @@
 -- The search for a pair of positions as the engine goes about it, on arrays: each definition is one function of src/.
-use Rattle.std.specs.Prelude.{ℕ, suc, ◌-◌, min, List, Option, Some, None, Bool, true, false, cond, not, get_or, set, eqb, ltb}
+use Rattle.std.specs.Prelude.{ℕ, zero, suc, min, List, Option, Some, None, Bool, true, false, cond, not, get_or, set, eqb, leb, ltb}
 use Rattle.lists.specs.Folds.{through}
 use Rattle.lists.specs.Spans.{zeros}
 use Rattle.choice.specs.declared.Lead.{Lead}
@@ -30,6 +30,20 @@ start_trail m = trail None m (zeros 256)
 unfoldable pub placed : List ℕ → ℕ → List ℕ
 placed f m = through (λ k place. set place (get_or f k 0) (suc k)) 0 (min m 512) (zeros 256)
 
+-- the position that a number of the table stands for
+unfoldable pub in_cell : ℕ → Option ℕ
+in_cell zero = None
+in_cell (suc k) = Some k
+
+-- the position at which w stands, by the table
+unfoldable pub stands : List ℕ → ℕ → Option ℕ
+stands place w = in_cell (get_or place w 0)
+
+-- there is a position, and it passes a test
+unfoldable pub passes : (ℕ → Bool) → Option ℕ → Bool
+passes q None = false
+passes q (Some k) = q k
+
 -- there is a list, and c its first
 unfoldable pub same : Option ℕ → ℕ → Bool
 same None c = false
@@ -39,7 +53,7 @@ same (Some a) c = eqb c a
 unfoldable pub barred : List ℕ → List ℕ → ℕ → Bool
 barred on seen c = cond (ltb c 4) true (cond (not (eqb (get_or seen c 0) 0)) true (not (eqb (get_or on c 0) 0)))
 
--- w, whose position in the table is x, stands beyond j, or, where there is a list, at j, or is one of the list but its first
-unfoldable pub knot : List ℕ → Option ℕ → ℕ → ℕ → ℕ → Bool
-knot on None j x w = ltb 1 (x - j)
-knot on (Some a) j x w = cond (ltb j x) true (cond (eqb w a) false (not (eqb (get_or on w 0) 0)))
+-- w, which stands at x, stands beyond j, or, where there is a list, at j, or is one of the list but its first
+unfoldable pub knot : List ℕ → Option ℕ → ℕ → Option ℕ → ℕ → Bool
+knot on None j x w = passes (ltb j) x
+knot on (Some a) j x w = cond (passes (leb j) x) true (cond (eqb w a) false (not (eqb (get_or on w 0) 0)))

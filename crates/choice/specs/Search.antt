@@ -1,5 +1,5 @@
 -- What the search for a pair of positions knows: what it begins with, the list so far, why it may stop, and the best pair.
-use Rattle.std.specs.Prelude.{ℕ, suc, ◌+◌, ◌≤◌, ◌<◌, ◌≡◌, ◌⊎◌, Option, Some, None, Bool, true, false, get_or}
+use Rattle.std.specs.Prelude.{ℕ, ◌+◌, ◌≤◌, ◌<◌, ◌≡◌, ◌⊎◌, Option, Some, None, Bool, true, false, get_or}
 use mathlib.Core.List.{List, [], ◌∷◌, ◌++◌, Memᴰ}
 use Rattle.model.specs.Outcome.{Outcome, accepted, refused}
 use Rattle.model.specs.Plan.{Plan, adjacent}
@@ -7,11 +7,11 @@ use Rattle.model.specs.Sweep.{State, below, chordless, eligible}
 use Rattle.rings.specs.Tables.{plan_of}
 use Rattle.places.specs.declared.Located.{Located}
 use Rattle.places.specs.Places.{places_of, adjacent_by}
-use Rattle.frontier.specs.declared.Line.{Line}
+use Rattle.frontier.specs.Run.{Line}
 use Rattle.frontier.specs.Front.{Sane, Front}
 use Rattle.pockets.specs.Pockets.{Pocket}
 use Rattle.choice.specs.declared.Lead.{Lead}
-use Rattle.choice.specs.Run.{Trail, trail_of, same}
+use Rattle.choice.specs.Run.{Trail, trail_of, stands, same}
 
 -- the pair that a step takes, or 14
 unfoldable pub found_as : Option (ℕ × ℕ) → Outcome (ℕ × ℕ)
@@ -41,14 +41,14 @@ pub data Reason (p : Plan) (f on seen place : List ℕ) (first : Option ℕ) (c 
   edge : c < 4 → Reason p f on seen place first c j k
   old : (get_or seen c 0 ≡ 0 → ⊥) → Reason p f on seen place first c j k
   twice : (get_or on c 0 ≡ 0 → ⊥) → Reason p f on seen place first c j k
-  right : (w : ℕ) → adjacent p c w ≡ true → suc j < get_or place w 0 → Reason p f on seen place first c j k
-  beside : (a : ℕ) → first ≡ Some a → (w : ℕ) → adjacent p c w ≡ true → j < get_or place w 0 → Reason p f on seen place first c j k
+  right : (w : ℕ) → adjacent p c w ≡ true → (x : ℕ) → stands place w ≡ Some x → j < x → Reason p f on seen place first c j k
+  beside : (a : ℕ) → first ≡ Some a → (w : ℕ) → adjacent p c w ≡ true → (x : ℕ) → stands place w ≡ Some x → j ≤ x → Reason p f on seen place first c j k
   later : (a : ℕ) → first ≡ Some a → (w : ℕ) → adjacent p c w ≡ true → (w ≡ a → ⊥) → (get_or on w 0 ≡ 0 → ⊥) → Reason p f on seen place first c j k
   split : Pocket p f c k → Reason p f on seen place first c j k
 
 -- where r is below m, it is lo, or the position, by the table, of a context that lists c
 pub record Lowest (t : List ℕ) (p : Plan) (place : List ℕ) (m c lo r : ℕ) : Type 0 where
-  pub is : r < m → (r ≡ lo) ⊎ ((w : ℕ) × (get_or place w 0 ≡ suc r) × (adjacent_by t p w c ≡ true))
+  pub is : r < m → (r ≡ lo) ⊎ ((w : ℕ) × (stands place w ≡ Some r) × (adjacent_by t p w c ≡ true))
 
 -- what a lead comes to when c, which is below position k, is put before the list: none where c may not come before it
 pub record Takes (t : List ℕ) (p : Plan) (f on seen place : List ℕ) (m c j k : ℕ) (l : Lead) (r : Option Lead) : Type 0 where

@@ -11,12 +11,11 @@ use borrow.Author.Tests.{lt-ltb}
 use Rattle.places.proofs.Look.{adjacent-told}
 use Rattle.places.specs.Places.{places_of, adjacent_by}
 use Rattle.lists.proofs.Padded.{get_or-padded}
-use Rattle.lists.specs.Spans.{zeros, padded}
+use Rattle.lists.specs.Spans.{padded}
 use Rattle.model.specs.Plan.{Plan, adjacent}
 use Rattle.model.specs.Sweep.{State, listed, replaced, chordless, eligible}
-use Rattle.frontier.specs.declared.Line.{Line}
 use Rattle.frontier.specs.Front.{Sane, Front}
-use Rattle.frontier.specs.Run.{line, fresh}
+use Rattle.frontier.specs.Run.{Line, fresh}
 use Rattle.pairs.specs.Run.{listing}
 use Rattle.pairs.proofs.Dirt.{dirty}
 use Rattle.pairs.proofs.Adding.{Good}
@@ -39,14 +38,14 @@ module _ (p : Plan) (sane : Sane p) (s : State) (v : Line) (fr : Front s v) (i j
   l = listed p f i j
 
   -- the test for chords of a new frontier that is looked at whole
-  broken-is : (g : Good s.seen list l) → broken (adjacent p) v.at v.len i j list.at list.len ≡ not (chordless p (replaced f i j l))
+  broken-is : (g : Good s.seen list l) → broken (adjacent p) v.at v.len i j list ≡ not (chordless p (replaced f i j l))
   unfolding broken
   broken-is g =
-      let r = new_rep_of p sane s v fr i j h q (line true list.len list.at (zeros 256)) (record { ok = refl; len = g.rep.len; at = g.rep.at; short = g.rep.short }) g in
+      let r = new_rep_of p sane s v fr i j h q list g.rep g in
       (λ t. cond (r.ok t) (chorded (adjacent p) (r.at t) (r.len t)) true) ∙ chorded-is p (replaced f i j l)
 
   -- the test of a new frontier is the model's
-  chord_is : (clean : Bool) → (clean ≡ true → chordless p f ≡ true) → Good s.seen list l → chord_new (adjacent p) clean v.at v.len i j list.at list.len ≡ not (chordless p (replaced f i j l))
+  chord_is : (clean : Bool) → (clean ≡ true → chordless p f ≡ true) → Good s.seen list l → chord_new (adjacent p) clean v.at v.len i j list ≡ not (chordless p (replaced f i j l))
   unfolding chord_new
   chord_is true c g =
       let e = fr.rep in
@@ -60,7 +59,7 @@ module _ (p : Plan) (sane : Sane p) (s : State) (v : Line) (fr : Front s v) (i j
   unfolding fits fits_with eligible dirty
   fits-is clean c =
       let room : j < v.len = let e = fr.rep.len in omega arith in
-      let test = chord_new (adjacent p) clean v.at v.len i j list.at list.len in
+      let test = chord_new (adjacent p) clean v.at v.len i j list in
       ap (λ (b : Bool). cond b (cond (ltb j v.len) (cond list.ok (not test) false) false) false) (lt-ltb i j (omega arith))
       ∙ ap (λ (b : Bool). cond b (cond list.ok (not test) false) false) (lt-ltb j v.len room)
       ∙ ⊎_elim
@@ -76,4 +75,4 @@ near_own p own = λ i u v. adjacent-told p own u v refl i
 -- the test of a pair
 pub fits-own : (p : Plan) {t : List ℕ} → t ≡ places_of p → (clean : Bool) (v : Line) (i j : ℕ) → fits_by t p clean v i j ≡ fits p clean v i j
 unfolding fits_by fits fresh
-fits-own p own clean v i j = λ t. fits_with (near_own p own t) (listing-own p own v.at v.marks (suc i) j refl t) clean v i j
+fits-own p own clean v i j = λ t. fits_with (near_own p own t) (listing-own p own v.at v.marks (suc i) j t) clean v i j

@@ -2,10 +2,8 @@
 use Rattle.std.specs.Prelude.{ℕ, suc, ◌+◌, ◌-◌, List, Bool, true, false, cond, not, get_or, ltb}
 use Rattle.places.specs.Places.{adjacent_by}
 use Rattle.lists.specs.Folds.{some}
-use Rattle.lists.specs.Spans.{zeros}
 use Rattle.model.specs.Plan.{Plan, adjacent}
-use Rattle.frontier.specs.declared.Line.{Line}
-use Rattle.frontier.specs.Run.{line, fresh}
+use Rattle.frontier.specs.Run.{Line, fresh}
 use Rattle.pairs.specs.Run.{listing, replaced, listing_by}
 
 -- ---- by a look-up near of neighbours
@@ -31,17 +29,17 @@ chord_at near f m j l q x =
 unfoldable pub chord_right : (ℕ → ℕ → Bool) → List ℕ → ℕ → ℕ → List ℕ → ℕ → Bool
 chord_right near f m j l q = some (chord_at near f m j l q) 0 q
 
--- the frontier f of m contexts with the list l of q in place of positions i + 1 to j − 1 does not fit the array, or has a chord
-unfoldable pub broken : (ℕ → ℕ → Bool) → List ℕ → ℕ → ℕ → ℕ → List ℕ → ℕ → Bool
-broken near f m i j l q = let v = replaced f m (suc i) j (line true q l (zeros 256)) in cond v.ok (chorded near v.at v.len) true
+-- the frontier f of m contexts with the list g in place of positions i + 1 to j − 1 does not fit the array, or has a chord
+unfoldable pub broken : (ℕ → ℕ → Bool) → List ℕ → ℕ → ℕ → ℕ → Line → Bool
+broken near f m i j g = let v = replaced f m (suc i) j g in cond v.ok (chorded near v.at v.len) true
 
 -- it has a chord; where f is clean, that is has none, only chords of the list are looked for
-unfoldable pub chord_new : (ℕ → ℕ → Bool) → Bool → List ℕ → ℕ → ℕ → ℕ → List ℕ → ℕ → Bool
-chord_new near clean f m i j l q = cond clean (cond (chord_left near f i l q) true (chord_right near f m j l q)) (broken near f m i j l q)
+unfoldable pub chord_new : (ℕ → ℕ → Bool) → Bool → List ℕ → ℕ → ℕ → ℕ → Line → Bool
+chord_new near clean f m i j g = cond clean (cond (chord_left near f i g.at g.len) true (chord_right near f m j g.at g.len)) (broken near f m i j g)
 
 -- the pair of positions i and j of the frontier v is eligible, where g is its list
 unfoldable pub fits_with : (ℕ → ℕ → Bool) → Line → Bool → Line → ℕ → ℕ → Bool
-fits_with near g clean v i j = cond (ltb i j) (cond (ltb j v.len) (cond g.ok (not (chord_new near clean v.at v.len i j g.at g.len)) false) false) false
+fits_with near g clean v i j = cond (ltb i j) (cond (ltb j v.len) (cond g.ok (not (chord_new near clean v.at v.len i j g)) false) false) false
 
 -- ---- the pair of positions i and j of the frontier v is eligible
 -- by the plan

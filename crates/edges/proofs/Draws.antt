@@ -2,60 +2,18 @@
 use Prim.Native.Nat.{ℕ, zero, suc, ◌+◌, ◌-◌, ◌≤◌, ◌<◌}
 use mathlib.Core.Path.{◌≡◌, refl, sym, ap, ◌∙◌}
 use mathlib.Core.List.{List, [], ◌∷◌, ◌++◌}
-use mathlib.Core.Bool.{Bool, true, false, cond, ◌&&◌}
 use native.Mathlib.Omega.{arith}
-use lib.ListN.{get_or, set}
-use lib.Dec.{ltb}
-use borrow.Author.Tests.{lt-ltb, le-ltb}
+use lib.ListN.{get_or}
 use Rattle.lists.specs.Parts.{steps}
 use Rattle.lists.specs.Spans.{stretch, span}
 use Rattle.lists.proofs.Spans.{span_more, span_end}
 use Rattle.model.specs.Plan.{Dart}
-use Rattle.model.specs.Labels.{turned}
 use Rattle.model.specs.Sweep.{product}
-use Rattle.places.specs.Places.{cell}
-use Rattle.edges.specs.Edges.{put_by, edge_by, edges_by, fan}
+use Rattle.edges.specs.Edges.{edge_by, edges_by, fan}
 
 -- a dart
 abbrev pub dart : ℕ → ℕ → Dart
 dart u v = (u, v)
-
--- ---- one dart, one edge
-module _ (t starts : List ℕ) (u v l : ℕ) (ls : List ℕ) where
-  -- the table has the dart
-  pub put_in : {i s : ℕ} → u < 200 → v < 200 → i ≡ get_or t (cell u v) 0 → s ≡ get_or starts u 0 → 0 < i → set ls (s + (i - 1)) l ≡ put_by t starts u v l ls
-  unfolding put_by
-  put_in h k at from-s more = (λ d. set ls (from-s d + (at d - 1)) l) ∙ sym (rw (lt-ltb u 200 h, lt-ltb v 200 k, lt-ltb 0 (get_or t (cell u v) 0) (omega arith)))
-
-  -- it has not
-  pub put_out : {i : ℕ} → u < 200 → v < 200 → i ≡ get_or t (cell u v) 0 → i ≤ 0 → ls ≡ put_by t starts u v l ls
-  unfolding put_by
-  put_out h k at none = sym (rw (lt-ltb u 200 h, lt-ltb v 200 k, le-ltb 0 (get_or t (cell u v) 0) (omega arith)))
-
-  -- it has no row for u
-  put-high : 200 ≤ u → put_by t starts u v l ls ≡ ls
-  unfolding put_by
-  put-high h = rw (le-ltb u 200 h)
-
-  -- nor a column for v
-  put_wide : 200 ≤ v → put_by t starts u v l ls ≡ ls
-  unfolding put_by
-  put_wide h = go (ltb u 200) (ltb v 200) (le-ltb v 200 h)
-    where
-      go : (x y : Bool) → y ≡ false → cond (x && y && ltb 0 (get_or t (cell u v) 0)) (set ls (get_or starts u 0 + (get_or t (cell u v) 0 - 1)) l) ls ≡ ls
-      go true y e = rw e refl
-      go false y e = refl
-
-module _ (t starts : List ℕ) (u v l : ℕ) (ls : List ℕ) where
-  -- no edge begins at 200 or above
-  pub edge-high : 200 ≤ u → ls ≡ edge_by t starts l u v ls
-  unfolding edge_by
-  edge-high h = sym (put-high t starts u v l (put_by t starts v u (turned l 2) ls) h ∙ put_wide t starts v u (turned l 2) ls h)
-
-  -- nor does one end there
-  pub edge_wide : 200 ≤ v → ls ≡ edge_by t starts l u v ls
-  unfolding edge_by
-  edge_wide h = sym (put_wide t starts u v l (put_by t starts v u (turned l 2) ls) h ∙ put-high t starts v u (turned l 2) ls h)
 
 -- ---- while there are darts { edge(dart); }
 pub record Draws (t starts : List ℕ) (l : ℕ) (ds₀ : List Dart) (ls₀ : List ℕ) (ds : List Dart) (ls : List ℕ) : Type 0 where

@@ -8,6 +8,7 @@ use lib.ListN.{length, get_or, set, take, drop, length-append, length-drop, leng
 use lib.Seq.{slice, take-nil, append_snoc, get_or-drop}
 use lib.Dec.{eqb}
 use borrow.Author.Tests.{eq-eqb}
+use Rattle.frontier.specs.Run.{Line}
 use Rattle.lists.specs.Tests.{member}
 use Rattle.lists.specs.Spans.{stretch, zeros, padded}
 use Rattle.lists.proofs.Spans.{length-zeros}
@@ -16,17 +17,11 @@ use Rattle.lists.proofs.Padded.{get_or-zeros, get_or-padded}
 use Rattle.model.specs.Plan.{Plan, ring, east, west}
 use Rattle.model.specs.Sweep.{top, first_state}
 use Rattle.lists.specs.Folds.{each, down}
-use Rattle.frontier.specs.declared.Line.{Line}
 use Rattle.frontier.specs.Front.{Small, Sane, Rep, Marks, Front}
 use Rattle.frontier.proofs.Lines.{small-append, mem-small, small-get_or, push_rep, marks-same, marks-set, fresh-rep, stretch-all}
 use Rattle.frontier.proofs.Under.{back_suc}
 use Rattle.frontier.specs.Run as run
 use Rattle.ends.specs.Ends.{front, marked, first_line}
-
--- ---- the ring read from the entry after its first
-pub onward-first : (r : List ℕ) (i : ℕ) → get_or (run.turned_at 0 r) i 0 ≡ get_or r (suc i) 0
-unfolding run.turned_at
-onward-first r i = let z : 1 + i ≡ suc i = omega arith in ap (λ (l : List ℕ). get_or l i 0) (append-nil (drop 1 r)) ∙ get_or-drop 1 r i 0 ∙ ap (λ (k : ℕ). get_or r k 0) z
 
 -- ---- marks of the contexts of a list
 marks-none : Marks (zeros 256) (λ (c : ℕ). false)

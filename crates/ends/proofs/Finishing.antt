@@ -10,33 +10,32 @@ use borrow.Author.Tests.{eq-eqb, ne_eqb}
 use Rattle.lists.specs.Tests.{all, same_list}
 use Rattle.lists.specs.Ranges.{from}
 use Rattle.lists.specs.Spans.{padded}
-use Rattle.model.specs.Plan.{Plan, ring}
+use Rattle.model.specs.Plan.{Plan}
 use Rattle.model.specs.Sweep.{below, finished, State}
 use Rattle.frontier.specs.Front.{Front}
+use Rattle.places.specs.declared.Located.{Located}
 use Rattle.places.specs.Places.{places_of}
-use Rattle.frontier.specs.Run.{turned_at, turn_by, depth_from, depth, under}
-use Rattle.frontier.proofs.Moves.{under-turned, turn-told, depth-told}
+use Rattle.rings.specs.Tables.{plan_of}
+use Rattle.frontier.specs.declared.below.Below.{Below}
+use Rattle.frontier.specs.Run.{Line, depth, under, below_of, reads, depth_of}
+use Rattle.frontier.proofs.Moves.{under-turned, turn-told, depth-told, deep-by}
 use Rattle.ends.specs.Ends.{done_by, unfinished_by, done_at, unfinished}
 use Rattle.frontier.proofs.Under.{below-is, depth_le, back_suc, under-padded, depth-padded}
-use Rattle.frontier.specs.declared.Line.{Line}
 use Rattle.lists.proofs.Folds.{all_from, some_same}
 
 -- ---- what the code tells of a position
-module _ (t : List ℕ) (p : Plan) (f : List ℕ) (k : ℕ) where
+module _ (l : Located) (f : List ℕ) (k : ℕ) {b : Below} {q : ℕ} (is : b ≡ below_of l f k) (long : q ≡ depth_of b) where
   -- one context is below it
-  pub done-yes : {x q u y : ℕ} → x ≡ turn_by t p f k → q ≡ depth_from p f k x → q ≡ 1 → u ≡ get_or f k 0 → y ≡ get_or (turned_at x (ring p u)) 0 0 → eqb y 2 ≡ done_by t p f k
+  pub done-yes : {y : ℕ} → q ≡ 1 → y ≡ get_or (reads b) 0 0 → eqb y 2 ≡ done_by l.places.now (plan_of l.rings) f k
   unfolding done_by
-  done-yes {x} e deep one at read =
-      let d : depth_from p f k (turn_by t p f k) ≡ 1 = ap (depth_from p f k) (sym e) ∙ sym deep ∙ one in
-      rw (eq-eqb _ _ d) (ap (λ (z : ℕ). eqb z 2) (read ∙ λ i. get_or (turned_at (e i) (ring p (at i))) 0 0))
+  done-yes one read = rw (eq-eqb _ _ (sym (deep-by l f k is long) ∙ one)) (ap (λ (z : ℕ). eqb z 2) (read ∙ λ i. get_or (reads (is i)) 0 0))
 
   -- none, or more
-  pub done-no : {x q : ℕ} → x ≡ turn_by t p f k → q ≡ depth_from p f k x → (q ≡ 1 → ⊥) → false ≡ done_by t p f k
+  pub done-no : (q ≡ 1 → ⊥) → false ≡ done_by l.places.now (plan_of l.rings) f k
   unfolding done_by
-  done-no {x} {q} e deep other =
-      let d : q ≡ depth_from p f k (turn_by t p f k) = deep ∙ ap (depth_from p f k) e in
-      rw (ne_eqb _ _ (λ h. other (d ∙ h)))
+  done-no other = rw (ne_eqb _ _ (λ h. other (deep-by l f k is long ∙ h)))
 
+module _ (t : List ℕ) (p : Plan) (f : List ℕ) (k : ℕ) where
   -- by the plan's own table it is told as without one
   pub done-told : t ≡ places_of p → done_by t p f k ≡ done_at p f k
   unfolding done_by done_at

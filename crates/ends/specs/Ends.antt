@@ -3,8 +3,7 @@ use Rattle.std.specs.Prelude.{ℕ, suc, ◌-◌, List, Bool, false, cond, not, l
 use Rattle.lists.specs.Folds.{through, down, some}
 use Rattle.lists.specs.Spans.{zeros}
 use Rattle.model.specs.Plan.{Plan, ring}
-use Rattle.frontier.specs.declared.Line.{Line}
-use Rattle.frontier.specs.Run.{line, pushed, fresh, turned_at, turn_by, depth_from, depth, under}
+use Rattle.frontier.specs.Run.{Line, line, pushed, fresh, turned_at, turn_by, depth_from, depth, under}
 
 -- ---- the first frontier
 -- West, North's inner neighbours from West's side to East's, East

@@ -1,3 +1,5 @@
 pub mod Moves
 pub mod Lines
 pub mod Under
+pub mod Somes
+pub mod Fails

@@ -14,9 +14,8 @@ use Rattle.lists.proofs.Counts.{counted-le, length-counted}
 use Rattle.lists.proofs.Loops.{padded-put}
 use Rattle.lists.proofs.Spans as spans
 use Rattle.lists.proofs.Padded.{stretch-held, stretch-padded}
-use Rattle.frontier.specs.declared.Line.{Line}
 use Rattle.frontier.specs.Front.{Small, Rep, Marks}
-use Rattle.frontier.specs.Run.{line, pushed, fresh}
+use Rattle.frontier.specs.Run.{Line, line, pushed, fresh}
 
 -- ---- lists of numbers below 200
 -- two such lists joined

@@ -1,15 +1,21 @@
 -- What the code of the frontier computes, step by step: rings read onward, lines that grow.
 use Prim.Native.Nat.{ℕ, suc, ◌+◌, ◌-◌, ◌≤◌, ◌<◌, min}
-use mathlib.Core.Path.{◌≡◌, ap, sym, ◌∙◌}
-use mathlib.Core.List.{List, ◌++◌}
+use mathlib.Core.Path.{◌≡◌, refl, ap, sym, ◌∙◌}
+use mathlib.Core.List.{List, ◌∷◌, ◌++◌}
+use mathlib.Core.Bool.{Bool, true, false, cond}
+use lib.Dec.{eqb}
 use native.Mathlib.Omega.{arith}
 use lib.ListN.{length, get_or, take, drop, length-append, length-drop, length-take, get_or-append, get_or-eq_default}
-use lib.Seq.{get_or-append-add, get_or-drop, get_or-take}
+use lib.Seq.{get_or-append-add, get_or-drop, get_or-take, drop-cons}
+use Rattle.std.proofs.lemmas.List.{drop_all}
 use Rattle.lists.specs.Parts.{index_of}
 use Rattle.model.specs.Plan.{Plan, ring, onward}
 use Rattle.places.specs.Places.{places_of}
 use Rattle.places.proofs.Look.{index_told}
-use Rattle.frontier.specs.Run.{turned_at, turn, turn_by, depth, depth_from, gap, under}
+use Rattle.places.specs.declared.Located.{Located}
+use Rattle.rings.specs.Tables.{plan_of}
+use Rattle.frontier.specs.declared.below.Below.{Below}
+use Rattle.frontier.specs.Run.{turned_at, below_of, reads, depth_of, turn, turn_by, depth, depth_from, gap, under}
 
 -- ---- a ring read from a place on
 module _ (x : ℕ) (r : List ℕ) {q d : ℕ} (size : q ≡ length r) (rest : d ≡ q - (x + 1)) where
@@ -66,6 +72,22 @@ module _ (p : Plan) {t : List ℕ} (own : t ≡ places_of p) (f : List ℕ) (k :
   unfolding turn depth_from depth gap
   depth-told e = e ∙ ap (index_of (get_or f (k - 1) 0)) (onward-turned (get_or f (suc k) 0) (ring p (get_or f k 0)) turn-told)
 
+-- ---- what is below a position
+module _ (l : Located) (f : List ℕ) (k : ℕ) {b : Below} (is : b ≡ below_of l f k) where
+  -- by the plan's own table what is read is the ring from the entry after the right frontier neighbour on
+  pub reads-under : l.places.now ≡ places_of (plan_of l.rings) → reads b ≡ under (plan_of l.rings) f k
+  reads-under own = ap reads is ∙ under-turned (plan_of l.rings) f k refl (turn-told (plan_of l.rings) own f k refl)
+
+  module _ {q : ℕ} (long : q ≡ depth_of b) where
+    -- how many entries are below
+    pub deep-by : q ≡ depth_from (plan_of l.rings) f k (turn_by l.places.now (plan_of l.rings) f k)
+    unfolding depth_from
+    deep-by = long ∙ ap depth_of is
+
+    -- the same by the plan's own table
+    pub deep-told : l.places.now ≡ places_of (plan_of l.rings) → q ≡ depth (plan_of l.rings) f k
+    deep-told own = depth-told (plan_of l.rings) own f k refl deep-by
+
 -- ---- for t in 0..e { if b == l[t] { return t; } } e
 pub record Gaps (l : List ℕ) (b t : ℕ) : Type 0 where
   pub same : index_of b l ≡ t + index_of b (drop t l)
@@ -73,3 +95,20 @@ pub record Gaps (l : List ℕ) (b t : ℕ) : Type 0 where
 -- before the loop
 pub gap-start : {l : List ℕ} {b : ℕ} → Gaps l b 0
 gap-start = record { same = omega arith }
+
+module _ {l : List ℕ} {b t : ℕ} (inv : Gaps l b t) where
+  -- the next entry apart from those after it
+  gap_apart : t < length l → index_of b l ≡ t + cond (eqb b (get_or l t 0)) 0 (suc (index_of b (drop (t + 1) l)))
+  gap_apart h = let z : t + 1 ≡ suc t = omega arith in inv.same ∙ ap (λ (m : List ℕ). t + index_of b m) (drop-cons l t 0 h ∙ ap {B = List ℕ} (λ (n : ℕ). get_or l t 0 ∷ drop n l) (sym z))
+
+  -- it is b
+  pub gap_hit : t < length l → eqb b (get_or l t 0) ≡ true → index_of b l ≡ t
+  gap_hit h e = let z = gap_apart h ∙ ap (λ (x : Bool). t + cond x 0 (suc (index_of b (drop (t + 1) l)))) e in omega arith
+
+  -- it is not
+  pub gap_on : t < length l → eqb b (get_or l t 0) ≡ false → Gaps l b (t + 1) × (t < index_of b l)
+  gap_on h e = let z = gap_apart h ∙ ap (λ (x : Bool). t + cond x 0 (suc (index_of b (drop (t + 1) l)))) e in (record { same = omega arith }, omega arith)
+
+  -- there is none
+  pub gap_end : length l ≤ t → index_of b l ≤ t
+  gap_end h = let z = inv.same ∙ ap (λ (m : List ℕ). t + index_of b m) (drop_all t l h) in omega arith

@@ -1,11 +1,11 @@
 -- What the engine's frontier holds of the sweep's state: the frontier in an array, and marks for what is or was on it.
+use Rattle.frontier.specs.Run.{Line}
 use Rattle.std.specs.Prelude.{ℕ, ◌+◌, ◌≤◌, ◌<◌, ◌≡◌, Bool, true, false, not, length, get_or, eqb}
 use mathlib.Core.List.{List, [], ◌∷◌, ◌++◌, Memᴰ}
 use Rattle.lists.specs.Tests.{member, repeats}
 use Rattle.lists.specs.Spans.{padded}
 use Rattle.model.specs.Plan.{Plan, ring}
 use Rattle.model.specs.Sweep.{State}
-use Rattle.frontier.specs.declared.Line.{Line}
 
 -- all entries of a list are below 200
 abbrev pub Small : List ℕ → Type 0

@@ -1,20 +1,43 @@
 -- The frontier as the engine keeps it, on arrays: what the functions of src/ compute.
-use Rattle.std.specs.Prelude.{ℕ, suc, ◌+◌, ◌-◌, List, ◌++◌, Bool, true, false, cond, get_or, set, take, drop, ltb}
+use Rattle.std.specs.Prelude.{ℕ, suc, ◌+◌, ◌-◌, List, ◌++◌, Option, Some, None, is_some, ◌≡◌, Bool, true, false, cond, get_or, set, take, drop, ltb, eqb}
 use Rattle.lists.specs.Parts.{index_of}
+use Rattle.lists.specs.Folds.{some}
 use Rattle.lists.specs.Spans.{zeros}
 use Rattle.model.specs.Plan.{Plan, ring, onward}
 use Rattle.places.specs.Places.{index_by}
-use Rattle.frontier.specs.declared.Line.{Line}
-use Rattle.frontier.specs.declared.Tally.{Tally}
+use Rattle.places.specs.declared.Located.{Located}
+use Rattle.rings.specs.Tables.{plan_of}
+use Rattle.frontier.specs.declared.below.Below.{Below}
+use Rattle.frontier.specs.declared.Line as held
 
 -- ---- lines
+-- a line, which is not ok where it failed: its contexts, and a mark for each context that is or was on the frontier
+pub record Line : Type 0 where
+  pub ok : Bool
+  pub len : ℕ
+  pub at : List ℕ
+  pub marks : List ℕ
+
 -- a line of these parts
 abbrev pub line : Bool → ℕ → List ℕ → List ℕ → Line
 line ok len at marks = record { ok = ok; len = len; at = at; marks = marks }
 
--- the line of a tally and the arrays
-abbrev pub line_of : Tally → List ℕ → List ℕ → Line
-line_of t at marks = line t.ok t.len at marks
+-- a line of the code, which has not failed
+abbrev pub whole : held.Line → Line
+whole v = line true v.len v.at v.marks
+
+-- the same after something was tried that may fail
+abbrev pub tried : Option Unit → held.Line → Line
+tried r v = line (is_some r) v.len v.at v.marks
+
+-- a line for the code; none where it failed
+unfoldable pub kept : Line → Option held.Line
+kept v = cond v.ok (Some (record { len = v.len; at = v.at; marks = v.marks })) None
+
+-- what a line comes to in the code, where several things were tried one after the other: it is this line, or both failed
+pub record Comes (r : Option Unit) (v : held.Line) (w : Line) : Type 0 where
+  pub yes : is_some r ≡ true → whole v ≡ w
+  pub no : is_some r ≡ false → w.ok ≡ false
 
 -- the line with x at its end; it fails where it is full
 unfoldable pub pushed : Line → ℕ → Line
@@ -52,3 +75,19 @@ depth p f k = gap p (get_or f k 0) (get_or f (suc k) 0) (get_or f (k - 1) 0)
 -- the ring of position k from the entry after its right frontier neighbour on
 unfoldable pub under : Plan → List ℕ → ℕ → List ℕ
 under p f k = onward (get_or f (suc k) 0) (ring p (get_or f k 0))
+
+-- what is below position k, by a table of positions: the ring of position k is read from the entry after its right frontier neighbour on, up to its left frontier neighbour
+abbrev pub below_of : Located → List ℕ → ℕ → Below
+below_of l f k = record { rings = l.rings; u = get_or f k 0; x = turn_by l.places.now (plan_of l.rings) f k; left = get_or f (k - 1) 0 }
+
+-- what is read there
+abbrev pub reads : Below → List ℕ
+reads b = turned_at b.x (ring (plan_of b.rings) b.u)
+
+-- how many entries of it are below
+abbrev pub depth_of : Below → ℕ
+depth_of b = index_of b.left (reads b)
+
+-- c is one of the entries that are below
+abbrev pub holds : Below → ℕ → Bool
+holds b c = some (λ (t : ℕ). eqb c (get_or (reads b) t 0)) 0 (depth_of b)

@@ -1,58 +1,113 @@
 // What is below a frontier context: the ring entries between its right and its left frontier neighbour.
-ghost use Rattle.std.specs.Prelude.{◌≡◌, suc, ◌-◌, ◌<◌, ◌^◌, get_or};
-ghost use Rattle.lists.specs.Parts.{index_of};
-ghost use Rattle.model.specs.Plan.{ring};
-ghost use Rattle.rings.specs.Tables.{plan_of};
+ghost use Rattle.std.specs.Prelude.{◌≡◌, suc, ◌-◌, ◌<◌, ◌^◌, get_or, length};
 ghost use Rattle.frontier.specs.Run as run;
 
 use places::Located;
 use rings::Rings;
 
-// How many entries stand before b in u's ring, read from the entry after place x round to the entry before it.
-fn gap(rings: &Rings, u: usize, x: usize, b: u16) -> usize
-    ensures value { result ≡ index_of b (run.turned_at x (ring (plan_of rings.now) u)) }
-    ensures upper_bound { result < 2 ^ 9 }
-{
-    let q = rings.size_of(u);
-    let e = q.saturating_sub(1).saturating_sub(x) + x.min(q);
-    for t in 0..e {
-        if b == crate::onward_at(rings, u, x, t) {
-            return t;
+// A frontier on rings with their table of positions.
+#[derive(Clone, Copy)]
+pub struct Front<'a> {
+    pub located: Located<'a>,
+    pub f: &'a [u16],
+}
+
+// What is below a position of a frontier: u's ring, from the entry after place x round to the left frontier neighbour, which is the first that is not below.
+#[derive(Clone, Copy)]
+pub struct Below<'a> {
+    pub rings: Rings<'a>,
+    pub u: usize,
+    pub x: usize,
+    pub left: u16,
+}
+
+impl<'a> Front<'a> {
+    // The frontier context before position k.
+    fn prior(&self, k: usize) -> u16
+        ensures { result ≡ get_or self.now.f.now (k - 1) 0 }
+    {
+        arrays::at(self.f, k.saturating_sub(1))
+    }
+
+    // The frontier context after position k.
+    fn after(&self, k: usize) -> u16
+        ensures { result ≡ get_or self.now.f.now (suc k) 0 }
+    {
+        if k < self.f.len() {
+            arrays::at(self.f, k + 1)
+        } else {
+            0
         }
     }
-    e
-}
 
-// The frontier context before position k.
-fn prior(f: &[u16], k: usize) -> u16
-    ensures { result ≡ get_or f.now (k - 1) 0 }
-{
-    arrays::word(f, k.saturating_sub(1))
-}
-
-// The frontier context after position k.
-fn after(f: &[u16], k: usize) -> u16
-    ensures { result ≡ get_or f.now (suc k) 0 }
-{
-    if k < f.len() {
-        arrays::word(f, k + 1)
-    } else {
-        0
+    // What is below position k.
+    pub fn below(&self, k: usize) -> Below<'a>
+        ensures value { result ≡ run.below_of self.now.located self.now.f.now k }
+        ensures x_bound { result.x < 2 ^ 8 }
+    {
+        let u = arrays::num(self.f, k);
+        Below {
+            rings: self.located.rings,
+            u,
+            x: self.located.index_of(u, usize::from(self.after(k))),
+            left: self.prior(k),
+        }
     }
 }
 
-// Where the right frontier neighbour of position k stands in its ring, by a table of positions.
-pub fn turn_by(located: &Located, f: &[u16], k: usize) -> usize
-    ensures value { result ≡ run.turn_by located.now.places.now (plan_of located.now.rings) f.now k }
-    ensures upper_bound { result < 2 ^ 8 }
-{
-    located.index_of(arrays::num(f, k), usize::from(after(f, k)))
-}
+impl<'a> Below<'a> {
+    // Entry t of the ring, read from the entry after place x round to the entry before it; 0 past the end.
+    pub fn at(&self, t: usize) -> u16
+        ensures { result ≡ get_or (run.reads self.now) t 0 }
+    {
+        let q = self.rings.size_of(self.u);
+        let d = q.saturating_sub(1).saturating_sub(self.x);
+        if t < d {
+            return self.rings.entry_at(self.u, self.x + 1 + t);
+        }
+        if t - d < self.x {
+            return self.rings.entry_at(self.u, t - d);
+        }
+        0
+    }
 
-// How many contexts are below position k, whose right frontier neighbour stands at place x in its ring.
-pub fn depth(rings: &Rings, f: &[u16], k: usize, x: usize) -> usize
-    ensures value { result ≡ run.depth_from (plan_of rings.now) f.now k x }
-    ensures upper_bound { result < 2 ^ 9 }
-{
-    gap(rings, arrays::num(f, k), x, prior(f, k))
+    // How many entries are read, the left frontier neighbour and those after it among them.
+    fn reach(&self) -> usize
+        ensures value { result ≡ length (run.reads self.now) }
+        ensures upper_bound { result < 2 ^ 9 }
+    {
+        let q = self.rings.size_of(self.u);
+        q.saturating_sub(1).saturating_sub(self.x) + self.x.min(q)
+    }
+
+    // How many entries are below: those before the left frontier neighbour.
+    pub fn len(&self) -> usize
+        ensures value { result ≡ run.depth_of self.now }
+        ensures upper_bound { result < 2 ^ 9 }
+    {
+        let e = self.reach();
+        for t in 0..e {
+            if self.left == self.at(t) {
+                return t;
+            }
+        }
+        e
+    }
+
+    // Is c one of the entries that are below?
+    pub fn has(&self, c: usize) -> bool
+        ensures { result ≡ run.holds self.now c }
+    {
+        let e = self.reach();
+        for t in 0..e {
+            let w = self.at(t);
+            if self.left == w {
+                return false;
+            }
+            if c == usize::from(w) {
+                return true;
+            }
+        }
+        false
+    }
 }

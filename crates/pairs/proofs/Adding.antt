@@ -1,5 +1,5 @@
 -- How a list is gathered entry by entry.
-use Prim.Native.Nat.{ℕ, suc, ◌+◌, ◌-◌, ◌<◌}
+use Prim.Native.Nat.{ℕ, suc, ◌-◌, ◌<◌}
 use mathlib.Core.Path.{◌≡◌, refl, ap, sym, ◌∙◌, subst}
 use mathlib.Core.Logic.{◌⊎◌, inl, inr, ⊎_elim}
 use mathlib.Core.List.{List, [], ◌∷◌, ◌++◌, append_assoc, append-nil}
@@ -13,11 +13,11 @@ use Rattle.lists.specs.Parts.{squeeze}
 use Rattle.lists.proofs.Tests.{any_append, eqb_swap}
 use Rattle.lists.proofs.Padded.{get_or-padded}
 use Rattle.model.specs.Plan.{border}
-use Rattle.frontier.specs.declared.Line.{Line}
 use Rattle.frontier.specs.Front.{Small, Rep, Marks}
-use Rattle.frontier.specs.Run.{line, pushed}
+use Rattle.frontier.specs.Run.{Line, line, pushed}
 use Rattle.pairs.specs.Run.{failed, last_is, barred, noted, added}
 use Rattle.pairs.proofs.Dirt.{dirty, dirty-left, dirty_end, clean_end, clean_once, ends_in, joined, squeeze_end, squeeze-more}
+use Rattle.pairs.proofs.Fails.{added-off}
 use Rattle.frontier.proofs.Lines.{marks-same, marks-set, no_longer, push_rep, pushed-marks, small-append}
 
 -- ---- one entry added
@@ -107,26 +107,7 @@ unfoldable pub added_all : Line → List ℕ → Line
 added_all v [] = v
 added_all v (c ∷ cs) = added_all (added v c) cs
 
--- a line that failed stays failed when a context is put at its end
-pushed-off : (v : Line) (c : ℕ) → v.ok ≡ false → (pushed v c).ok ≡ false
-unfolding pushed
-pushed-off v c e = go (ltb v.len 512)
-  where
-    go : (u : Bool) → (cond u (line v.ok (v.len + 1) (set v.at v.len c) v.marks) (line false v.len v.at v.marks)).ok ≡ false
-    go true = e
-    go false = refl
-
--- and when a context is added
-added-off : (v : Line) (c : ℕ) → v.ok ≡ false → (added v c).ok ≡ false
-unfolding added failed noted
-added-off v c e = go (last_is v.at v.len c) (barred v.marks c)
-  where
-    go : (s t : Bool) → (cond s v (cond t (line false v.len v.at v.marks) (line (pushed v c).ok (pushed v c).len (pushed v c).at (set (pushed v c).marks c 1)))).ok ≡ false
-    go true t = e
-    go false true = refl
-    go false false = pushed-off v c e
-
--- and when several are
+-- a list that failed stays failed when several contexts are added
 pub added_all-off : (v : Line) (cs : List ℕ) → v.ok ≡ false → (added_all v cs).ok ≡ false
 unfolding added_all
 added_all-off v [] e = e

@@ -15,9 +15,8 @@ use Rattle.lists.specs.Spans.{padded}
 use Rattle.model.specs.Plan.{Plan}
 use Rattle.model.specs.Sweep.{below, listed}
 use Rattle.lists.specs.Folds.{each, down}
-use Rattle.frontier.specs.declared.Line.{Line}
 use Rattle.frontier.specs.Front.{Sane, Marks}
-use Rattle.frontier.specs.Run.{line, depth, under, fresh}
+use Rattle.frontier.specs.Run.{Line, line, depth, under, fresh}
 use Rattle.pairs.specs.Run.{failed, added, back_added, below_added, listing}
 use Rattle.pairs.proofs.Dirt.{dirty}
 use Rattle.pairs.proofs.Adding.{Good, added_all, dirty-more, all_come}

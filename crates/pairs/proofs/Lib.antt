@@ -1,3 +1,4 @@
+pub mod Fails
 pub mod Moves
 pub mod Dirt
 pub mod Adding

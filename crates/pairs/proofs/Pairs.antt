@@ -18,9 +18,8 @@ use Rattle.model.specs.Plan.{Plan}
 use Rattle.model.specs.Sweep.{State, listed, replaced, chordless, eligible, advance}
 use Rattle.model.proofs.Eligible.{replaced-length}
 use Rattle.lists.specs.Folds.{each}
-use Rattle.frontier.specs.declared.Line.{Line}
 use Rattle.frontier.specs.Front.{Small, Sane, Rep, Marks, Front}
-use Rattle.frontier.specs.Run.{line, pushed, fresh}
+use Rattle.frontier.specs.Run.{Line, line, pushed, fresh}
 use Rattle.pairs.specs.Run.{appended, listing}
 use Rattle.pairs.proofs.Dirt.{dirty, clean_once, clean_new}
 use Rattle.frontier.proofs.Lines.{small-append, small-mem, mem-small, no_longer, push_rep, marks-same, pushed-marks, fresh-rep, stretch-all, stretch_part}

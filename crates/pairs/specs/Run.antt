@@ -2,17 +2,11 @@
 use Rattle.std.specs.Prelude.{ℕ, ◌-◌, List, Bool, true, false, cond, not, get_or, set, eqb, ltb}
 use Rattle.lists.specs.Folds.{through, down}
 use Rattle.model.specs.Plan.{Plan, ring}
-use Rattle.frontier.specs.declared.Line.{Line}
-use Rattle.frontier.specs.declared.Tally.{Tally}
-use Rattle.frontier.specs.Run.{line, turned_at, turn_by, depth_from, depth, under, pushed, fresh}
+use Rattle.frontier.specs.Run.{Line, line, turned_at, turn_by, depth_from, depth, under, pushed, fresh}
 
 -- the line, failed
 unfoldable pub failed : Line → Line
 failed v = line false v.len v.at v.marks
-
--- its tally
-abbrev pub lost : Tally → Tally
-lost t = record { ok = false; len = t.len }
 
 -- c is the last of the first len contexts
 unfoldable pub last_is : List ℕ → ℕ → ℕ → Bool

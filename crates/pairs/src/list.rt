@@ -1,17 +1,17 @@
 // The list of a pair of positions, and the frontier with that list in place.
-ghost use Rattle.std.specs.Prelude.{◌≡◌, true, List, ℕ, suc, ◌+◌, ◌-◌, ◌<◌, ◌^◌};
+ghost use Rattle.std.specs.Prelude.{◌≡◌, suc, ◌+◌, ◌-◌, ◌<◌, ◌^◌};
 ghost use Rattle.rings.specs.Tables.{plan_of};
-ghost use Rattle.frontier.specs.Run.{line, line_of};
+ghost use Rattle.frontier.specs.Run.{whole, tried, Comes};
 ghost use Rattle.pairs.specs.Run as run;
 
-use frontier::Tally;
-use places::Located;
+use frontier::{Front, Line};
+use std::ops::Range;
 
-// Is c the last of the first len contexts?
-fn last_is(at: &[u16], len: usize, c: u16) -> bool
-    ensures { result ≡ run.last_is at.now len c }
+// Is c the last context of the list?
+fn last_is(list: &Line, c: u16) -> bool
+    ensures { result ≡ run.last_is list.now.at list.now.len c }
 {
-    len > 0 && c == arrays::word(at, len - 1)
+    list.len > 0 && c == arrays::at(&list.at, list.len - 1)
 }
 
 // Is c a border context, or one that is marked: it is or was on the frontier or is on the list?
@@ -21,113 +21,60 @@ fn barred(marks: &[u8], c: u16) -> bool
     c < 4 || arrays::num(marks, usize::from(c)) != 0
 }
 
-// A list that failed.
-fn failed(list: Tally) -> Tally
-    ensures { result ≡ run.lost list }
+// Puts c at the end of the list and marks it, unless it stands there; it fails where c may not be on the list.
+fn add(list: &mut Line, c: u16) -> Option<()>
+    ensures { tried result list.new ≡ run.added (whole list.old) c }
 {
-    Tally {
-        ok: false,
-        len: list.len,
+    if last_is(list, c) {
+        return Some(());
     }
+    if barred(&list.marks, c) {
+        return None;
+    }
+    arrays::put(&mut list.marks, usize::from(c), 1);
+    list.push(c)
 }
 
-// The list with c at its end, marked, unless it stands there; it fails where c may not be on the list.
-fn add(at: &mut [u16], marks: &mut [u8], list: Tally, c: u16) -> Tally
-    ensures { line_of result at.new marks.new ≡ run.added (line_of list at.old marks.old) c }
+// Puts what is below position k at the end of the list; it fails where nothing is.
+fn add_below(list: &mut Line, front: &Front, k: usize) -> Option<()>
+    ensures { Comes result list.new (run.back_added_by front.now.located.places.now (plan_of front.now.located.rings) front.now.f.now k (whole list.old)) }
 {
-    if last_is(at, list.len, c) {
-        return list;
-    }
-    if barred(marks, c) {
-        return failed(list);
-    }
-    arrays::put(marks, usize::from(c), 1);
-    frontier::push(at, list, c)
-}
-
-// The list with what is below position k; it fails where nothing is.
-fn add_back(
-    at: &mut [u16],
-    marks: &mut [u8],
-    located: &Located,
-    f: &[u16],
-    k: usize,
-    list: Tally,
-) -> Tally
-    ensures { line_of result at.new marks.new ≡ run.back_added_by located.now.places.now (plan_of located.now.rings) f.now k (line_of list at.old marks.old) }
-{
-    let x = frontier::below::turn_by(located, f, k);
-    let q = frontier::below::depth(&located.rings, f, k, x);
+    let below = front.below(k);
+    let q = below.len();
     if q == 0 {
-        return failed(list);
+        return None;
     }
-    let u = arrays::num(f, k);
-    let mut w = list;
     for t in (0..q).rev() {
-        w = add(at, marks, w, frontier::onward_at(&located.rings, u, x, t));
+        add(list, below.at(t))?;
     }
-    w
+    Some(())
 }
 
-// The same, unless the list failed before.
-fn add_below(
-    at: &mut [u16],
-    marks: &mut [u8],
-    located: &Located,
-    f: &[u16],
-    k: usize,
-    list: Tally,
-) -> Tally
-    ensures { line_of result at.new marks.new ≡ run.below_added_by located.now.places.now (plan_of located.now.rings) f.now k (line_of list at.old marks.old) }
+// Puts the list of what is below these positions at the end of a list, each context of it marked beside those that are marked before; it fails where nothing is below one of these or a context may not be on the list.
+pub fn listed(list: &mut Line, front: &Front, positions: Range<usize>) -> Option<()>
+    ensures { Comes result list.new (run.listing_by front.now.located.places.now (plan_of front.now.located.rings) front.now.f.now positions.start positions.end (whole list.old)) }
 {
-    if list.ok {
-        return add_back(at, marks, located, f, k, list);
+    for k in positions.start..positions.end {
+        add_below(list, front, k)?;
     }
-    list
+    Some(())
 }
 
-// The list of what is below positions a to j - 1, put to the front of an array, each context of it marked.
-pub fn listed(
-    at: &mut [u16],
-    marks: &mut [u8],
-    located: &Located,
-    f: &[u16],
-    a: usize,
-    j: usize,
-) -> Tally
-    ensures { line_of result at.new marks.new ≡ run.listing_by located.now.places.now (plan_of located.now.rings) f.now a j (line true 0 at.old marks.old) }
+// Puts these positions of f at the end of the line; it fails where the line is full.
+fn append(line: &mut Line, f: &[u16], positions: Range<usize>) -> Option<()>
+    ensures { Comes result line.new (run.appended (whole line.old) f.now positions.start positions.end) }
 {
-    let mut list = Tally { ok: true, len: 0 };
-    for k in a..j {
-        list = add_below(at, marks, located, f, k, list);
+    for k in positions.start..positions.end {
+        line.push(arrays::at(f, k))?;
     }
-    list
+    Some(())
 }
 
-// The line with positions a to e - 1 of f at its end.
-fn append(at: &mut [u16], line: Tally, f: &[u16], a: usize, e: usize) -> Tally
-    ensures { (marks : List ℕ) → line_of result at.new marks ≡ run.appended (line_of line at.old marks) f.now a e }
+// Puts the frontier of m contexts with a list in place of positions a to j - 1 at the end of a line; it fails where the line has no room for it.
+pub fn replaced(line: &mut Line, f: &[u16], m: usize, a: usize, j: usize, list: &Line) -> Option<()>
+    ensures { Comes result line.new (run.replaced_on (whole line.old) f.now m a j list.now.at list.now.len) }
 {
-    let mut v = line;
-    for k in a..e {
-        v = frontier::push(at, v, arrays::word(f, k));
-    }
-    v
-}
-
-// The frontier of m contexts with a list of q in place of positions a to j - 1, put to the front of an array.
-pub fn replaced(
-    at: &mut [u16],
-    f: &[u16],
-    m: usize,
-    a: usize,
-    j: usize,
-    list: &[u16],
-    q: usize,
-) -> Tally
-    ensures { (marks : List ℕ) → line_of result at.new marks ≡ run.replaced_on (line true 0 at.old marks) f.now m a j list.now q }
-{
-    let left = append(at, Tally { ok: true, len: 0 }, f, 0, a);
-    let middle = append(at, left, list, 0, q);
-    append(at, middle, f, j, m)
+    append(line, f, 0..a)?;
+    append(line, &list.at, 0..list.len)?;
+    append(line, f, j..m)
 }

@@ -7,6 +7,7 @@ use mathlib.Core.Bool.{Bool, true, false, cond, false≢true}
 use native.Mathlib.Omega.{arith}
 use lib.ListN.{length, get_or, take}
 use lib.Dec.{eqb}
+use Rattle.std.specs.Prelude.{Option, Some, None, MatchOption}
 use borrow.Author.Tests.{eqb-true}
 use Rattle.lists.proofs.Folds.{some_one}
 use Rattle.model.specs.Plan.{Plan, ring, adjacent}
@@ -35,32 +36,52 @@ under-below p f k t h =
     let z : depth p f k ≡ t + suc d = omega arith in
     subst (Memᴰ (get_or (under p f k) t 0)) (sym (below-is p f k ∙ ap (λ (i : ℕ). reverse (take i (under p f k))) z ∙ q)) (Memᴰ.append_right pre (Memᴰ.head refl))
 
--- ---- while a < e { if !listed(a + 1) { return below(a); } a += 1; }
-pub record Passes (t : List ℕ) (p : Plan) (f : List ℕ) (c lo e a : ℕ) : Type 0 where
-  pub same : pocket_from t p f c lo (e - lo) ≡ pocket_from t p f c a (e - a)
+-- ---- what is found of a range of positions
+module _ (t : List ℕ) (p : Plan) (f : List ℕ) (c : ℕ) where
+  -- the position after one lists c
+  abbrev pub next_lists : ℕ → Bool
+  next_lists a = adjacent_by t p (get_or f (a + 1) 0) c
 
--- before the loop
-pub passes-start : {t : List ℕ} {p : Plan} {f : List ℕ} {c lo e : ℕ} → Passes t p f c lo e lo
-passes-start = record { same = refl }
-
-module _ {t : List ℕ} {p : Plan} {f : List ℕ} {c lo e a : ℕ} (inv : Passes t p f c lo e a) where
-  -- the next position, taken apart
-  step : a < e → pocket_from t p f c lo (e - lo) ≡ cond (adjacent_by t p (get_or f (a + 1) 0) c) (pocket_from t p f c (a + 1) (e - (a + 1))) (below_by t p f c a)
+  -- k positions whose next lists c are passed over
+  passed_over : (k m a : ℕ) → ((x : ℕ) → a ≤ x → x < a + k → next_lists x ≡ true) → pocket_from t p f c a (k + m) ≡ pocket_from t p f c (a + k) m
   unfolding pocket_from
-  step h = let z : e - a ≡ suc (e - (a + 1)) = omega arith in inv.same ∙ ap (pocket_from t p f c a) z
+  passed_over zero m a all =
+      let z : 0 + m ≡ m = omega arith in
+      let w : a + 0 ≡ a = omega arith in
+      λ i. pocket_from t p f c (sym w i) (z i)
+  passed_over (suc k) m a all =
+      let z : suc k + m ≡ suc (k + m) = omega arith in
+      let w : a + 1 + k ≡ a + suc k = omega arith in
+      ap (pocket_from t p f c a) z
+      ∙ ap (λ (b : Bool). cond b (pocket_from t p f c (a + 1) (k + m)) (below_by t p f c a)) (all a (omega arith) (omega arith))
+      ∙ passed_over k m (a + 1) (λ x l u. all x (omega arith) (omega arith))
+      ∙ ap (λ (n : ℕ). pocket_from t p f c n m) w
 
-  -- it does not list c
-  pub passes_hit : {r : Bool} → a < e → adjacent_by t p (get_or f (a + 1) 0) c ≡ false → r ≡ below_by t p f c a → r ≡ pocket_from t p f c lo (e - lo)
-  passes_hit h q s = s ∙ sym (step h ∙ ap (λ (b : Bool). cond b (pocket_from t p f c (a + 1) (e - (a + 1))) (below_by t p f c a)) q)
+  -- what `find` says of the positions from lo on before e, where it looks for one whose next does not list c
+  abbrev pub Found : ℕ → ℕ → Option ℕ → Type 0
+  Found lo e r = MatchOption r ((x : ℕ) → lo ≤ x → x < e → next_lists x ≡ true) (λ i. (lo ≤ i) × (i < e) × (next_lists i ≡ false) × ((x : ℕ) → lo ≤ x → x < i → next_lists x ≡ true))
 
-  -- it does
-  pub passes_on : a < e → adjacent_by t p (get_or f (a + 1) 0) c ≡ true → Passes t p f c lo e (a + 1)
-  passes_on h q = record { same = step h ∙ ap (λ (b : Bool). cond b (pocket_from t p f c (a + 1) (e - (a + 1))) (below_by t p f c a)) q }
+  module _ (lo e : ℕ) {r : Option ℕ} (found : Found lo e r) where
+    -- there is none
+    pub found_none : r ≡ None → false ≡ pocket_from t p f c lo (e - lo)
+    unfolding pocket_from
+    found_none is =
+        let all = subst (Found lo e) is found in
+        let z : e - lo + 0 ≡ e - lo = omega arith in
+        sym (ap (pocket_from t p f c lo) (sym z) ∙ passed_over (e - lo) 0 lo (λ x l u. all x l (omega arith)))
 
-  -- after the loop
-  pub passes_end : e ≤ a → false ≡ pocket_from t p f c lo (e - lo)
-  unfolding pocket_from
-  passes_end h = let z : e - a ≡ 0 = omega arith in sym (inv.same ∙ ap (pocket_from t p f c a) z)
+    -- there is one: is c below it?
+    pub found_one : {i : ℕ} → r ≡ Some i → below_by t p f c i ≡ pocket_from t p f c lo (e - lo)
+    unfolding pocket_from
+    found_one {i} is =
+        let (from_lo, below_e, here, before) = subst (Found lo e) is found in
+        let z : e - lo ≡ i - lo + suc (e - (i + 1)) = omega arith in
+        let w : lo + (i - lo) ≡ i = omega arith in
+        sym
+        (ap (pocket_from t p f c lo) z
+        ∙ passed_over (i - lo) (suc (e - (i + 1))) lo (λ x l u. before x l (omega arith))
+        ∙ ap (λ (n : ℕ). pocket_from t p f c n (suc (e - (i + 1)))) w
+        ∙ ap (λ (b : Bool). cond b (pocket_from t p f c (i + 1) (e - (i + 1))) (below_by t p f c i)) here)
 
 -- ---- by the plan's own table
 module _ (p : Plan) {t : List ℕ} (own : t ≡ places_of p) (f : List ℕ) (c : ℕ) where

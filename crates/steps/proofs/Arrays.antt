@@ -10,7 +10,9 @@ use Rattle.model.proofs.LabelCounts.{put_long}
 use Rattle.model.specs.Plan.{Plan, Dart, entry_count}
 use Rattle.model.specs.Labels.{start, put, turned}
 use Rattle.model.specs.Sweep.{label_edges}
-use Rattle.rings.specs.Tables.{starts_of, rows, table}
+use Rattle.rings.specs.declared.Table.{Table}
+use Rattle.rings.specs.declared.Rings.{Rings}
+use Rattle.rings.specs.Tables.{starts_of, rows, table, table_of, plan_of}
 use Rattle.rings.proofs.Rows.{count-rows}
 use Rattle.fit.specs.Fits.{fit}
 use Rattle.fit.proofs.Fits.{fit-says}
@@ -19,10 +21,10 @@ use Rattle.labels.proofs.Places.{start-held}
 use Rattle.labels.proofs.Darts.{put-behind}
 use Rattle.edges.specs.Edges.{Guide}
 
--- the plan of the starts that the sizes give
-pub as_table : (starts sizes es : List ℕ) (n : ℕ) → starts ≡ starts_of sizes → rows starts sizes es n ≡ table sizes es n
+-- the plan of rings that begin where the sizes of a table say is the plan of the table
+pub as_table : (t : Table) (r : Rings) {starts : List ℕ} → r.starts.now ≡ starts → starts ≡ starts_of t.sizes.now → r.sizes.now ≡ t.sizes.now → r.entries.now ≡ t.entries.now → r.n ≡ t.n → plan_of r ≡ table_of t
 unfolding table
-as_table starts sizes es n same = ap (λ (l : List ℕ). rows l sizes es n) same
+as_table t r begin own sizes entries n = λ i. rows ((begin ∙ own) i) (sizes i) (entries i) (n i)
 
 -- what labels are put by, for a plan in flat arrays that fits
 pub guide : (starts sizes es : List ℕ) (n : ℕ) {places : List ℕ} → starts ≡ starts_of sizes → fit (rows starts sizes es n) ≡ true → places ≡ places_of (rows starts sizes es n) → Guide (rows starts sizes es n) places starts

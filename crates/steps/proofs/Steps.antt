@@ -16,15 +16,16 @@ use Rattle.model.specs.Plan.{Plan, count, ring, north, east, south, west, entry_
 use Rattle.model.specs.Labels.{up, right}
 use Rattle.model.specs.Sweep.{State, label_edges, product, top, bare_labels, first_state, listed, finished, finish, eligible, choose, choices, advance, sweep_from}
 use Rattle.model.proofs.Choices.{chosen, Chosen}
-use Rattle.frontier.specs.declared.Line.{Line}
 use Rattle.lists.specs.Tests.{member}
 use Rattle.frontier.specs.Front.{Sane, Marks, Front}
 use Rattle.choice.specs.Search.{found_as, Ready}
 use Rattle.frontier.proofs.Lines.{stretch_part, stretch-all}
-use Rattle.pairs.proofs.Pairs.{gathered, unchorded, replaced-marks, next-front}
+use Rattle.pairs.proofs.Pairs.{gathered, unchorded, next-front}
 use Rattle.ends.proofs.Finishing.{open_is, unfinished-told}
-use Rattle.steps.specs.Run.{step_labels, Stepped, finish_labels, first_labels, in_array, swept, Running}
-use Rattle.frontier.specs.Run.{line}
+use Rattle.steps.specs.Run.{step_labels, list_of, next_line, next_labels, finish_labels, first_labels, in_array, swept, Running}
+use Rattle.frontier.specs.declared.Line as held
+use Rattle.frontier.specs.Run.{Line, line, whole, kept}
+use Rattle.frontier.proofs.Fails.{kept_none}
 use Rattle.edges.specs.Edges.{Guide}
 use Rattle.ends.specs.Ends.{first_line, unfinished_by}
 use Rattle.pairs.specs.Run.{listing, replaced}
@@ -84,19 +85,31 @@ front_plain {s} fr e f g =
       room = fr.room;
     }
 
--- what a step makes, of a list and a line
-pub stepped : {p : Plan} {f : List ℕ} {m i j : ℕ} {marks ls ls' : List ℕ} {g w : Line} → g ≡ listing p f marks (i + 1) j → ls' ≡ step_labels p f g.at g.len i j ls → w ≡ replaced f m (i + 1) j (line true g.len g.at g.marks) → Stepped p f m i j marks ls g.marks ls' w.at w.len
-unfolding replaced
-stepped {g = g} {w = w} gathers labels moves = record { list = g; gathered = gathers; marked = refl; labelled = labels; line = w; moved = moves; at = refl; size = refl }
+-- ---- the next frontier
+module _ (p : Plan) (v : Line) (i j : ℕ) where
+  -- there is none where the list failed
+  pub next-none : (list_of p v i j).ok ≡ false → (next_line p v i j).ok ≡ false
+  unfolding next_line
+  next-none e = ap (λ (b : Bool). (cond b (replaced v.at v.len (i + 1) j (list_of p v i j)) (list_of p v i j)).ok) e ∙ e
+
+  -- the list in place, where it did not
+  pub next-some : {g : Line} → list_of p v i j ≡ g → g.ok ≡ true → next_line p v i j ≡ replaced v.at v.len (i + 1) j g
+  unfolding next_line
+  next-some {g} e o = ap (λ (w : Line). cond w.ok (replaced v.at v.len (i + 1) j w) w) e ∙ ap (λ (b : Bool). cond b (replaced v.at v.len (i + 1) j g) g) o
+
+-- ---- the steps
+-- there is a first frontier
+pub first-whole : {p : Plan} → Sane p → length (ring p 0) ≤ 255 → kept (first_line p) ≡ None → ⊥
+first-whole {p} sane long none = false≢true (sym (kept_none (first_line p) none) ∙ (first-front p sane long).rep.ok)
 
 -- before the first step
-pub running_start : {p : Plan} {n : ℕ} {v : Line} {ls : List ℕ} → Sane p → length (ring p 0) ≤ 255 → n ≡ count p → v ≡ first_line p → ls ≡ first_labels p v.at v.len → Running p n false (line true v.len v.at v.marks) ls
+pub running_start : {p : Plan} {n : ℕ} {v : Line} {ls : List ℕ} → Sane p → length (ring p 0) ≤ 255 → n ≡ count p → v ≡ first_line p → ls ≡ first_labels p v.at v.len → Running p n false v ls
 unfolding swept first_state first_labels
 running_start {p} {n} {v} {ls} sane long e q w =
     let f = first_front p in
     record {
       state = first_state p;
-      front = front_plain (subst (Front (first_state p)) (sym q) (first-front p sane long)) refl refl refl;
+      front = subst (Front (first_state p)) (sym q) (first-front p sane long);
       chords = λ c. absurd (false≢true c);
       labels =
           w
@@ -123,11 +136,11 @@ module _ {p : Plan} {places starts : List ℕ} (g : Guide p places starts) {k : 
 
   -- what is found is what the model chooses
   abbrev Chooses : Option (ℕ × ℕ) → Type 0
-  Chooses found = (s : State) → Ready places p clean s v → found_as found ≡ choose p s (choices s.frontier)
+  Chooses found = (s : State) → Ready places p clean s (line true v.len v.at v.marks) → found_as found ≡ choose p s (choices s.frontier)
 
   -- of this state
   chosen_here : (found : Option (ℕ × ℕ)) → Chooses found → found_as found ≡ choose p s (choices f)
-  chosen_here found e = e s (record { own = g.own; sane = sane; front = inv.front; chords = inv.chords })
+  chosen_here found e = e s (record { own = g.own; sane = sane; front = front_plain inv.front refl refl refl; chords = inv.chords })
 
   -- the finishing test
   is-finished : {t : Bool} → t ≡ unfinished_by places p v.at v.len → not (finished p f) ≡ t
@@ -186,29 +199,39 @@ module _ {p : Plan} {places starts : List ℕ} (g : Guide p places starts) {k : 
         let c = inv.front.rep.short in
         (omega arith, omega arith)
 
+    -- the line of the next frontier
+    next-held : Front (advance p s i j) (next_line p v i j)
+    next-held =
+        let one : i + 1 ≡ suc i = omega arith in
+        let good = gathered p sane s v inv.front i j taken.positions.apart taken.positions.inside taken.fits in
+        subst (Front (advance p s i j)) (sym (next-some p v i j (ap (λ (n : ℕ). listing p v.at v.marks n j) one) good.rep.ok ∙ ap (λ (n : ℕ). replaced v.at v.len n j (listing p v.at v.marks (suc i) j)) one))
+        (next-front p sane s v inv.front i j taken.positions.apart taken.positions.inside taken.fits)
+
+    -- there is one
+    pub running-whole : (next_line p v i j).ok ≡ false → ⊥
+    running-whole none = false≢true (sym none ∙ next-held.rep.ok)
+
     -- a step
-    pub running_on : {t : Bool} {k' q : ℕ} {marks b next : List ℕ} → k ≡ suc k' → t ≡ unfinished_by places p v.at v.len → not t ≡ false → Stepped p v.at v.len i j v.marks ls marks b next q → Running p k' true (line true q next marks) b
-    unfolding step_labels advance found_as
-    running_on {t} {k'} {q} {marks} {b} {next} z w u did =
+    pub running_on : {t : Bool} {k' : ℕ} {b : List ℕ} {next : held.Line} → k ≡ suc k' → t ≡ unfinished_by places p v.at v.len → not t ≡ false → whole next ≡ next_line p v i j → b ≡ next_labels p v i j ls → Running p k' true (whole next) b
+    unfolding step_labels next_labels advance found_as
+    running_on {t} {k'} {b} {next} z w u moves labels =
         let two = taken.positions.apart in
         let last = taken.positions.inside in
         let good = gathered p sane s v inv.front i j two last taken.fits in
         let l = listed p f i j in
         let on = not-true (finished p f) (is-finished w ∙ not-false t u) in
         let rep = inv.front.rep in
-        let list = listing p v.at v.marks (suc i) j in
         let size : length l - 0 ≡ length l = omega arith in
         let one : i + 1 ≡ suc i = omega arith in
         let after : j + 1 ≡ suc j = omega arith in
-        let gathers = did.gathered ∙ ap (λ (n : ℕ). listing p v.at v.marks n j) one in
-        let moved = did.moved ∙ (λ d. replaced v.at v.len (one d) j (gathers d)) in
+        let gathers = ap (λ (n : ℕ). listing p v.at v.marks n j) one in
         let ups = product l (slice (suc i) j f) in
         record {
           state = advance p s i j;
-          front = front_plain (next-front p sane s v inv.front i j two last taken.fits) (did.size ∙ ap (λ (w : Line). w.len) moved) (did.at ∙ ap (λ (w : Line). w.at) moved) (did.marked ∙ ap (λ (w : Line). w.marks) gathers ∙ sym (replaced-marks v.at v.len (suc i) j list));
+          front = subst (Front (advance p s i j)) (sym moves) next-held;
           chords = λ _. unchorded p sane s v inv.front i j two last taken.fits;
           labels =
-              did.labelled
+              labels
               ∙ ap (λ (m : Line). label_edges p right (steps (span v.at i (j + 1))) (label_edges p up (product (span m.at 0 m.len) (span v.at (i + 1) j)) ls)) gathers
               ∙ (λ d. label_edges p right (steps (span (rep.at d) i (after d))) (label_edges p up (product (span (good.rep.at d) 0 (good.rep.len d)) (span (rep.at d) (one d) j)) (inv.labels d)))
               ∙ (λ d. label_edges p right (steps (span_slice f i (suc j) (omega arith) (omega arith) d)) (label_edges p up (product ((ap (stretch (padded 512 l) 0) size ∙ stretch-all l) d) (span_slice f (suc i) j (omega arith) (omega arith) d)) (padded 1186 s.labels)))

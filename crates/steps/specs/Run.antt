@@ -1,4 +1,5 @@
 -- The steps of the sweep as the engine runs them, on arrays.
+use Rattle.frontier.specs.Run.{Line}
 use Rattle.std.specs.Prelude.{ℕ, ◌+◌, ◌-◌, ◌≤◌, ◌≡◌, List, [], ◌∷◌, ◌++◌, map, Bool, true, cond, ◌&&◌, length}
 use Rattle.lists.specs.Parts.{steps}
 use Rattle.lists.specs.Spans.{span, padded}
@@ -7,7 +8,6 @@ use Rattle.model.specs.Plan.{Plan, count, ring, border, entry_count}
 use Rattle.model.specs.Labels.{up, right, border_label, unlabelled}
 use Rattle.model.specs.Sweep.{State, label_edges, product, bare_labels, chordless, first_state, sweep_from}
 use Rattle.fit.specs.Fits.{fit}
-use Rattle.frontier.specs.declared.Line.{Line}
 use Rattle.frontier.specs.Front.{Front}
 use Rattle.pairs.specs.Run.{listing, replaced}
 
@@ -24,16 +24,17 @@ finish_labels p f m ls = label_edges p right (steps (span f 0 m)) (label_edges p
 unfoldable pub first_labels : Plan → List ℕ → ℕ → List ℕ
 first_labels p f m = label_edges p up (product (span f 1 (m - 1)) (0 ∷ [])) (padded 1186 (bare_labels p))
 
--- what a step of positions i and j makes of marks and labels, and the new frontier
-pub record Stepped (p : Plan) (f : List ℕ) (m i j : ℕ) (marks ls marks' ls' next : List ℕ) (len : ℕ) : Type 0 where
-  pub list : Line
-  pub gathered : list ≡ listing p f marks (i + 1) j
-  pub marked : marks' ≡ list.marks
-  pub labelled : ls' ≡ step_labels p f list.at list.len i j ls
-  pub line : Line
-  pub moved : line ≡ replaced f m (i + 1) j list
-  pub at : next ≡ line.at
-  pub size : len ≡ line.len
+-- the list of a step of positions i and j of the frontier v
+abbrev pub list_of : Plan → Line → ℕ → ℕ → Line
+list_of p v i j = listing p v.at v.marks (i + 1) j
+
+-- the new frontier, where the list did not fail
+unfoldable pub next_line : Plan → Line → ℕ → ℕ → Line
+next_line p v i j = let g = list_of p v i j in cond g.ok (replaced v.at v.len (i + 1) j g) g
+
+-- the labels after the step
+unfoldable pub next_labels : Plan → Line → ℕ → ℕ → List ℕ → List ℕ
+next_labels p v i j ls = let g = list_of p v i j in step_labels p v.at g.at g.len i j ls
 
 -- ---- the labels before the sweep
 -- the label of the dart from u to v before the sweep

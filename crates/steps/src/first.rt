@@ -8,11 +8,16 @@ ghost use Rattle.steps.specs.Run as run;
 
 use rings::Rings;
 
-// 4 between border contexts, 5 elsewhere: no label yet.
+// The label of a dart before the sweep: the border's between border contexts, none elsewhere.
+#[tactic(auto, unfolding(crate::specs::Run::bare_label))]
 fn bare_label(u: usize, v: usize) -> u8
     ensures { result ≡ run.bare_label u v }
 {
-    if u < 4 && v < 4 { 4 } else { 5 }
+    if labels::both_border(u, v) {
+        labels::BORDER
+    } else {
+        labels::NONE
+    }
 }
 
 // Puts the labels of u's ring at k and after.

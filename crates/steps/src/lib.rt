@@ -8,7 +8,7 @@ ghost use Rattle.steps.specs.Run.{in_array, steps_of};
 
 use places::Located;
 use refusal::Refusal;
-use rings::{Rings, Table};
+use rings::Table;
 
 mod first;
 mod step;
@@ -23,12 +23,7 @@ pub fn sweep_down(plan: &Table) -> Result<[u8; 1186], Refusal>
         return Err(Refusal::TooEarly);
     }
     let starts = rings::starts_of(plan.sizes);
-    let rings = Rings {
-        starts: &starts,
-        sizes: plan.sizes,
-        entries: plan.entries,
-        n: plan.n,
-    };
+    let rings = plan.rings(&starts);
     let mut places = [0u8; 40000];
     places::fill(&mut places, &rings);
     let guided = Guided {

@@ -1,14 +1,13 @@
 // The steps of the sweep, from the first frontier until it is finished or stuck.
-ghost use Rattle.std.specs.Prelude.{◌≡◌, true, false, ◌+◌, ◌<◌};
-ghost use Rattle.lists.specs.Spans.{zeros};
+ghost use Rattle.std.specs.Prelude.{◌≡◌, is_some, true, false, ◌+◌, ◌<◌};
 ghost use Rattle.rings.specs.Tables.{plan_of};
 ghost use Rattle.fit.specs.Fits.{fit};
-ghost use Rattle.frontier.specs.Run.{line};
+ghost use Rattle.frontier.specs.Run.{whole, Comes};
 ghost use Rattle.edges.specs.Edges.{Guide};
 ghost use Rattle.refusal.specs.Refusals.{told};
 ghost use Rattle.steps.specs.Run as run;
 
-use frontier::Line;
+use frontier::{Front, Line};
 use places::Located;
 use refusal::Refusal;
 
@@ -20,69 +19,76 @@ pub(crate) struct Guided<'a> {
 }
 
 impl<'a> Guided<'a> {
-    // Puts the labels of a step that puts a list of q in place of positions i + 1 to j - 1 of the frontier f.
-    fn step_labels(&self, labels: &mut [u8], f: &[u16], list: &[u16], q: usize, i: usize, j: usize)
+    // Puts the labels of a step that puts a list in place of positions i + 1 to j - 1 of the frontier.
+    fn step_labels(&self, labels: &mut [u8], line: &Line, list: &Line, i: usize, j: usize)
         requires i_bound { i < 512 }
         requires j_bound { j < 512 }
-        ensures { labels.new ≡ run.step_labels (plan_of self.now.located.rings) f.now list.now q i j labels.old }
+        ensures { labels.new ≡ run.step_labels (plan_of self.now.located.rings) line.now.at list.now.at list.now.len i j labels.old }
     {
-        edges::up_between(labels, &self.located, list, 0, q, f, i + 1, j);
-        edges::right_along(labels, &self.located, f, i, j + 1);
+        let front = Front {
+            located: self.located,
+            f: &line.at,
+        };
+        edges::up_between(labels, &list.at, 0..list.len, &front, i + 1..j);
+        edges::right_along(labels, &front, i..j + 1);
     }
 
-    // Takes the step of positions i and j of the frontier f of m contexts: puts its labels, marks its list, and puts the new frontier into an array of zeros. How many contexts that has.
-    fn take_step(
-        &self,
-        labels: &mut [u8],
-        marks: &mut [u8],
-        next: &mut [u16],
-        f: &[u16],
-        m: usize,
-        i: usize,
-        j: usize,
-    ) -> usize
+    // Takes the step of positions i and j of the frontier: puts its labels, and the new frontier in place of the old one, its list marked beside what was marked. It fails where there is no such list, or no room for it.
+    fn take_step(&self, labels: &mut [u8], line: &mut Line, i: usize, j: usize) -> Option<()>
         requires i_bound { i < 512 }
         requires j_bound { j < 512 }
-        ensures { next.old ≡ zeros 512 → run.Stepped (plan_of self.now.located.rings) f.now m i j marks.old labels.old marks.new labels.new next.new result }
+        ensures line { Comes result line.new (run.next_line (plan_of self.now.located.rings) (whole line.old) i j) }
+        ensures labels { is_some result ≡ true → labels.new ≡ run.next_labels (plan_of self.now.located.rings) (whole line.old) i j labels.old }
     {
-        let mut list = [0u16; 512];
-        let g = pairs::list::listed(&mut list, marks, &self.located, f, i + 1, j);
-        self.step_labels(labels, f, &list, g.len, i, j);
-        let v = pairs::list::replaced(next, f, m, i + 1, j, &list, g.len);
-        v.len
+        let mut list = Line::new(line.marks);
+        let front = Front {
+            located: self.located,
+            f: &line.at,
+        };
+        pairs::list::listed(&mut list, &front, i + 1..j)?;
+        self.step_labels(labels, line, &list, i, j);
+        let mut next = Line::new(list.marks);
+        pairs::list::replaced(&mut next, &line.at, line.len, i + 1, j, &list)?;
+        *line = next;
+        Some(())
     }
 
-    // Puts the labels of a sweep finished with the frontier f of m contexts: up from South, right along the frontier.
-    fn finish_labels(&self, labels: &mut [u8], f: &[u16], m: usize)
-        ensures { labels.new ≡ run.finish_labels (plan_of self.now.located.rings) f.now m labels.old }
+    // Puts the labels of a sweep finished with this frontier: up from South, right along the frontier.
+    fn finish_labels(&self, labels: &mut [u8], line: &Line)
+        ensures { labels.new ≡ run.finish_labels (plan_of self.now.located.rings) line.now.at line.now.len labels.old }
     {
-        let south = [2u16; 1];
-        let last = m.saturating_sub(1);
-        edges::up_between(labels, &self.located, &south, 0, 1, f, 1, last);
-        edges::right_along(labels, &self.located, f, 0, m);
+        let south = [rings::SOUTH];
+        let front = Front {
+            located: self.located,
+            f: &line.at,
+        };
+        let last = line.len.saturating_sub(1);
+        edges::up_between(labels, &south, 0..1, &front, 1..last);
+        edges::right_along(labels, &front, 0..line.len);
     }
 
     // The steps of the sweep from its first frontier and labels, at most n of them: the labels at the end.
     fn descend(&self, first_labels: [u8; 1186], first: Line) -> Result<[u8; 1186], Refusal>
-        requires { run.Running (plan_of self.now.located.rings) self.now.located.rings.n false (line true first.len first.at first.marks) first_labels }
+        requires { run.Running (plan_of self.now.located.rings) self.now.located.rings.n false (whole first) first_labels }
         ensures { told result ≡ run.in_array (run.swept (plan_of self.now.located.rings)) }
     {
         let mut labels = first_labels;
-        let mut at = first.at;
-        let mut marks = first.marks;
-        let mut m = first.len;
+        let mut line = first;
         let mut clean = false;
-        for _k in (0..self.located.rings.n).rev() {
-            if !ends::is_unfinished(&self.located, &at, m) {
-                self.finish_labels(&mut labels, &at, m);
+        for _ in 0..self.located.rings.n {
+            let front = Front {
+                located: self.located,
+                f: &line.at,
+            };
+            if !ends::is_unfinished(&front, line.len) {
+                self.finish_labels(&mut labels, &line);
                 return Ok(labels);
             }
-            let Some((i, j)) = choice::choose(&self.located, &at, m, marks, clean) else {
-                return Err(Refusal::SweepStuck);
-            };
-            let mut next = [0u16; 512];
-            m = self.take_step(&mut labels, &mut marks, &mut next, &at, m, i, j);
-            at = next;
+            let (i, j) = choice::choose(&front, line.len, &line.marks, clean).ok_or(
+                Refusal::SweepStuck,
+            )?;
+            self.take_step(&mut labels, &mut line, i, j)
+                .ok_or(Refusal::SweepStuck)?;
             clean = true;
         }
         Err(Refusal::SweepStuck)
@@ -93,11 +99,15 @@ impl<'a> Guided<'a> {
         requires { fit (plan_of self.now.located.rings) ≡ true }
         ensures { told result ≡ run.in_array (run.swept (plan_of self.now.located.rings)) }
     {
-        let first = ends::first_line(&self.located.rings);
+        let first = ends::first_line(&self.located.rings).ok_or(Refusal::SweepStuck)?;
         let mut labels = crate::first::bare_labels(&self.located.rings);
-        let north = [0u16; 1];
+        let north = [rings::NORTH];
+        let front = Front {
+            located: self.located,
+            f: &north,
+        };
         let last = first.len.saturating_sub(1);
-        edges::up_between(&mut labels, &self.located, &first.at, 1, last, &north, 0, 1);
+        edges::up_between(&mut labels, &first.at, 1..last, &front, 0..1);
         self.descend(labels, first)
     }
 }

@@ -14,9 +14,6 @@ pub fn sweep_labels(plan: &Table) -> Result<[u8; 1186], Refusal>
     ensures { told result ≡ in_array (sweep_of (table_of plan.now)) }
 {
     let labels = steps::sweep_down(plan)?;
-    let place = conditions::rules_place(plan, &labels);
-    if place < plan.n {
-        return Err(Refusal::BadLabels(place));
-    }
+    conditions::check(plan, &labels)?;
     Ok(labels)
 }

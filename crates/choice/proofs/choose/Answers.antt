@@ -14,7 +14,7 @@ returns-in-Some c = λ s rd. choosing_hit (c.loop-j.invariant s rd) (omega arith
 pub loop-j-preserved : goal.loop-j-preserved
 loop-j-preserved c =
     let a = c.args in
-    λ s rd. choosing_on (c.loop-j.invariant s rd) (omega arith) (shut_best (plan_of a.located.now.rings) rd.sane s (line true a.m a.f.now a.marks) rd.front c.placed-place.result c.placed-place.ensures (c.loop-j.j - 1) (omega arith) (c.shut.ensures c.if-not-shut.false rd.own)) refl
+    λ s rd. choosing_on (c.loop-j.invariant s rd) (omega arith) (shut_best (plan_of a.front.now.located.rings) rd.sane s (line true a.m a.front.now.f.now a.marks.now) rd.front c.placed-place.result c.placed-place.ensures (c.loop-j.j - 1) (omega arith) (c.shut.ensures c.if-not-shut.false rd.own)) refl
 
 pub returns : goal.returns
 returns c = λ s rd. choosing_end (c.loop-j.invariant s rd) (omega arith)

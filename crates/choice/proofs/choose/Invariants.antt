@@ -8,4 +8,4 @@ use Rattle.choice.proofs.Searches.{Choosing}
 use Rattle.choice.proofs.choose.Given as goal
 
 abbrev pub invariant-loop-j : goal.invariant-loop-j
-invariant-loop-j l = (s : State) → Ready l.located.places.now (plan_of l.located.rings) l.clean s (line true l.m l.f l.marks) → Choosing (plan_of l.located.rings) s l.j
+invariant-loop-j l = (s : State) → Ready l.front.located.places.now (plan_of l.front.located.rings) l.clean s (line true l.m l.front.f.now l.marks) → Choosing (plan_of l.front.located.rings) s l.j

@@ -11,7 +11,7 @@ pub loop-k-preserved : goal.loop-k-preserved
 loop-k-preserved c =
     let a = c.args in
     let i = c.loop-k.k in
-    draws-on c.loop-k.invariant a.u (get_or a.f.now i 0) (fan-more a.f.now i a.e a.u (omega arith)) (c.edge.ensures ∙ ap (λ (v : ℕ). edge_by a.located.now.places.now a.located.now.rings.starts.now 0 a.u v c.loop-k.labels) c.num.ensures.value)
+    draws-on c.loop-k.invariant a.u (get_or a.front.now.f.now i 0) (fan-more a.front.now.f.now i a.to.end a.u (omega arith)) (c.edge.ensures ∙ ap (λ (v : ℕ). edge_by a.front.now.located.places.now a.front.now.located.rings.starts.now 0 a.u v c.loop-k.labels) c.num-v.ensures.value)
 
 pub returns : goal.returns
-returns c = let a = c.args in draws_end c.loop-k.invariant (fan_end a.f.now c.loop-k.k a.e a.u (omega arith))
+returns c = let a = c.args in draws_end c.loop-k.invariant (fan_end a.front.now.f.now c.loop-k.k a.to.end a.u (omega arith))

@@ -1,11 +1,22 @@
 -- first_line meets its contract.
-use mathlib.Core.Path.{ap, ◌∙◌}
+use mathlib.Core.Path.{sym, ap, ◌∙◌}
+use mathlib.Core.Bool.{true}
 use Rattle.frontier.specs.Run as run
-use Rattle.ends.specs.Ends.{marked, first_line}
+use Rattle.frontier.proofs.Fails.{kept_is, kept_none, kept_yes, kept_no}
+use Rattle.rings.specs.Tables.{plan_of}
+use Rattle.ends.specs.Ends.{front, marked, first_line}
 use Rattle.ends.proofs.first_line.Goals as goal
+
+pub returns-in_err-line-clause-value : goal.returns-in_err-line-clause-value
+unfolding first_line
+returns-in_err-line-clause-value c =
+    let p = plan_of c.args.rings.now in
+    kept_no (first_line p) c.from_residual.ensures (kept_none (front p) (sym c.front.ensures.value ∙ c.in_err-line.was))
 
 pub returns-clause-value : goal.returns-clause-value
 unfolding first_line
 returns-clause-value c =
-    let v = c.front-line.result in
-    ap (run.line v.ok v.len v.at) c.marked-line.ensures ∙ ap (λ w. run.line w.ok w.len w.at (marked w.at w.len)) c.front-line.ensures.value
+    let p = plan_of c.args.rings.now in
+    let v = c.in_ok-line.line in
+    let same = sym (kept_is (front p) (sym c.front.ensures.value ∙ c.in_ok-line.was)) in
+    kept_yes (ap (run.line true v.len v.at) c.marked-line.ensures ∙ ap (λ (w : run.Line). run.line w.ok w.len w.at (marked w.at w.len)) same)

@@ -5,4 +5,4 @@ use Rattle.lists.proofs.Folds.{Goes}
 use Rattle.ends.proofs.marked.Given as goal
 
 abbrev pub invariant-loop-k : goal.invariant-loop-k
-invariant-loop-k l = Goes (λ (i : ℕ) marks. set marks (get_or l.f i 0) 1) 0 l.m l.initial.marks l.k l.marks
+invariant-loop-k l = Goes (λ (i : ℕ) marks. set marks (get_or l.line.at i 0) 1) 0 l.line.len l.initial.marks l.k l.marks

@@ -1,8 +1,8 @@
 -- sweep_labels meets its contract.
-use native.Mathlib.Omega.{arith}
+use mathlib.Core.Path.{◌∙◌}
 use Rattle.std.proofs.lemmas.Result.{err_from_is_err_and}
 use Rattle.rings.specs.Tables.{table_of}
-use Rattle.sweep.proofs.Answers.{finished, answer_refused, answer_broken, answer_labelled, counted, ruled}
+use Rattle.sweep.proofs.Answers.{finished, answer_refused, answer_broken, answer_labelled, ruled}
 use Rattle.sweep.proofs.sweep_labels.Goals as goal
 
 pub returns-in_err-labels : goal.returns-in_err-labels
@@ -10,18 +10,17 @@ returns-in_err-labels c =
     let p = err_from_is_err_and c.from_residual.result c.from_residual.ensures.1 in
     rw (p.1, p.2) (answer_refused _ c.in_err-labels.ensures)
 
-pub returns-then-place-plan : goal.returns-then-place-plan
-returns-then-place-plan c =
+pub returns-in_err-check : goal.returns-in_err-check
+returns-in_err-check c =
     let a = c.args.plan.now in
-    let p = table_of a in
-    let n = counted a.sizes.now a.entries.now a.n in
+    let t = table_of a in
     let e = c.in_ok-labels.ensures in
-    answer_broken p e (ruled a.sizes.now a.entries.now a.n _ (finished p e).0 c.rules_place-place.ensures.value) (omega arith)
+    let p = err_from_is_err_and c.from_residual-in_err-check.result c.from_residual-in_err-check.ensures.1 in
+    rw (p.1, p.2) (answer_broken t e (c.in_err-check.ensures ∙ ruled a.sizes.now a.entries.now a.n _ (finished t e).0))
 
 pub returns : goal.returns
 returns c =
     let a = c.args.plan.now in
-    let p = table_of a in
-    let n = counted a.sizes.now a.entries.now a.n in
+    let t = table_of a in
     let e = c.in_ok-labels.ensures in
-    answer_labelled p e (ruled a.sizes.now a.entries.now a.n _ (finished p e).0 c.rules_place-place.ensures.value) (omega arith)
+    answer_labelled t e (c.in_ok-check.ensures ∙ ruled a.sizes.now a.entries.now a.n _ (finished t e).0)

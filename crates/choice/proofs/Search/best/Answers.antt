@@ -15,25 +15,25 @@ pub loop-k-init : goal.loop-k-init
 unfolding run.start_trail zeros
 loop-k-init c =
     let a = c.args.self.now in
-    let p = plan_of a.located.rings in
-    λ s rd. seeking_start p rd.sane s (lines.line true a.m a.f.now a.marks.now) rd.front a.place.now a.placed a.j a.j_lt_m
+    let p = plan_of a.front.located.rings in
+    λ s rd. seeking_start p rd.sane s (lines.line true a.m a.front.f.now a.marks.now) rd.front a.place.now a.placed a.j a.j_lt_m
 
 pub returns-in_err-lead : goal.returns-in_err-lead
 returns-in_err-lead c =
     let a = c.args.self.now in
-    λ s rd. seeking_stop (plan_of a.located.rings) rd.sane s (lines.line true a.m a.f.now a.marks.now) rd.front a.place.now a.placed a.j a.j_lt_m (c.loop-k.invariant s rd) (omega arith) (omega arith) (c.extend.ensures rd.own) c.in_err-lead.was c.from_residual.ensures
+    λ s rd. seeking_stop (plan_of a.front.located.rings) rd.sane s (lines.line true a.m a.front.f.now a.marks.now) rd.front a.place.now a.placed a.j a.j_lt_m (c.loop-k.invariant s rd) (omega arith) (omega arith) (c.extend.ensures rd.own) c.in_err-lead.was c.from_residual.ensures
 
 pub returns-then-fits : goal.returns-then-fits
 returns-then-fits c =
     let a = c.args.self.now in
-    λ s rd. seeking_hit (plan_of a.located.rings) rd.sane s (lines.line true a.m a.f.now a.marks.now) rd.front a.place.now a.placed a.j a.j_lt_m (c.loop-k.invariant s rd) (omega arith) (omega arith) (c.extend.ensures rd.own) c.in_ok-lead.was c.args.clean rd.chords (sym (c.fits.ensures ∙ fits-own (plan_of a.located.rings) rd.own c.args.clean (lines.line true a.m a.f.now a.marks.now) _ _) ∙ c.if-fits.true)
+    λ s rd. seeking_hit (plan_of a.front.located.rings) rd.sane s (lines.line true a.m a.front.f.now a.marks.now) rd.front a.place.now a.placed a.j a.j_lt_m (c.loop-k.invariant s rd) (omega arith) (omega arith) (c.extend.ensures rd.own) c.in_ok-lead.was c.args.clean rd.chords (sym (c.fits.ensures ∙ fits-own (plan_of a.front.located.rings) rd.own c.args.clean (lines.line true a.m a.front.f.now a.marks.now) _ _) ∙ c.if-fits.true)
 
 pub loop-k-preserved : goal.loop-k-preserved
 loop-k-preserved c =
     let a = c.args.self.now in
     λ s rd.
-    let p = plan_of a.located.rings in
-    let line = lines.line true a.m a.f.now a.marks.now in
+    let p = plan_of a.front.located.rings in
+    let line = lines.line true a.m a.front.f.now a.marks.now in
     let more = c.extend.ensures rd.own in
     elim c.else-i-lead.branch [
       | else-i-lead-via-then-i-lead+else-fits w ↦ seeking_on p rd.sane s line rd.front a.place.now a.placed a.j a.j_lt_m (c.loop-k.invariant s rd) (omega arith) (omega arith) more c.in_ok-lead.was c.args.clean rd.chords (sym (w.fits.ensures ∙ fits-own p rd.own c.args.clean line _ _) ∙ w.if-fits.false)
@@ -43,4 +43,4 @@ loop-k-preserved c =
 pub returns : goal.returns
 returns c =
     let a = c.args.self.now in
-    λ s rd. seeking_end (plan_of a.located.rings) rd.sane s (lines.line true a.m a.f.now a.marks.now) rd.front a.place.now a.placed a.j a.j_lt_m (c.loop-k.invariant s rd) (omega arith)
+    λ s rd. seeking_end (plan_of a.front.located.rings) rd.sane s (lines.line true a.m a.front.f.now a.marks.now) rd.front a.place.now a.placed a.j a.j_lt_m (c.loop-k.invariant s rd) (omega arith)

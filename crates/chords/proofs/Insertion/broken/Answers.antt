@@ -1,21 +1,28 @@
 -- broken meets its contract.
-use mathlib.Core.Path.{refl, ◌∙◌}
-use Rattle.lists.specs.Spans.{zeros}
-use Rattle.rings.specs.Tables.{plan_of}
-use Rattle.chords.proofs.Moves.{broken-on, broken-off}
+use mathlib.Core.Path.{refl, sym, ap, ◌∙◌}
 use Prim.Native.Nat.{◌+◌}
-use Rattle.pairs.proofs.Moves.{replaced-own}
+use mathlib.Core.Bool.{not}
+use Rattle.rings.specs.Tables.{plan_of}
 use Rattle.places.specs.Places.{adjacent_by}
+use Rattle.frontier.specs.Run.{Line, whole}
+use Rattle.pairs.specs.Run.{replaced, replaced_on}
+use Rattle.chords.proofs.Moves.{broken-on, broken-off}
 use Rattle.chords.proofs.Insertion.broken.Goals as goal
 
-pub returns-then-v : goal.returns-then-v
-unfolding zeros
-returns-then-v c =
-    let a = c.args in
-    broken-on (adjacent_by a.self.now.located.places.now (plan_of a.self.now.located.rings)) a.self.now.f.now a.self.now.m a.self.now.i a.self.now.j a.self.now.list.now a.self.now.q refl (c.replaced-v.ensures (zeros 256) ∙ replaced-own a.self.now.f.now a.self.now.m (a.self.now.i + 1) a.self.now.j a.self.now.list.now a.self.now.q (zeros 256) refl) c.if-v.true c.chorded.ensures
+pub returns-then-is_none : goal.returns-then-is_none
+unfolding replaced
+returns-then-is_none c =
+    let s = c.args.self.now in
+    let g = s.list.now in
+    let f = s.front.f.now in
+    let none = c.replaced.ensures.no (c.is_none.ensures ∙ ap not c.if-is_none.true) in
+    broken-off (adjacent_by s.front.located.places.now (plan_of s.front.located.rings)) f s.m s.i s.j (whole g) {a = s.i + 1} refl refl (ap (λ (v : Line). (replaced_on v f s.m (s.i + 1) s.j g.at g.len).ok) (sym c.new-next.ensures) ∙ none)
 
 pub returns : goal.returns
-unfolding zeros
+unfolding replaced
 returns c =
-    let a = c.args in
-    broken-off (adjacent_by a.self.now.located.places.now (plan_of a.self.now.located.rings)) a.self.now.f.now a.self.now.m a.self.now.i a.self.now.j a.self.now.list.now a.self.now.q refl (c.replaced-v.ensures (zeros 256) ∙ replaced-own a.self.now.f.now a.self.now.m (a.self.now.i + 1) a.self.now.j a.self.now.list.now a.self.now.q (zeros 256) refl) c.if-v.false
+    let s = c.args.self.now in
+    let g = s.list.now in
+    let f = s.front.f.now in
+    let some = c.replaced.ensures.yes (c.is_none.ensures ∙ ap not c.if-is_none.false) in
+    broken-on (adjacent_by s.front.located.places.now (plan_of s.front.located.rings)) f s.m s.i s.j (whole g) {a = s.i + 1} refl (some ∙ ap (λ (v : Line). replaced_on v f s.m (s.i + 1) s.j g.at g.len) c.new-next.ensures) refl c.chorded.ensures

@@ -1,5 +1,6 @@
 -- add meets its contract.
 use mathlib.Core.Path.{sym, ap, ◌∙◌}
+use mathlib.Core.Bool.{true}
 use Prim.Native.Nat.{ℕ}
 use lib.ListN.{set}
 use Rattle.pairs.proofs.Moves.{push_noted}
@@ -13,8 +14,10 @@ returns-then-last_is c = rw (sym c.last_is.ensures ∙ c.if-last_is.true)
 
 pub returns-then-barred : goal.returns-then-barred
 unfolding run.added run.failed
-returns-then-barred c = rw (sym c.last_is.ensures ∙ c.if-last_is.false, sym c.barred.ensures ∙ c.if-barred.true) (ap (λ t. lines.line_of t c.args.at.now c.args.marks.now) c.failed.ensures)
+returns-then-barred c = rw (sym c.last_is.ensures ∙ c.if-last_is.false, sym c.barred.ensures ∙ c.if-barred.true)
 
 pub returns : goal.returns
 unfolding run.added
-returns c = rw (sym c.last_is.ensures ∙ c.if-last_is.false, sym c.barred.ensures ∙ c.if-barred.false) (c.push.ensures _ ∙ ap (λ m. lines.pushed (lines.line_of c.args.list c.args.at.now m) c.args.c) (c.put.ensures ∙ ap (λ (i : ℕ). set c.args.marks.now i 1) c.from.ensures) ∙ sym (push_noted (lines.line_of c.args.list c.args.at.now c.args.marks.now) c.args.c))
+returns c =
+    let v = c.args.list.now in
+    rw (sym c.last_is.ensures ∙ c.if-last_is.false, sym c.barred.ensures ∙ c.if-barred.false) (c.push.ensures ∙ ap (λ m. lines.pushed (lines.line true v.len v.at m) c.args.c) (c.put.ensures ∙ ap (λ (i : ℕ). set v.marks i 1) c.from.ensures) ∙ sym (push_noted (lines.whole v) c.args.c))

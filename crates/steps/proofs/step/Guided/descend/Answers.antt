@@ -1,29 +1,56 @@
 -- descend meets its contract.
-use mathlib.Core.Path.{refl}
-use Rattle.lists.specs.Spans.{zeros}
-use Rattle.steps.proofs.Steps.{running_done, running_stuck, found_inside, running_on, running_out}
+use Prim.Native.Nat.{ℕ, ◌-◌}
 use native.Mathlib.Omega.{arith}
-use mathlib.Core.Path.{ap}
-use mathlib.Core.Bool.{not}
+use mathlib.Core.Path.{◌≡◌, ap, subst, ◌∙◌}
+use mathlib.Core.Bool.{false, not}
+use Rattle.std.specs.Prelude.{is_some}
+use Rattle.std.proofs.Common.{None, Some, Err}
+use Rattle.std.proofs.lemmas.Result.{err_from_is_err_and}
+use Rattle.rings.specs.Tables.{plan_of}
+use Rattle.frontier.specs.Run.{whole}
+use Rattle.refusal.specs.Refusals.{told}
+use Rattle.refusal.specs.declared.Refusal.TheVariants.{SweepStuck}
+use Rattle.steps.specs.Run.{Running}
+use Rattle.steps.proofs.Steps.{running_done, running_stuck, found_inside, running-whole, running_on, running_out}
 use Rattle.steps.proofs.step.Guided.descend.Goals as goal
 
+pub loop-init : goal.loop-init
+loop-init c =
+    let n : ℕ = c.args.self.now.located.rings.n in
+    let all : n ≡ n - 0 = omega arith in
+    subst (λ (k : ℕ). Running (plan_of c.args.self.now.located.rings) k false (whole c.args.first) c.args.first_labels) all c.requires
+
 pub returns-then-not-is_unfinished : goal.returns-then-not-is_unfinished
-returns-then-not-is_unfinished c = let g = c.args.self.now.guide in running_done g c.loop-k.invariant (omega arith) c.is_unfinished.ensures (ap not c.if-not-is_unfinished.true) c.finish_labels.ensures
+returns-then-not-is_unfinished c = running_done c.args.self.now.guide c.loop.invariant (omega arith) c.is_unfinished.ensures (ap not c.if-not-is_unfinished.true) c.finish_labels.ensures
 
-pub returns-in_default : goal.returns-in_default
-returns-in_default c = running_stuck c.args.self.now.guide c.loop-k.invariant c.choose.result (omega arith) c.is_unfinished.ensures (ap not c.if-not-is_unfinished.false) c.choose.ensures c.in_default.is
+pub returns-in_err-i : goal.returns-in_err-i
+returns-in_err-i c =
+    let none : c.choose.result ≡ None = grind arith in
+    let p = err_from_is_err_and c.from_residual.result c.from_residual.ensures.1 in
+    let stuck : c.in_err-i.field-0.0 ≡ SweepStuck = grind arith in
+    ap told (p.1 ∙ ap Err (p.2 ∙ stuck)) ∙ running_stuck c.args.self.now.guide c.loop.invariant c.choose.result (omega arith) c.is_unfinished.ensures (ap not c.if-not-is_unfinished.false) c.choose.ensures none
 
-pub take_step-m-requires-clause-i_bound : goal.take_step-m-requires-clause-i_bound
-take_step-m-requires-clause-i_bound c = (found_inside c.args.self.now.guide c.loop-k.invariant c.choose.result c.choose.ensures c.in-Some.is).0
+pub take_step-requires-clause-i_bound : goal.take_step-requires-clause-i_bound
+take_step-requires-clause-i_bound c =
+    let some : c.choose.result ≡ Some (c.in_ok-i.i, c.in_ok-i.j) = grind arith in
+    (found_inside c.args.self.now.guide c.loop.invariant c.choose.result c.choose.ensures some).0
 
-pub take_step-m-requires-clause-j_bound : goal.take_step-m-requires-clause-j_bound
-take_step-m-requires-clause-j_bound c = (found_inside c.args.self.now.guide c.loop-k.invariant c.choose.result c.choose.ensures c.in-Some.is).1
+pub take_step-requires-clause-j_bound : goal.take_step-requires-clause-j_bound
+take_step-requires-clause-j_bound c =
+    let some : c.choose.result ≡ Some (c.in_ok-i.i, c.in_ok-i.j) = grind arith in
+    (found_inside c.args.self.now.guide c.loop.invariant c.choose.result c.choose.ensures some).1
 
-pub loop-k-preserved : goal.loop-k-preserved
-unfolding zeros
-loop-k-preserved c =
-    let g = c.args.self.now.guide in
-    running_on g c.loop-k.invariant c.choose.result c.choose.ensures c.in-Some.is (omega arith) c.is_unfinished.ensures (ap not c.if-not-is_unfinished.false) (c.take_step-m.ensures refl)
+pub returns-in_err-ok_or : goal.returns-in_err-ok_or
+returns-in_err-ok_or c =
+    let some : c.choose.result ≡ Some (c.in_ok-i.i, c.in_ok-i.j) = grind arith in
+    let none : c.take_step.result ≡ None = grind arith in
+    absurd (running-whole c.args.self.now.guide c.loop.invariant c.choose.result c.choose.ensures some (c.take_step.ensures.line.no (ap is_some none)))
+
+pub loop-preserved : goal.loop-preserved
+loop-preserved c =
+    let some : c.choose.result ≡ Some (c.in_ok-i.i, c.in_ok-i.j) = grind arith in
+    let step : c.take_step.result ≡ Some c.in_ok-ok_or.field-0 = grind arith in
+    running_on c.args.self.now.guide c.loop.invariant c.choose.result c.choose.ensures some (omega arith) c.is_unfinished.ensures (ap not c.if-not-is_unfinished.false) (c.take_step.ensures.line.yes (ap is_some step)) (c.take_step.ensures.labels (ap is_some step))
 
 pub returns : goal.returns
-returns c = running_out c.args.self.now.guide c.loop-k.invariant (omega arith)
+returns c = running_out c.args.self.now.guide c.loop.invariant (omega arith)

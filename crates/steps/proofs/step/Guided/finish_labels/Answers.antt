@@ -17,4 +17,4 @@ returns c =
     let a = c.args in
     let p = plan_of a.self.now.located.rings in
     let g = c.args.self.now.guide in
-    c.right_along.ensures ∙ edges_guided g right (steps (span a.f.now 0 a.m)) _ ∙ ap (label_edges p right (steps (span a.f.now 0 a.m))) (c.up_between.ensures ∙ edges_guided g up _ _ ∙ ap (λ (e : ℕ). label_edges p up (product (2 ∷ []) (span a.f.now 1 e)) a.labels.now) c.saturating_sub-last.ensures)
+    c.right_along.ensures ∙ edges_guided g right (steps (span a.line.now.at 0 a.line.now.len)) _ ∙ ap (label_edges p right (steps (span a.line.now.at 0 a.line.now.len))) (c.up_between.ensures ∙ edges_guided g up _ _ ∙ ap (λ (e : ℕ). label_edges p up (product (2 ∷ []) (span a.line.now.at 1 e)) a.labels.now) c.saturating_sub-last.ensures)

@@ -16,4 +16,4 @@ returns c =
     let a = c.args in
     let p = plan_of a.self.now.located.rings in
     let g = c.args.self.now.guide in
-    c.right_along.ensures ∙ edges_guided g right (steps (span a.f.now a.i (a.j + 1))) _ ∙ ap (label_edges p right (steps (span a.f.now a.i (a.j + 1)))) (c.up_between.ensures ∙ edges_guided g up _ _)
+    c.right_along.ensures ∙ edges_guided g right (steps (span a.line.now.at a.i (a.j + 1))) _ ∙ ap (label_edges p right (steps (span a.line.now.at a.i (a.j + 1)))) (c.up_between.ensures ∙ edges_guided g up _ _)
