@@ -29,11 +29,11 @@ pub fn area_of(chart: &Points, a: usize, b: usize, c: usize) -> i64
     ensures result_value_2 { is_zero result ≡ at_points flat chart.now.xs.now chart.now.ys.now a b c }
     ensures result_value_3 { negative result ≡ at_points clockwise chart.now.xs.now chart.now.ys.now a b c }
 {
-    let ax = arrays::word(chart.xs, a);
-    let ay = arrays::word(chart.ys, a);
-    let bx = arrays::word(chart.xs, b);
-    let by = arrays::word(chart.ys, b);
-    let cx = arrays::word(chart.xs, c);
-    let cy = arrays::word(chart.ys, c);
+    let ax = arrays::at(chart.xs, a);
+    let ay = arrays::at(chart.ys, a);
+    let bx = arrays::at(chart.xs, b);
+    let by = arrays::at(chart.ys, b);
+    let cx = arrays::at(chart.xs, c);
+    let cy = arrays::at(chart.ys, c);
     corner(ax, ay, bx, by, cx, cy)
 }

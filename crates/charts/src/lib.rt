@@ -20,15 +20,11 @@ pub struct Points<'a> {
 fn same_numbers(n: usize, a: &[u16], b: &[u16]) -> bool
     ensures { result ≡ same_list (stretch a.now 0 n) (stretch b.now 0 n) }
 {
-    for i in 0..n {
-        if arrays::num(a, i) != arrays::num(b, i) {
-            return false;
-        }
-    }
-    true
+    (0..n).all(|i| arrays::at(a, i) == arrays::at(b, i))
 }
 
 // Are two charts of n contexts equal: width, height and all points?
+#[tactic(auto, unfolding(model::specs::Chart::same_chart, crate::specs::Charts::chart_on))]
 pub fn same_chart(n: usize, a: &Points, b: &Points) -> bool
     ensures { result ≡ same_chart (chart_in n a.now) (chart_in n b.now) }
 {

@@ -5,6 +5,7 @@ ghost use Rattle.std.specs.Prelude.{◌≡◌, ◌<◌, ◌^◌};
 ghost use Rattle.comparison.specs.Bytes.{stir, checksum, agreeing};
 
 // The checksum of some bytes and one more.
+#[tactic(auto, unfolding(crate::specs::Bytes::stir))]
 fn stir(sum: usize, byte: usize) -> usize
     requires sum_bound { sum < 2 ^ 32 }
     requires byte_bound { byte < 2 ^ 8 }
@@ -30,10 +31,7 @@ pub fn checksum(bytes: &[u8]) -> usize
 pub fn agreeing(a: &[u8], b: &[u8], k: usize) -> usize
     ensures { result ≡ agreeing a.now b.now k }
 {
-    for i in 0..k {
-        if arrays::num(a, i) != arrays::num(b, i) {
-            return i;
-        }
-    }
-    k
+    (0..k)
+        .find(|i| arrays::at(a, *i) != arrays::at(b, *i))
+        .unwrap_or(k)
 }

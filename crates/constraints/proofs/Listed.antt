@@ -1,5 +1,5 @@
 -- The constraints of an array: one of them, and whether numbers meet them all.
-use Prim.Native.Nat.{ℕ, zero, suc, ◌+◌, ◌≤◌, ◌<◌}
+use Prim.Native.Nat.{ℕ, zero, suc, ◌≤◌, ◌<◌}
 use mathlib.Core.Path.{◌≡◌, refl, sym, ap}
 use mathlib.Core.List.Memᴰ
 use mathlib.Core.List.{List, [], ◌∷◌, Memᴰ}
@@ -9,7 +9,6 @@ use mathlib.Core.Bool.{Bool, ◌&&◌}
 use lib.Dec.{eqb}
 use Rattle.std.specs.List.{list_all}
 use Rattle.lists.specs.Tests.{all}
-use borrow.Author.Tests.{eq-eqb, ne_eqb}
 use Rattle.lists.proofs.Counts.{cond-le}
 use Rattle.model.specs.Chart.{Constraint, meets}
 use Rattle.constraints.specs.declared.Constraint.{Constraint as Stored}
@@ -18,14 +17,6 @@ use Rattle.constraints.specs.Constraints.{rise, constraint_of, constraint_at, li
 pub rise-le : (g : ℕ) → rise g ≤ 1
 unfolding rise
 rise-le g = cond-le (eqb g 0) 0 1 1 (omega arith) (omega arith)
-
-pub due_level : (low g : ℕ) → g ≡ 0 → low ≡ low + rise g
-unfolding rise
-due_level low g e = rw (eq-eqb g 0 e) (omega arith)
-
-pub due-up : (low g : ℕ) → (g ≡ 0 → ⊥) → low + 1 ≡ low + rise g
-unfolding rise
-due-up low g d = rw (ne_eqb g 0 d)
 
 -- ---- one of them
 pub mem-listed : (cs : List Stored) (k : ℕ) → k < length cs → Memᴰ (constraint_at cs k) (listed cs)

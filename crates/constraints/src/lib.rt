@@ -16,6 +16,7 @@ pub struct Constraint {
 
 impl Constraint {
     // What it asks of its higher number.
+    #[tactic(auto, unfolding(crate::specs::Constraints::rise))]
     pub fn due(&self, at: &[u16]) -> usize
         ensures value { result ≡ get_or at.now self.now.low 0 + rise self.now.gap }
         ensures upper_bound { result < 2 ^ 17 }
@@ -25,6 +26,7 @@ impl Constraint {
     }
 
     // Do the numbers meet it?
+    #[tactic(auto, unfolding(crate::specs::Constraints::constraint_of, model::specs::Chart::meets))]
     pub fn is_met(&self, at: &[u16]) -> bool
         ensures { result ≡ meets at.now (constraint_of self.now) }
     {

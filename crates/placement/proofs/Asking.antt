@@ -34,9 +34,9 @@ unfolding table
 dart-at starts sizes es n u i s e v q h es₀ ee ev =
     ev ∙ ap neighbour (ee ∙ ap (λ (k : ℕ). get_or es (k + i) 0) (es₀ ∙ ap (λ (l : List ℕ). get_or l u 0) q)) ∙ sym (ring-at (starts_of sizes) sizes es n u i h)
 
-pub neighbour-le : (e : ℕ) → neighbour e ≤ e
+pub neighbour_is : (e : ℕ) → neighbour e ≡ e
 unfolding neighbour
-neighbour-le e = omega arith
+neighbour_is e = refl
 
 -- ---- the constraint that a dart asks for
 pub kept-le : (l : ℕ) → kept_of l ≤ 1

@@ -9,7 +9,7 @@ use native.Mathlib.Omega.{arith}
 use lib.ListN.{length, get_or, drop}
 use lib.Dec.{eqb, leb}
 use Rattle.std.proofs.lemmas.List.{drop-map}
-use borrow.Author.Tests.{eq-eqb, ne_eqb, le-leb}
+use borrow.Author.Tests.{eq-eqb, le-leb}
 use Rattle.constraints.specs.declared.Constraint.{Constraint as Stored}
 use Rattle.constraints.specs.Constraints.{constraint_of, listed}
 use Rattle.lists.proofs.Padded.{get_or-padded, stretch-padded}
@@ -28,21 +28,6 @@ use Rattle.charts.specs.Charts.{chart_on}
 use Rattle.placement.specs.Drawing.{chart_for, drawn_as, drawn_of, found_of, found_if, kept_at, stands_at, squared}
 use Rattle.placement.specs.Asking.{ties, compass, asked}
 use Rattle.fit.proofs.Fits.{total-is}
-
--- ---- border contexts at the corners
-module _ (xs ys : List ℕ) (u a b : ℕ) {p : ℕ} (e : p ≡ get_or xs u 0) where
-  pub stands-yes : {q : ℕ} → p ≡ a → q ≡ get_or ys u 0 → eqb q b ≡ stands_at xs ys u a b
-  unfolding stands_at
-  stands-yes t f = sym (rw (eq-eqb (get_or xs u 0) a (sym e ∙ t), f))
-
-  pub stands-no : (p ≡ a → ⊥) → eqb p a ≡ stands_at xs ys u a b
-  unfolding stands_at
-  stands-no t = ne_eqb p a t ∙ sym (rw (ne_eqb (get_or xs u 0) a (λ r. t (e ∙ r))))
-
--- South's place, West's, then East's
-pub corners : (xs ys : List ℕ) → (stands_at xs ys 2 0 0 && stands_at xs ys 3 0 (get_or ys 0 0) && stands_at xs ys 1 (get_or xs 0 0) 0) ≡ squared xs ys
-unfolding squared
-corners xs ys = refl
 
 -- ---- the test that the numbers are a placement
 all_same : (f g : Constraint → Bool) → ((c : Constraint) → f c ≡ g c) → (l : List Constraint) → all f l ≡ all g l
@@ -199,11 +184,3 @@ unfolding solved axis_in
 axis-is n cs upright sizes es ls small same =
     let numbers : solved n (listed cs) ≡ least_numbers n (asked upright (table sizes es n) ls) = rw (le-leb n 200 small) (ap (least_numbers n) same) in
     λ i. kept_at (after-ties cs upright (table sizes es n) ls same i) (numbers_of (numbers i))
-
-pub squared-yes : (xs ys : List ℕ) → squared xs ys ≡ true → {k : ℕ} → k ≡ 0 → Some (record { w = get_or xs k 0; h = get_or ys k 0; xs = xs; ys = ys }) ≡ found_if (squared xs ys) xs ys
-unfolding found_if
-squared-yes xs ys t e = (λ i. Some (record { w = get_or xs (e i) 0; h = get_or ys (e i) 0; xs = xs; ys = ys })) ∙ sym (rw t)
-
-pub squared-no : (xs ys : List ℕ) → squared xs ys ≡ false → None ≡ found_if (squared xs ys) xs ys
-unfolding found_if
-squared-no xs ys t = sym (rw t)

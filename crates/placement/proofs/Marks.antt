@@ -2,7 +2,8 @@
 use Prim.Native.Nat.{ℕ, zero, suc, ◌+◌, ◌-◌, ◌≤◌, ◌<◌}
 use mathlib.Core.Path.{◌≡◌, refl, sym, ap, ◌∙◌}
 use mathlib.Core.List.{List, [], ◌∷◌}
-use mathlib.Core.Bool.{Bool, true, false, cond}
+use mathlib.Core.Bool.{Bool, true, false, cond, false≢true, true≢false}
+use Rattle.std.specs.Prelude.{Option, Some, None, is_some, unwrap_or}
 use native.Mathlib.Omega.{arith}
 use lib.ListN.{length, get_or, set, replicate, length-set}
 use lib.Seq.{get_or-set_same, get_or-set_other}
@@ -11,7 +12,7 @@ use borrow.Author.Tests.{eqb-true, eqb-false, eq-eqb, ltb-true, ltb-false}
 use Rattle.lists.proofs.Padded.{get_or-zeros}
 use Rattle.lists.specs.Parts.{index_of}
 use Rattle.lists.specs.Spans.{zeros}
-use Rattle.placement.specs.Marking.{Marked, DartAt}
+use Rattle.placement.specs.Marking.{Marked, DartAt, marked_place}
 
 -- what stands at the index of a context
 index_there : (v : ℕ) (l : List ℕ) → index_of v l < length l → get_or l (index_of v l) 0 ≡ v
@@ -35,6 +36,25 @@ index_most (b ∷ l) (suc i) h = go (eqb (get_or l i 0) b) (index_most l i (omeg
 -- the entry of a dart stands at the dart's place or before it
 pub dart-most : {r : List ℕ} {a i v : ℕ} → DartAt r a i v → index_of v r ≤ i
 dart-most {r} {a} {i} {v} dart = let h = dart.inside in let m = index_most r i h in let z : index_of v r ≡ index_of (get_or r i 0) r = ap (λ (w : ℕ). index_of w r) dart.entry in omega arith
+
+-- ---- what a mark says
+-- there is a place
+pub place_some : (marks : List ℕ) (v a : ℕ) {p : ℕ} → Some p ≡ marked_place marks v a → (a < get_or marks v 0) × (p ≡ get_or marks v 0 - 1)
+unfolding marked_place
+place_some marks v a {p} e = go (ltb a (get_or marks v 0)) refl e
+  where
+    go : (t : Bool) → ltb a (get_or marks v 0) ≡ t → Some p ≡ cond t (Some (get_or marks v 0 - 1)) None → (a < get_or marks v 0) × (p ≡ get_or marks v 0 - 1)
+    go true q e = (ltb-true a (get_or marks v 0) q, ap (λ (o : Option ℕ). unwrap_or o p) e)
+    go false q e = absurd (true≢false (ap (λ (o : Option ℕ). is_some o) e))
+
+-- there is none
+pub place_none : (marks : List ℕ) (v a : ℕ) → None ≡ marked_place marks v a → get_or marks v 0 ≤ a
+unfolding marked_place
+place_none marks v a e = go (ltb a (get_or marks v 0)) refl e
+  where
+    go : (t : Bool) → ltb a (get_or marks v 0) ≡ t → None ≡ cond t (Some (get_or marks v 0 - 1)) None → get_or marks v 0 ≤ a
+    go true q e = absurd (false≢true (ap (λ (o : Option ℕ). is_some o) e))
+    go false q e = ltb-false a (get_or marks v 0) q
 
 -- no ring is begun
 pub marked_start : (r : List ℕ) → Marked (replicate 200 0) r 0 0

@@ -1,6 +1,10 @@
 -- What the walk over the darts keeps of the entries of a ring. Nothing here has to be believed: no contract of another crate names it.
-use Rattle.std.specs.Prelude.{ℕ, suc, ◌+◌, ◌≤◌, ◌<◌, ◌≡◌, List, length, get_or}
+use Rattle.std.specs.Prelude.{ℕ, suc, ◌+◌, ◌-◌, ◌≤◌, ◌<◌, ◌≡◌, List, length, get_or, cond, ltb, Option, Some, None}
 use Rattle.lists.specs.Parts.{index_of}
+
+-- the place that v's mark names in the ring that begins at a
+unfoldable pub marked_place : List ℕ → ℕ → ℕ → Option ℕ
+marked_place marks v a = cond (ltb a (get_or marks v 0)) (Some (get_or marks v 0 - 1)) None
 
 -- marks of the first i entries of a ring that begins at a: one more than the place where each stands first; a mark of any other context is at most a
 pub record Marked (marks r : List ℕ) (a i : ℕ) : Type 0 where

@@ -9,26 +9,13 @@ ghost use Rattle.constraints.specs.Constraints.{listed};
 ghost use Rattle.solver.specs.Solved.{numbers_of, solved};
 ghost use Rattle.placement.specs.Asking.{asked, end_of, gap_of, kept_of, ask_of};
 ghost use Rattle.placement.specs.Drawing.{chart_for, drawn_as, drawn_of, found_of, found_if, kept_at, stands_at, squared};
-ghost use Rattle.placement.specs.Marking.{Marked, DartAt};
+ghost use Rattle.placement.specs.Marking.{Marked, DartAt, marked_place};
 
 use charts::Points;
 use constraints::Constraint;
+use labels::{RIGHT, UP};
 use refusal::Refusal;
-use rings::{Rings, Table};
-
-// The border contexts.
-const NORTH: u16 = 0;
-
-const EAST: u16 = 1;
-
-const SOUTH: u16 = 2;
-
-const WEST: u16 = 3;
-
-// The labels of darts; left, down and none follow these two.
-const UP: usize = 0;
-
-const RIGHT: usize = 1;
+use rings::{EAST, NORTH, Rings, SOUTH, Table, WEST};
 
 // The slope that a line must at least have.
 const SLOPE: u8 = 0;
@@ -57,22 +44,39 @@ impl Drawn {
             ys: &self.ys,
         }
     }
+
+    // Does the context u stand at a, b?
+    #[tactic(auto, unfolding(crate::specs::Drawing::stands_at))]
+    fn is_at(&self, u: u16, a: u16, b: u16) -> bool
+        ensures { result ≡ stands_at self.now.xs self.now.ys u a b }
+    {
+        let u = usize::from(u);
+        arrays::at(&self.xs, u) == a && arrays::at(&self.ys, u) == b
+    }
+
+    // Do the border contexts stand at the corners?
+    #[tactic(auto, unfolding(crate::specs::Drawing::squared))]
+    fn is_squared(&self) -> bool
+        ensures { result ≡ squared self.now.xs self.now.ys }
+    {
+        let north = usize::from(NORTH);
+        let w = self.xs[north];
+        let h = self.ys[north];
+        self.is_at(SOUTH, 0, 0) && self.is_at(WEST, 0, h) && self.is_at(EAST, w, 0)
+    }
 }
 
 // The first context, or the second where a dart's ends are exchanged in its constraint.
-fn end_of(upright: bool, label: usize, u: u16, v: u16) -> u16
+#[tactic(auto, unfolding(crate::specs::Asking::end_of))]
+fn end_of(upright: bool, label: u8, u: u16, v: u16) -> u16
     ensures { result ≡ end_of upright label u v }
 {
-    if upright {
-        if label == RIGHT {
-            return v;
-        }
-    }
-    u
+    if upright && label == RIGHT { v } else { u }
 }
 
 // The gap of a dart's constraint.
-fn gap_of(upright: bool, label: usize) -> u8
+#[tactic(auto, unfolding(crate::specs::Asking::gap_of, model::specs::Chart::slope))]
+fn gap_of(upright: bool, label: u8) -> u8
     ensures { result ≡ gap_of upright label }
 {
     if upright {
@@ -83,11 +87,12 @@ fn gap_of(upright: bool, label: usize) -> u8
 }
 
 // How many constraints a dart asks for.
-fn kept_of(label: usize) -> usize
+#[tactic(auto, unfolding(crate::specs::Asking::kept_of))]
+fn kept_of(label: u8) -> usize
     ensures value { result ≡ kept_of label }
     ensures upper_bound { result ≤ 1 }
 {
-    if label <= RIGHT { 1 } else { 0 }
+    usize::from(label <= RIGHT)
 }
 
 // The constraint that a number is at most another.
@@ -98,7 +103,7 @@ fn level(low: u16, high: u16) -> Constraint
 }
 
 // The constraint of one coordinate that a dart from u to v asks for.
-fn ask_of(upright: bool, label: usize, u: u16, v: u16) -> Constraint
+fn ask_of(upright: bool, label: u8, u: u16, v: u16) -> Constraint
     ensures { result ≡ ask_of upright label u v }
 {
     Constraint {
@@ -108,7 +113,17 @@ fn ask_of(upright: bool, label: usize, u: u16, v: u16) -> Constraint
     }
 }
 
-// Where the label of the dart from u to v stands, v being the entry at i of u's ring, which begins at a. A mark of v above a is one more than that place; where there is none the entry is v's first in the ring, and is marked.
+// Where v stands first in the ring that begins at a, if its mark says so: the mark is one more than that place, and at most a where v has not been met in this ring.
+#[tactic(auto, unfolding(crate::specs::Marking::marked_place))]
+fn marked_place(marks: &[u16; 200], v: usize, a: usize) -> Option<usize>
+    requires { v < 200 }
+    ensures { result ≡ marked_place marks.now v a }
+{
+    let mark = usize::from(marks[v]);
+    if mark > a { Some(mark - 1) } else { None }
+}
+
+// Where the label of the dart from u to v stands, v being the entry at i of u's ring, which begins at a. An entry that is v's first in the ring is marked.
 fn label_place(
     marks: &mut [u16; 200],
     rings: &Rings,
@@ -125,51 +140,57 @@ fn label_place(
     if v >= 200 {
         return a + search::index_of(rings, u, v);
     }
-    let mark = usize::from(marks[v]);
-    if mark > a {
-        return mark - 1;
+    if let Some(at) = marked_place(marks, v, a) {
+        return at;
     }
     marks[v] = (a + i + 1) as u16;
     a + i
 }
 
-// Puts the constraints of both coordinates into arrays: the border's tie, then those of the darts in the order of the rings. How many there are of each.
-fn asks_of(
-    x: &mut [Constraint; 1188],
-    y: &mut [Constraint; 1188],
-    rings: &Rings,
-    labels: &[u8],
-) -> usize
+// The constraints of both coordinates, so many at the front of each array.
+#[derive(Drop)]
+struct Asks {
+    pub x: [Constraint; 1188],
+    pub y: [Constraint; 1188],
+    pub count: usize,
+}
+
+// The constraints that a labelled plan asks for: the border's tie, then those of the darts in the order of the rings.
+fn asks_of(rings: &Rings, labels: &[u8]) -> Asks
     requires n_bound { rings.now.n ≤ 200 }
     requires n_bound_2 { start_of rings.now.sizes.now rings.now.n ≤ 1186 }
     requires starts_value { rings.now.starts.now ≡ starts_of rings.now.sizes.now }
-    ensures x { listed (take result x.new) ≡ asked false (table rings.now.sizes.now rings.now.entries.now rings.now.n) labels.now }
-    ensures y { listed (take result y.new) ≡ asked true (table rings.now.sizes.now rings.now.entries.now rings.now.n) labels.now }
-    ensures tied { 2 ≤ result }
-    ensures fits { result ≤ 1188 }
+    ensures x { listed (take result.count result.x) ≡ asked false (table rings.now.sizes.now rings.now.entries.now rings.now.n) labels.now }
+    ensures y { listed (take result.count result.y) ≡ asked true (table rings.now.sizes.now rings.now.entries.now rings.now.n) labels.now }
+    ensures tied { 2 ≤ result.count }
+    ensures fits { result.count ≤ 1188 }
 {
-    x[0] = level(NORTH, EAST);
-    x[1] = level(EAST, NORTH);
-    y[0] = level(NORTH, WEST);
-    y[1] = level(WEST, NORTH);
+    let mut asks = Asks {
+        x: [level(NORTH, NORTH); 1188],
+        y: [level(NORTH, NORTH); 1188],
+        count: 2,
+    };
+    asks.x[0] = level(NORTH, EAST);
+    asks.x[1] = level(EAST, NORTH);
+    asks.y[0] = level(NORTH, WEST);
+    asks.y[1] = level(WEST, NORTH);
     let mut marks = [0u16; 200];
-    let mut count = 2;
     let mut a = 0;
     for u in 0..rings.n {
         let k = rings.size_of(u);
         for i in 0..k {
-            let v = rings::neighbour_of(arrays::num(rings.entries, a + i));
+            let entry = arrays::at(rings.entries, a + i);
+            let v = rings::neighbour_of(usize::from(entry));
             let at = label_place(&mut marks, rings, u, v, a, i);
             let label = labels::label_at(labels, at);
             let s = u as u16;
-            let t = v as u16;
-            x[count] = ask_of(false, label, s, t);
-            y[count] = ask_of(true, label, s, t);
-            count += kept_of(label);
+            asks.x[asks.count] = ask_of(false, label, s, entry);
+            asks.y[asks.count] = ask_of(true, label, s, entry);
+            asks.count += kept_of(label);
         }
         a += k;
     }
-    count
+    asks
 }
 
 // The least numbers of one coordinate, if they meet its constraints behind the tie.
@@ -178,32 +199,11 @@ fn axis_of(n: usize, constraints: &[Constraint]) -> Option<[u16; 200]>
     ensures { result ≡ kept_at (listed (drop 2 constraints.now)) (numbers_of (solved n (listed constraints.now))) }
 {
     let at = solver::solve(n, constraints)?;
-    if constraints::all_met(&constraints[2..], &at) {
-        Some(at)
-    } else {
-        None
-    }
-}
-
-// Does the context u stand at a, b?
-fn is_at(drawn: &Drawn, u: u16, a: u16, b: u16) -> bool
-    ensures { result ≡ stands_at drawn.now.xs drawn.now.ys u a b }
-{
-    let u = usize::from(u);
-    arrays::word(&drawn.xs, u) == a && arrays::word(&drawn.ys, u) == b
-}
-
-// Do the border contexts stand at the corners?
-fn is_squared(drawn: &Drawn) -> bool
-    ensures { result ≡ squared drawn.now.xs drawn.now.ys }
-{
-    let north = usize::from(NORTH);
-    let w = drawn.xs[north];
-    let h = drawn.ys[north];
-    is_at(drawn, SOUTH, 0, 0) && is_at(drawn, WEST, 0, h) && is_at(drawn, EAST, w, 0)
+    constraints::all_met(&constraints[2..], &at).then_some(at)
 }
 
 // The chart with these numbers, if the border contexts stand at its corners.
+#[tactic(auto, unfolding(crate::specs::Drawing::found_if))]
 fn squared_off(xs: [u16; 200], ys: [u16; 200]) -> Option<Drawn>
     ensures { result ≡ found_if (squared xs ys) xs ys }
 {
@@ -214,11 +214,7 @@ fn squared_off(xs: [u16; 200], ys: [u16; 200]) -> Option<Drawn>
         xs,
         ys,
     };
-    if is_squared(&drawn) {
-        Some(drawn)
-    } else {
-        None
-    }
+    drawn.is_squared().then_some(drawn)
 }
 
 // The chart of a plan within bounds, if there is one.
@@ -227,11 +223,9 @@ fn chart_from(rings: &Rings, labels: &[u8]) -> Option<Drawn>
     requires starts_value { rings.now.starts.now ≡ starts_of rings.now.sizes.now }
     ensures { result ≡ found_of (chart_for rings.now.sizes.now rings.now.entries.now rings.now.n labels.now) }
 {
-    let mut x = [level(NORTH, NORTH); 1188];
-    let mut y = x;
-    let count = asks_of(&mut x, &mut y, rings, labels);
-    let xs = axis_of(rings.n, &x[..count])?;
-    let ys = axis_of(rings.n, &y[..count])?;
+    let asks = asks_of(rings, labels);
+    let xs = axis_of(rings.n, &asks.x[..asks.count])?;
+    let ys = axis_of(rings.n, &asks.y[..asks.count])?;
     squared_off(xs, ys)
 }
 
@@ -244,6 +238,5 @@ pub fn chart_of(plan: &Table, labels: &[u8]) -> Result<Drawn, Refusal>
         return Err(Refusal::NoPlacement);
     }
     let starts = rings::starts_of(plan.sizes);
-    let plan = *plan;
     chart_from(&plan.rings(&starts), labels).ok_or(Refusal::NoPlacement)
 }

@@ -92,20 +92,26 @@ module _ (s : System) (k : ℕ) {ks : List ℕ} (r : RaisedIn s ks) where
   unfolding constraint_at constraint_of rise
   taken-past h = taken_met (λ _. rw (get_or-eq_default s.constraints.now nothing h) (omega arith))
 
-  module _ (h : k < length s.constraints.now) {v : ℕ} (high : v ≡ (get_or s.constraints.now k nothing).high) where
+  module _ (h : k < length s.constraints.now) {c : Stored} (same : c ≡ get_or s.constraints.now k nothing) {v : ℕ} (top : v ≡ c.high) where
+    high : v ≡ (get_or s.constraints.now k nothing).high
+    high = top ∙ ap (λ (d : Stored). d.high) same
+
     -- it is not on one of the first n
     pub taken_off : s.n ≤ v → Taken s k ks ks (Some false)
     unfolding constraint_at constraint_of
-    taken_off b = taken_met (λ on. absurd (omega arith))
+    taken_off b = taken_met (λ on. let z = high in absurd (omega arith))
 
-    module _ {due have : ℕ} (asks : due ≡ get_or ks (get_or s.constraints.now k nothing).low 0 + rise (get_or s.constraints.now k nothing).gap) (e : have ≡ get_or ks v 0) where
+    module _ {due have : ℕ} (wants : due ≡ get_or ks c.low 0 + rise c.gap) (e : have ≡ get_or ks v 0) where
+      asks : due ≡ get_or ks (get_or s.constraints.now k nothing).low 0 + rise (get_or s.constraints.now k nothing).gap
+      asks = wants ∙ ap (λ (d : Stored). get_or ks d.low 0 + rise d.gap) same
+
       here : have ≡ get_or ks (get_or s.constraints.now k nothing).high 0
       here = e ∙ ap (λ (j : ℕ). get_or ks j 0) high
 
       -- it is met already
       pub taken_still : due ≤ have → Taken s k ks ks (Some false)
       unfolding constraint_at constraint_of
-      taken_still b = taken_met (λ _. let z = here in omega arith)
+      taken_still b = taken_met (λ _. let z = here in let y = asks in omega arith)
 
       -- its higher number would pass n
       pub taken-none : v < s.n → s.n < due → Taken s k ks ks None
@@ -113,6 +119,8 @@ module _ (s : System) (k : ℕ) {ks : List ℕ} (r : RaisedIn s ks) where
       taken-none on b = record {
         raised = r;
         none = λ _ d keeps most.
+            let a = asks in
+            let w = high in
             let x = keeps (constraint_at s.constraints.now k) (mem-listed s.constraints.now k h) (omega arith) in
             let y = r.under d keeps (get_or s.constraints.now k nothing).low in
             let z = most (get_or s.constraints.now k nothing).high in

@@ -5,18 +5,18 @@ ghost use Rattle.solver.specs.Relaxing.{RaisedIn};
 use crate::System;
 use constraints::Constraint;
 
-// The constraints in chains by their lower numbers.
+// The constraints in chains by their lower numbers: a cell of a chain holds one more than a constraint's place, or 0 for none.
 #[derive(Drop)]
 struct Chains {
-    // one more than the first constraint from each number
+    // the first constraint from each number
     pub first: [u16; 200],
-    // one more than the constraint after each
+    // the constraint after each
     pub next: [u16; 1188],
     // for how many constraints each number still waits
     pub waits: [u16; 200],
 }
 
-// The numbers that no constraint waits for, in the order in which they are taken.
+// The numbers that wait for no constraint, in the order in which they are taken.
 #[derive(Drop)]
 struct Queue {
     pub numbers: [u16; 200],
@@ -25,12 +25,19 @@ struct Queue {
 
 impl Queue {
     // Puts a number at the end, and counts it where it waits for no constraint.
-    fn join(&mut self, number: usize, wait: usize)
+    fn join(&mut self, number: u16, wait: u16)
         ensures { self.new.len ≤ self.old.len + 1 }
     {
-        arrays::put(&mut self.numbers, self.len, (number % 65536) as u16);
-        self.len = self.len.saturating_add(1usize.saturating_sub(wait));
+        arrays::put(&mut self.numbers, self.len, number);
+        self.len = self
+            .len
+            .saturating_add(1usize.saturating_sub(usize::from(wait)));
     }
+}
+
+// The constraint that a chain's cell names, if it names one.
+fn named(cells: &[u16], at: usize) -> Option<usize> {
+    arrays::num(cells, at).checked_sub(1)
 }
 
 impl Chains {
@@ -40,19 +47,20 @@ impl Chains {
     {
         let low = usize::from(constraint.low);
         let high = usize::from(constraint.high);
-        arrays::put(&mut self.next, k, arrays::word(&self.first, low));
+        arrays::put(&mut self.next, k, arrays::at(&self.first, low));
         arrays::put(&mut self.first, low, (k + 1) as u16);
-        let wait = arrays::word(&self.waits, high).wrapping_add(1);
+        let wait = arrays::at(&self.waits, high).wrapping_add(1);
         arrays::put(&mut self.waits, high, wait);
     }
 
     // Lets a number wait for one constraint less: it joins the queue where that was the last.
-    fn release(&mut self, queue: &mut Queue, number: usize)
+    fn release(&mut self, queue: &mut Queue, number: u16)
         ensures { queue.new.len ≤ queue.old.len + 1 }
     {
-        let wait = arrays::word(&self.waits, number).saturating_sub(1);
-        arrays::put(&mut self.waits, number, wait);
-        queue.join(number, usize::from(wait));
+        let at = usize::from(number);
+        let wait = arrays::at(&self.waits, at).saturating_sub(1);
+        arrays::put(&mut self.waits, at, wait);
+        queue.join(number, wait);
     }
 }
 
@@ -71,6 +79,7 @@ fn chain(constraints: &[Constraint]) -> Chains {
 
 // The numbers below n that no constraint is on.
 fn line_up(waits: &[u16; 200], n: usize) -> Queue
+    requires { n ≤ 200 }
     ensures { result.len ≤ n }
 {
     let mut queue = Queue {
@@ -78,12 +87,12 @@ fn line_up(waits: &[u16; 200], n: usize) -> Queue
         len: 0,
     };
     for u in 0..n {
-        queue.join(u, arrays::num(waits, u));
+        queue.join(u as u16, waits[u]);
     }
     queue
 }
 
-// Takes constraints in so many steps at most: a number comes from the queue, its constraints are taken, and a number that no constraint waits for any more joins the queue.
+// Takes constraints in so many steps at most: a number comes from the queue, its constraints are taken, and a number that waits for no constraint any more joins the queue.
 fn follow(
     system: &System,
     at: &mut [u16; 200],
@@ -95,19 +104,19 @@ fn follow(
     ensures { RaisedIn system.now at.new }
 {
     let mut done = 0;
-    let mut k = 0;
+    let mut next = None;
     for _ in 0..steps {
-        if k > 0 {
-            system.raise(at, k - 1);
-            if k <= system.constraints.len() {
-                chains.release(queue, usize::from(system.constraints[k - 1].high));
+        if let Some(k) = next {
+            system.raise(at, k);
+            if let Some(constraint) = system.constraints.get(k) {
+                chains.release(queue, constraint.high);
             }
-            k = arrays::num(&chains.next, k - 1);
+            next = named(&chains.next, k);
         } else {
             if done >= queue.len {
                 return;
             }
-            k = arrays::num(&chains.first, arrays::num(&queue.numbers, done));
+            next = named(&chains.first, arrays::num(&queue.numbers, done));
             done += 1;
         }
     }

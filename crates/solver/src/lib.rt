@@ -18,6 +18,7 @@ struct System<'a> {
 }
 
 // The constraint that a pass comes to after i others.
+#[tactic(auto, unfolding(crate::specs::Relaxing::place_of))]
 fn place(back: bool, count: usize, i: usize) -> usize
     requires { i < count }
     ensures { result ≡ place_of back count i }
@@ -31,10 +32,9 @@ impl<'a> System<'a> {
         requires { RaisedIn self.now at.old }
         ensures { Taken self.now k at.old at.new result }
     {
-        if k >= self.constraints.len() {
+        let Some(constraint) = self.constraints.get(k) else {
             return Some(false);
-        }
-        let constraint = &self.constraints[k];
+        };
         let high = usize::from(constraint.high);
         if high >= self.n {
             return Some(false);

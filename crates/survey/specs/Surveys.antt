@@ -1,5 +1,5 @@
 -- The doubled areas of the inner faces of a chart, counted one after another in words of 64 bits.
-use Rattle.std.specs.Prelude.{ℕ, ◌+◌, ◌%◌, ◌^◌, min, cond, ◌&&◌, List, [], ◌∷◌, ℤ, pos, negsuc, nat_lt}
+use Rattle.std.specs.Prelude.{ℕ, ◌+◌, ◌%◌, ◌^◌, min, cond, ◌&&◌, List, [], ◌∷◌, ℤ, pos, negsuc, nat_lt, Some, None, unwrap_or}
 use Rattle.model.specs.Plan.{Plan, Face, step, walk, on_inner_face, faces}
 use Rattle.model.specs.Chart.{Chart}
 use Rattle.model.specs.Geometry.{area}
@@ -12,14 +12,14 @@ natural (negsuc k) = 0
 
 -- no face
 unfoldable pub no_area : Areas
-no_area = record { faces = 0; positive = 0; least = 2 ^ 32; sum = 0 }
+no_area = record { faces = 0; positive = 0; least = None; sum = 0 }
 
 -- one more face, of this area
 unfoldable pub with_area : ℕ → Areas → Areas
 with_area a s = record {
   faces = (s.faces + 1) % 2 ^ 64;
   positive = (s.positive + min a 1) % 2 ^ 64;
-  least = min s.least a;
+  least = Some (min (unwrap_or s.least a) a);
   sum = (s.sum + a) % 2 ^ 64;
 }
 

@@ -14,12 +14,12 @@ use charts::Points;
 use rings::Rings;
 use sheet::Sheet;
 
-// The inner faces of a chart: how many there are, how many of them are positive, the least and the sum of their doubled areas, where a negative one counts as 0.
+// The inner faces of a chart: how many there are, how many of them are positive, the least of their doubled areas, if there is one, and the sum, where a negative one counts as 0.
 #[derive(Clone, Copy)]
 pub struct Areas {
     pub faces: usize,
     pub positive: usize,
-    pub least: usize,
+    pub least: Option<usize>,
     pub sum: usize,
 }
 
@@ -30,23 +30,15 @@ struct Drawn<'a> {
     points: Points<'a>,
 }
 
-// The context after v on the face of the dart from u to v.
-#[tactic(auto, unfolding(model::specs::Plan::step))]
-fn third_of(rings: &Rings, u: usize, v: usize) -> usize
-    ensures { result ≡ (step (plan_of rings.now) (u, v)).1 }
-{
-    search::next_of(rings, v, u)
-}
-
 // Is the walk that begins with the dart from u to v an inner face, and w its third context?
 #[tactic(auto, using(crate::proofs::Walks::face_tests))]
 fn is_face(rings: &Rings, u: usize, v: usize, w: usize) -> bool
     ensures { result ≡ (on_inner_face (plan_of rings.now) (u, v) && (step (plan_of rings.now) (u, v)).1 == w) }
 {
     !faces::is_outer(u, v)
-        && third_of(rings, u, v) == w
-        && third_of(rings, v, w) == u
-        && third_of(rings, w, u) == v
+        && faces::third_of(rings, u, v) == w
+        && faces::third_of(rings, v, w) == u
+        && faces::third_of(rings, w, u) == v
 }
 
 // Are a, b, c neighbours of each other and no inner face, walked either way?
@@ -86,7 +78,7 @@ impl Areas {
         Areas {
             faces: self.faces.wrapping_add(1),
             positive: self.positive.wrapping_add(area.min(1)),
-            least: self.least.min(area),
+            least: Some(self.least.unwrap_or(area).min(area)),
             sum: self.sum.wrapping_add(area),
         }
     }
@@ -107,7 +99,7 @@ impl<'a> Drawn<'a> {
         if v <= u {
             return areas;
         }
-        let w = third_of(&self.rings, u, v);
+        let w = faces::third_of(&self.rings, u, v);
         if w <= u {
             return areas;
         }
@@ -142,7 +134,7 @@ pub fn areas_of(sheet: &Sheet) -> Areas
     let mut areas = Areas {
         faces: 0,
         positive: 0,
-        least: 4294967296,
+        least: None,
         sum: 0,
     };
     for u in 0..plan.n {

@@ -11,6 +11,6 @@ use Rattle.areas.proofs.area_of.Goals as goal
 pub returns : goal.returns
 returns c =
     let t = c.args in
-    let k = corner-within c.word-ax.result c.word-ay.result c.word-bx.result c.word-by.result c.word-cx.result c.word-cy.result c.word-ax.type_inv c.word-ay.type_inv c.word-bx.type_inv c.word-by.type_inv c.word-cx.type_inv c.word-cy.type_inv in
-    let s = area_signed t.chart.now.xs.now t.chart.now.ys.now t.a t.b t.c (ap (λ (z : ℤ). to_z w64 (of_z w64 z)) c.corner.ensures ∙ within-read k (omega arith) ∙ (λ i. corner_at (c.word-ax.ensures i) (c.word-ay.ensures i) (c.word-bx.ensures i) (c.word-by.ensures i) (c.word-cx.ensures i) (c.word-cy.ensures i))) in
+    let k = corner-within c.at-ax.result c.at-ay.result c.at-bx.result c.at-by.result c.at-cx.result c.at-cy.result c.at-ax.type_inv c.at-ay.type_inv c.at-bx.type_inv c.at-by.type_inv c.at-cx.type_inv c.at-cy.type_inv in
+    let s = area_signed t.chart.now.xs.now t.chart.now.ys.now t.a t.b t.c (ap (λ (z : ℤ). to_z w64 (of_z w64 z)) c.corner.ensures ∙ within-read k (omega arith) ∙ (λ i. corner_at (c.at-ax.ensures i) (c.at-ay.ensures i) (c.at-bx.ensures i) (c.at-by.ensures i) (c.at-cx.ensures i) (c.at-cy.ensures i))) in
     record { value = s.0; result_value = s.1.0; result_value_2 = s.1.1.0; result_value_3 = s.1.1.1 }

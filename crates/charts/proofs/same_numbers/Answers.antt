@@ -1,13 +1,18 @@
 -- same_numbers meets its contract.
-use Rattle.charts.proofs.Comparing.{matches_hit, matches_on, matches_end}
+use mathlib.Core.Path.{refl, ◌∙◌}
+use Prim.Native.Nat.{ℕ}
 use native.Mathlib.Omega.{arith}
+use borrow.Author.Rules.{rules}
+use borrow.Author.Tests.{tests}
+use lib.ListN.{get_or}
+use lib.Dec.{eqb}
+use Rattle.std.proofs.lemmas.Iterator.{YieldsList-from_range}
+use Rattle.std.proofs.lemmas.Iterator.Search.{all_from_yields_List}
+use Rattle.charts.proofs.Comparing.{all-same}
 use Rattle.charts.proofs.same_numbers.Goals as goal
 
-pub returns-then-num : goal.returns-then-num
-returns-then-num c = matches_hit c.loop-i.invariant c.loop-i-test.true c.num.ensures.value c.num-in-loop-i.ensures.value c.if-num.true
-
-pub loop-i-preserved : goal.loop-i-preserved
-loop-i-preserved c = matches_on c.loop-i.invariant c.loop-i-test.true c.num.ensures.value c.num-in-loop-i.ensures.value (omega arith) c.if-num.false
-
 pub returns : goal.returns
-returns c = matches_end c.loop-i.invariant c.loop-i-test.false
+returns c =
+    let a = c.args.a.now in
+    let b = c.args.b.now in
+    all_from_yields_List (λ (i : ℕ). eqb (get_or a i 0) (get_or b i 0)) _ _ c.all.result c.all.ensures.ran (YieldsList-from_range 0 c.args.n c.args.n refl (omega arith)) (λ x b q k. search (rules, tests)) ∙ all-same a b 0 c.args.n

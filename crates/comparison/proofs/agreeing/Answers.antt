@@ -1,18 +1,20 @@
 -- agreeing meets its contract.
 use mathlib.Core.Path.{◌≡◌, ◌∙◌}
-use Rattle.lists.proofs.Loops.{looks_hit, looks_on, looks_end}
+use mathlib.Core.Bool.{true, false, not}
+use Prim.Native.Nat.{ℕ}
+use borrow.Author.Rules.{rules}
+use borrow.Author.Tests.{tests}
+use lib.ListN.{get_or}
+use lib.Dec.{eqb}
+use Rattle.std.proofs.lemmas.Iterator.{first_from_Range}
 use Rattle.comparison.specs.Bytes as lines
-use Rattle.comparison.proofs.Agree.{differs, agrees}
-use native.Mathlib.Omega.{arith}
+use Rattle.lists.proofs.Found.{found_or}
 use Rattle.comparison.proofs.agreeing.Goals as goal
-
-pub returns-then-num : goal.returns-then-num
-unfolding lines.agreeing
-returns-then-num c = looks_hit c.loop-i.invariant (omega arith) (differs c.num.ensures.value c.num-in-loop-i.ensures.value c.if-num.true)
-
-pub loop-i-preserved : goal.loop-i-preserved
-loop-i-preserved c = looks_on c.loop-i.invariant (omega arith) (omega arith) (agrees c.num.ensures.value c.num-in-loop-i.ensures.value c.if-num.false)
 
 pub returns : goal.returns
 unfolding lines.agreeing
-returns c = let e : c.args.k ≡ c.loop-i.i = omega arith in e ∙ looks_end c.loop-i.invariant (omega arith)
+returns c =
+    let a = c.args.a.now in
+    let b = c.args.b.now in
+    c.unwrap_or.ensures ∙ found_or (λ (i : ℕ). not (eqb (get_or a i 0) (get_or b i 0))) c.args.k c.find.result
+    (first_from_Range _ _ _ c.find.result (λ (i : ℕ). not (eqb (get_or a i 0) (get_or b i 0)) ≡ true) (λ (i : ℕ). not (eqb (get_or a i 0) (get_or b i 0)) ≡ false) c.find.ensures.ran (λ x q k. search (rules, tests)) (λ x q k. search (rules, tests)))
