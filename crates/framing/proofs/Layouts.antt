@@ -2,45 +2,48 @@
 use Prim.Native.Nat.{ℕ, ◌+◌, ◌*◌, ◌≤◌, ◌<◌}
 use mathlib.Core.Path.{◌≡◌, refl, sym, ap, ◌∙◌}
 use mathlib.Core.List.{List, [], ◌∷◌}
-use mathlib.Core.Bool.{false}
+use mathlib.Core.Bool.{true, false, and-false}
+use mathlib.Core.Logic.{◌⊎◌, inl, inr}
 use native.Mathlib.Omega.{arith}
-use lib.ListN.{length}
+use lib.ListN.{drop}
 use lib.Dec.{eqb}
 use borrow.Author.Tests.{le-leb, lt-leb}
+use Rattle.lists.specs.Tests.{empty}
 use Rattle.lists.specs.Words.{word}
 use Rattle.lists.specs.Spans.{stretch}
 use Rattle.model.specs.Outcome.{Outcome, accepted, refused, ◌>>=◌}
 use Rattle.model.specs.Plan.{Plan}
 use Rattle.model.specs.File.{Sheet, charted, frame, frame_rings, frame_rest, optional, chart_in, sheet_of, decode}
 use Rattle.framing.specs.declared.layout.Parts.{Parts}
-use Rattle.framing.specs.Offsets.{cursor, word_at}
+use Rattle.arrays.specs.Parts.{word_of}
+use Rattle.framing.specs.Offsets.{cursor}
 use Rattle.framing.specs.Layouts.{plan_in, labels_in, sheet_with, bodies_in, plan_from}
-use Rattle.framing.proofs.Offsets.{words-stretch, empty_end, empty-before}
+use Rattle.framing.proofs.Offsets.{words-stretch}
 
 -- ---- the records after the rings
 module _ (file : List ℕ) where
   -- at the end nothing follows
-  pub rest_end : (due : List (ℕ × ℕ)) (at : ℕ) → length file ≤ at → accepted [] ≡ frame_rest due (cursor file at)
+  pub rest_end : (due : List (ℕ × ℕ)) (at : ℕ) → empty (drop at file) ≡ true → accepted [] ≡ frame_rest due (cursor file at)
   unfolding frame_rest
-  rest_end [] at h = rw (empty_end file at h)
-  rest_end (d ∷ due) at h = rw (empty_end file at h)
+  rest_end [] at h = rw h
+  rest_end (d ∷ due) at h = rw h
 
   -- where no record is due any more, whatever stands there is refused
-  pub end_refused : (at k p : ℕ) → at < length file → refused k p ≡ frame (cursor file at) 0 (λ (m : ℕ). false) → refused k p ≡ frame_rest [] (cursor file at)
+  pub end_refused : (at k p : ℕ) → empty (drop at file) ≡ false → refused k p ≡ frame (cursor file at) 0 (λ (m : ℕ). false) → refused k p ≡ frame_rest [] (cursor file at)
   unfolding frame_rest
-  end_refused at k p h e = rw (empty-before file at h, ← e)
+  end_refused at k p h e = rw (h, ← e)
 
-  module _ (kind size : ℕ) (due : List (ℕ × ℕ)) (at : ℕ) (h : at < length file) where
+  module _ (kind size : ℕ) (due : List (ℕ × ℕ)) (at : ℕ) (h : empty (drop at file) ≡ false) where
     -- the record that is due is refused
     pub due-refused : (k p : ℕ) → refused k p ≡ frame (cursor file at) kind (eqb size) → refused k p ≡ frame_rest ((kind, size) ∷ due) (cursor file at)
     unfolding frame_rest
-    due-refused k p e = rw (empty-before file at h, ← e)
+    due-refused k p e = rw (h, ← e)
 
     -- it is there, and what follows it is framed
     pub due_there : (b : List ℕ) (e : ℕ) (o : Outcome (List (List ℕ))) → accepted (b, cursor file e) ≡ frame (cursor file at) kind (eqb size) → o ≡ frame_rest due (cursor file e)
         → (o >>= λ (bs : List (List ℕ)). accepted (b ∷ bs)) ≡ frame_rest ((kind, size) ∷ due) (cursor file at)
     unfolding frame_rest
-    due_there b e o f r = rw (empty-before file at h, ← f, ← r)
+    due_there b e o f r = rw (h, ← f, ← r)
 
 -- the sheet of a plan and the bodies that the offsets name
 pub sheet_bodies : (file : List ℕ) (n : ℕ) (p : Plan) (parts : Parts) → sheet_with file n p parts ≡ sheet_of p (bodies_in file n parts)
@@ -51,13 +54,10 @@ sheet_bodies file n p (Parts.Chart labels chart) = ap (λ (l : List ℕ). charte
 
 -- ---- behind the kind 1 record
 module _ (file : List ℕ) (n : ℕ) where
-  pub plan-low : n < 5 → refused 3 0 ≡ plan_from file n
+  pub plan-out : (n < 5) ⊎ (200 < n) → refused 3 0 ≡ plan_from file n
   unfolding plan_from
-  plan-low h = rw (lt-leb 5 n h)
-
-  pub plan-high : 5 ≤ n → 200 < n → refused 3 0 ≡ plan_from file n
-  unfolding plan_from
-  plan-high l h = rw (le-leb 5 n l, lt-leb n 200 h)
+  plan-out (inl l) = rw (lt-leb 5 n l)
+  plan-out (inr h) = rw (lt-leb n 200 h, and-false)
 
   pub plan-refused : (k p : ℕ) → 5 ≤ n → n ≤ 200 → refused k p ≡ frame_rings n n (cursor file 6) → refused k p ≡ plan_from file n
   unfolding plan_from
@@ -77,6 +77,6 @@ pub file_refused : (file : List ℕ) (k p : ℕ) → refused k p ≡ frame (curs
 unfolding decode
 file_refused file k p e = rw (← e)
 
-pub file_there : (file : List ℕ) → accepted (stretch file 4 2, cursor file 6) ≡ frame (cursor file 0) 1 (eqb 2) → plan_from file (word_at file 4) ≡ decode file
+pub file_there : (file : List ℕ) → accepted (stretch file 4 2, cursor file 6) ≡ frame (cursor file 0) 1 (eqb 2) → plan_from file (word_of file 4) ≡ decode file
 unfolding decode plan_from stretch word
 file_there file e = sym (rw (← e))

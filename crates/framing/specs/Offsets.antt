@@ -1,12 +1,14 @@
 -- The records of a lent file by their offsets: what the answers about one record and about the rings say in the terms of the model.
-use Rattle.std.specs.Prelude.{ℕ, ◌+◌, ◌-◌, ◌*◌, ◌<◌, ◌≤◌, ◌≡◌, List, [], Bool, cond, ◌&&◌, length, get_or, drop, eqb, leb, Option, Some, None, Result, Ok, Err}
+use Rattle.std.specs.Prelude.{ℕ, ◌+◌, ◌-◌, ◌*◌, ◌<◌, ◌≤◌, ◌≡◌, List, [], Bool, cond, ◌&&◌, length, drop, leb, Option, Some, None, Result, Ok, Err}
 use Rattle.lists.specs.Spans.{stretch, padded}
-use Rattle.model.specs.Outcome.{Outcome, accepted, refused, ◌>>=◌, ◌>>◌, require}
+use Rattle.model.specs.Outcome.{Outcome, accepted, ◌>>=◌, ◌>>◌, require}
 use Rattle.model.specs.File.{Cursor, Framed}
 use Rattle.refusal.specs.declared.Refusal.{Refusal}
 use Rattle.refusal.specs.Refusals.{told}
+use Rattle.arrays.specs.Parts.{word_of}
 use Rattle.rings.specs.Tables.{starts_of}
 use Rattle.rings.specs.Lent.{lent}
+use Rattle.framing.specs.declared.Cursor as code
 use Rattle.framing.specs.declared.Frame.{Frame}
 use Rattle.framing.specs.declared.Walk.{Walk}
 
@@ -14,35 +16,37 @@ use Rattle.framing.specs.declared.Walk.{Walk}
 abbrev pub cursor : List ℕ → ℕ → Cursor
 cursor file at = record { at = at; rest = drop at file }
 
--- the number of two bytes at an offset; what lies outside the file reads as 0
-abbrev pub word_at : List ℕ → ℕ → ℕ
-word_at file at = get_or file at 0 + 256 * get_or file (at + 1) 0
+-- the place where a cursor of the code stands
+abbrev pub here : code.Cursor → Cursor
+here c = cursor c.file.now c.at
 
 -- The record at an offset; none where its length is missing, under 2 or past the end
 unfoldable pub frame_at : List ℕ → ℕ → Option Frame
 frame_at file at =
-    let m = word_at file at in
+    let m = word_of file at in
     let left = length file - at in
-    cond (leb 2 left && leb 2 m && leb m (left - 2)) (Some (record { kind = word_at file (at + 2); size = m - 2 })) None
+    cond (leb 2 left && leb 2 m && leb m (left - 2)) (Some (record { kind = word_of file (at + 2); size = m - 2 })) None
 
--- what a frame is where a record of this kind is due and its body's size has to fit: the body and the place behind it, or 1 or 2 at its offset
-unfoldable pub framed_of : List ℕ → ℕ → ℕ → (ℕ → Bool) → Option Frame → Outcome Framed
-framed_of file at kind fits (Some f) = require (eqb f.kind kind && fits f.size) 2 at >> accepted (stretch file (at + 4) f.size, cursor file (at + 4 + f.size))
-framed_of file at kind fits None = refused 1 at
+-- a record of the kind that is due, by the size of its body, which has to fit: the body and the place behind it, or 2 at its offset
+abbrev pub record_of : code.Cursor → (ℕ → Bool) → Result ℕ Refusal → Outcome Framed
+record_of c fits r = do
+  m ← told r
+  require (fits m) 2 c.at
+  accepted (stretch c.file.now (c.at + 4) m, cursor c.file.now (c.at + 4 + m))
 
 -- a record that is due with a body of this size
-abbrev pub due_of : List ℕ → ℕ → ℕ → Result (Unit {0}) Refusal → Outcome Framed
-due_of file at size r = told r >> accepted (stretch file (at + 4) size, cursor file (at + 4 + size))
+abbrev pub due_of : code.Cursor → ℕ → Result (Unit {0}) Refusal → Outcome Framed
+due_of c size r = told r >> accepted (stretch c.file.now (c.at + 4) size, cursor c.file.now (c.at + 4 + size))
 
 -- the end of the file, where no record is due any more
 abbrev pub end_of : Result (Unit {0}) Refusal → Outcome (List (List ℕ))
 end_of r = told r >> accepted []
 
 -- a ring record by the number of its entries
-abbrev pub ring_of : List ℕ → ℕ → Result ℕ Refusal → Outcome Framed
-ring_of file at r = do
+abbrev pub ring_of : code.Cursor → Result ℕ Refusal → Outcome Framed
+ring_of c r = do
   z ← told r
-  accepted (stretch file (at + 4) (2 * z), cursor file (at + 4 + 2 * z))
+  accepted (stretch c.file.now (c.at + 4) (2 * z), cursor c.file.now (c.at + 4 + 2 * z))
 
 -- a ring has fewer entries than there are contexts
 abbrev pub RingBelow : ℕ → Result ℕ Refusal → Type 0

@@ -3,10 +3,12 @@
 
 mod layout;
 
-ghost use Rattle.std.specs.Prelude.{◌≡◌, [], Bool, ℕ, ◌+◌, ◌-◌, ◌*◌, ◌<◌, ◌≤◌, ◌^◌, eqb};
+ghost use Rattle.std.specs.Prelude.{◌≡◌, [], Bool, ℕ, ◌<◌, ◌≤◌, eqb};
+ghost use Rattle.lists.specs.Tests.{empty};
 ghost use Rattle.model.specs.File.{frame, fits_ring, frame_rings, frame_rest, optional, decode};
 ghost use Rattle.records.specs.Records.{number_of};
-ghost use Rattle.framing.specs.Offsets.{cursor, word_at, frame_at, framed_of, due_of, end_of, ring_of, RingBelow, walk_of, WalkBounds};
+ghost use Rattle.arrays.specs.Parts.{word_of};
+ghost use Rattle.framing.specs.Offsets.{cursor, here, frame_at, record_of, due_of, end_of, ring_of, RingBelow, walk_of, WalkBounds};
 ghost use Rattle.framing.specs.Layouts.{parts_of, NearParts, plan_from, sheet_in};
 
 pub use layout::{Layout, Parts};
@@ -16,7 +18,7 @@ use refusal::Refusal;
 // A record in a file: the number that says its kind, and the size of its body.
 #[derive(Clone, Copy)]
 struct Frame {
-    kind: usize,
+    kind: u16,
     size: usize,
 }
 
@@ -27,75 +29,116 @@ struct Walk {
     at: usize,
 }
 
-// The record at an offset; none where its length is missing, under 2 or past the end. Whatever kind and size are due there, the answer says what the model frames.
-fn frame_at(file: &[u8], at: usize) -> Option<Frame>
-    ensures value { result ≡ frame_at file.now at }
-    ensures by_index { (kind : ℕ) (fits : ℕ → Bool) → framed_of file.now at kind fits result ≡ frame (cursor file.now at) kind fits }
-{
-    if file.len() < at {
-        return None;
-    }
-    let left = file.len() - at;
-    if left < 2 {
-        return None;
-    }
-    let long = arrays::word_at(file, at);
-    if long < 2 {
-        return None;
-    }
-    if left - 2 < long {
-        return None;
-    }
-    Some(Frame {
-        kind: arrays::word_at(file, at + 2),
-        size: long - 2,
-    })
+// A place in a file.
+#[derive(Clone, Copy)]
+struct Cursor<'a> {
+    file: &'a [u8],
+    at: usize,
 }
 
-// A record of one kind and one body size is due.
-fn due_at(file: &[u8], at: usize, kind: Record, size: usize) -> Result<(), Refusal>
-    ensures { due_of file.now at size result ≡ frame (cursor file.now at) (number_of kind) (eqb size) }
-{
-    let record = frame_at(file, at).ok_or(Refusal::BrokenRecord(at))?;
-    if record.kind != kind.number() {
-        return Err(Refusal::OtherRecord(at));
+impl<'a> Cursor<'a> {
+    // Is nothing left of the file from here on?
+    #[tactic(auto, using(crate::proofs::Offsets::empty_from))]
+    fn is_end(&self) -> bool
+        ensures { result ≡ empty (here self.now).rest }
+    {
+        self.file.len() <= self.at
     }
-    if size != record.size {
-        return Err(Refusal::OtherRecord(at));
-    }
-    Ok(())
-}
 
-// The end is due: a whole record there is 2.
-fn end_at(file: &[u8], end: usize) -> Result<(), Refusal>
-    ensures { end_of result ≡ frame_rest [] (cursor file.now end) }
-{
-    if file.len() <= end {
-        return Ok(());
+    // The record here; none where its length is missing, under 2 or past the end.
+    #[tactic(auto, using(std::proofs::lemmas::Bool::Decides::nat_tests), unfolding(crate::specs::Offsets::frame_at))]
+    fn framed(&self) -> Option<Frame>
+        ensures { result ≡ frame_at self.now.file.now self.now.at }
+    {
+        let left = self.file.len().saturating_sub(self.at);
+        let long = usize::from(arrays::word_at(self.file, self.at));
+        if left < 2 || long < 2 || left - 2 < long {
+            return None;
+        }
+        Some(Frame {
+            kind: arrays::word_at(self.file, self.at + 2),
+            size: long - 2,
+        })
     }
-    match frame_at(file, end) {
-        None => Err(Refusal::BrokenRecord(end)),
-        Some(_) => Err(Refusal::OtherRecord(end)),
-    }
-}
 
-// A ring record is due: entries of 2 bytes, at most n - 1. Gives how many.
-fn ring_at(file: &[u8], at: usize, n: usize) -> Result<usize, Refusal>
-    requires { 0 < n }
-    ensures result_value { ring_of file.now at result ≡ frame (cursor file.now at) 2 (fits_ring n) }
-    ensures ring_below { RingBelow n result }
-{
-    let ring = frame_at(file, at).ok_or(Refusal::BrokenRecord(at))?;
-    if ring.kind != Record::Ring.number() {
-        return Err(Refusal::OtherRecord(at));
+    // A record of one kind is due here: the size of its body. Whatever size is due, the answer says what the model frames.
+    fn record(&self, kind: Record) -> Result<usize, Refusal>
+        ensures { (fits : ℕ → Bool) → record_of self.now fits result ≡ frame (here self.now) (number_of kind) fits }
+    {
+        let found = self.framed().ok_or(Refusal::BrokenRecord(self.at))?;
+        if found.kind != kind.number() {
+            return Err(Refusal::OtherRecord(self.at));
+        }
+        Ok(found.size)
     }
-    if ring.size % 2 != 0 {
-        return Err(Refusal::OtherRecord(at));
+
+    // A record of one kind and one body size is due here.
+    fn due(&self, kind: Record, size: usize) -> Result<(), Refusal>
+        ensures { due_of self.now size result ≡ frame (here self.now) (number_of kind) (eqb size) }
+    {
+        if self.record(kind)? != size {
+            return Err(Refusal::OtherRecord(self.at));
+        }
+        Ok(())
     }
-    if n <= ring.size / 2 {
-        return Err(Refusal::OtherRecord(at));
+
+    // A ring record is due here: entries of 2 bytes, at most n - 1. Gives how many.
+    fn ring(&self, n: usize) -> Result<usize, Refusal>
+        requires { 0 < n }
+        ensures result_value { ring_of self.now result ≡ frame (here self.now) 2 (fits_ring n) }
+        ensures ring_below { RingBelow n result }
+    {
+        let size = self.record(Record::Ring)?;
+        if size % 2 != 0 || n <= size / 2 {
+            return Err(Refusal::OtherRecord(self.at));
+        }
+        Ok(size / 2)
     }
-    Ok(ring.size / 2)
+
+    // The end is due here: a whole record is 2.
+    fn end(&self) -> Result<(), Refusal>
+        ensures { end_of result ≡ frame_rest [] (here self.now) }
+    {
+        if self.is_end() {
+            return Ok(());
+        }
+        match self.framed() {
+            None => Err(Refusal::BrokenRecord(self.at)),
+            Some(_) => Err(Refusal::OtherRecord(self.at)),
+        }
+    }
+
+    // What stands behind the rings, which end here: the end, or labels; behind labels the end, or a chart; behind a chart the end.
+    fn parts(&self, n: usize) -> Result<Parts, Refusal>
+        requires le_n { 5 ≤ n }
+        requires n_bound { n ≤ 200 }
+        requires at_bound { self.now.at ≤ 80406 }
+        ensures value { parts_of self.now.file.now n result ≡ frame_rest (optional n) (here self.now) }
+        ensures near { NearParts result }
+    {
+        if self.is_end() {
+            return Ok(Parts::Plan);
+        }
+        let darts = 6 * n - 14;
+        self.due(Record::Labels, darts)?;
+        let labels = self.at + 4;
+        let behind = Cursor {
+            at: labels + darts,
+            ..*self
+        };
+        if behind.is_end() {
+            return Ok(Parts::Labels { labels });
+        }
+        let numbers = 4 + 4 * n;
+        behind.due(Record::Chart, numbers)?;
+        let chart = behind.at + 4;
+        let last = Cursor {
+            at: chart + numbers,
+            ..*self
+        };
+        last.end()?;
+        Ok(Parts::Chart { labels, chart })
+    }
 }
 
 // The n ring records behind the kind 1 record, in file order.
@@ -107,49 +150,23 @@ fn walk_rings(file: &[u8], n: usize) -> Result<Walk, Refusal>
     let mut sizes = [0u8; 200];
     let mut at = 6;
     for i in 0..n {
-        let size = ring_at(file, at, n)?;
+        let size = Cursor { file, at }.ring(n)?;
         sizes[i] = size as u8;
-        at = at + 4 + 2 * size;
+        at += 4 + 2 * size;
     }
     Ok(Walk { sizes, at })
 }
 
-// What stands behind the rings: the end, or labels; behind labels the end, or a chart; behind a chart the end.
-fn parts_at(file: &[u8], n: usize, at: usize) -> Result<Parts, Refusal>
-    requires le_n { 5 ≤ n }
-    requires n_bound { n ≤ 200 }
-    requires at_bound { at ≤ 80406 }
-    ensures value { parts_of file.now n result ≡ frame_rest (optional n) (cursor file.now at) }
-    ensures near { NearParts result }
-{
-    if file.len() <= at {
-        return Ok(Parts::Plan);
-    }
-    let darts = 6 * n - 14;
-    due_at(file, at, Record::Labels, darts)?;
-    let labels = at + 4;
-    if file.len() <= labels + darts {
-        return Ok(Parts::Labels { labels });
-    }
-    due_at(file, labels + darts, Record::Chart, 4 + 4 * n)?;
-    let chart = labels + darts + 4;
-    end_at(file, chart + (4 + 4 * n))?;
-    Ok(Parts::Chart { labels, chart })
-}
-
 // Behind the kind 1 record, which says n: 3, then the rings and what follows them.
 fn frame_plan(file: &[u8]) -> Result<Layout, Refusal>
-    ensures { sheet_in file.now result ≡ plan_from file.now (word_at file.now 4) }
+    ensures { sheet_in file.now result ≡ plan_from file.now (word_of file.now 4) }
 {
-    let n = arrays::word_at(file, 4);
-    if n < 5 {
-        return Err(Refusal::ContextCount);
-    }
-    if 200 < n {
+    let n = usize::from(arrays::word_at(file, 4));
+    if !(5..=200).contains(&n) {
         return Err(Refusal::ContextCount);
     }
     let Walk { sizes, at } = walk_rings(file, n)?;
-    let parts = parts_at(file, n, at)?;
+    let parts = Cursor { file, at }.parts(n)?;
     Ok(Layout { n, sizes, parts })
 }
 
@@ -157,6 +174,6 @@ fn frame_plan(file: &[u8]) -> Result<Layout, Refusal>
 pub fn frame_file(file: &[u8]) -> Result<Layout, Refusal>
     ensures { sheet_in file.now result ≡ decode file.now }
 {
-    due_at(file, 0, Record::Contexts, 2)?;
+    Cursor { file, at: 0 }.due(Record::Contexts, 2)?;
     frame_plan(file)
 }

@@ -1,36 +1,28 @@
 -- Parts of a lent file copied into arrays: what the loops keep, and that the arrays hold what the file holds.
-use Prim.Native.Nat.{ℕ, zero, suc, ◌+◌, ◌*◌, ◌≤◌, ◌<◌}
+use Prim.Native.Nat.{ℕ, zero, suc, ◌+◌, ◌-◌, ◌*◌, ◌≤◌, ◌<◌, min}
 use mathlib.Core.Path.{◌≡◌, sym, ap, ◌∙◌}
 use mathlib.Core.List.{List, [], ◌++◌, map, append-nil}
+use mathlib.Core.Logic.{◌⊎◌, inl, inr}
 use native.Mathlib.Omega.{arith}
-use lib.ListN.{length, get_or, take, set, replicate}
-use lib.Seq.{ext_get_or}
+use lib.ListN.{length, get_or, take, drop, set, replicate, length-take, length-drop, drop_of_length-le}
+use lib.Seq.{ext_get_or, get_or-drop, take_all}
+use Rattle.std.proofs.lemmas.List.{get_or-take}
 use Rattle.lists.specs.Ranges.{from}
 use Rattle.lists.specs.Parts.{concat}
-use Rattle.lists.specs.Spans.{stretch, padded}
+use Rattle.lists.specs.Spans.{stretch, zeros, padded}
 use Rattle.lists.proofs.Loops.{Fills, fills_start, fills_on}
-use Rattle.lists.proofs.Ranges.{length-map-from, get_or-map-from}
-use Rattle.lists.proofs.Spans.{length-stretch, get_or-stretch}
+use Rattle.lists.proofs.Ranges.{lt-or-le, length-map-from, get_or-map-from}
+use Rattle.lists.proofs.Padded.{get_or-padded, length-padded}
+use Rattle.lists.proofs.Spans.{past, length-stretch, get_or-stretch}
 use Rattle.lists.proofs.Stretches.{stretch-joined, length-joined-more}
 use Rattle.model.specs.Plan.{entry_count}
 use Rattle.rings.specs.Tables.{start_of, starts_of}
 use Rattle.rings.specs.Lent.{words_at, body_at, lent}
 use Rattle.rings.proofs.Rows.{start_first, start-more, ring_ends}
-use Rattle.lent.proofs.Rings.{word_of, length-words-at, get_or-words-at}
+use Rattle.arrays.specs.Parts.{word_of}
+use Rattle.lent.proofs.Rings.{length-words-at, get_or-words-at}
 use Rattle.lent.proofs.Copied.{entry-count-lent}
 use Rattle.framing.specs.Layouts.{plan_in}
-use Rattle.framing.specs.Offsets.{word_at}
-use Rattle.opening.specs.Opening.{every_four}
-
--- a stretch, entry by entry
-pub stretch-map : (l : List ℕ) (at k : ℕ) → map (λ (i : ℕ). get_or l (at + i) 0) (from 0 k) ≡ stretch l at k
-stretch-map l at k =
-    let f : ℕ → ℕ = λ (i : ℕ). get_or l (at + i) 0 in
-    ext_get_or 0 (map f (from 0 k)) (stretch l at k) (length-map-from f 0 k ∙ sym (length-stretch l at k))
-    (λ i h.
-    let b : i < k = let q = length-map-from f 0 k in omega arith in
-    let z : 0 + i ≡ i = omega arith in
-    get_or-map-from f 0 k i 0 b ∙ ap f z ∙ sym (get_or-stretch l at k i b))
 
 -- a list, entry by entry
 pub list-map : (l : List ℕ) (k : ℕ) → length l ≡ k → map (λ (i : ℕ). get_or l i 0) (from 0 k) ≡ l
@@ -127,10 +119,39 @@ module _ {file sizes : List ℕ} {n u i at : ℕ} {es : List ℕ} (inv : Copies 
       let total = entry-count-lent (starts_of sizes) sizes file n in
       inv.filled.same ∙ ap (padded 1186) (list-map (concat (plan_in file sizes n).rings) at (omega arith))
 
--- ---- label bytes and coordinates
-pub labels-copied : (file : List ℕ) (at : ℕ) {count i : ℕ} {b : List ℕ} → Fills 1186 (λ (j : ℕ). get_or file (at + j) 0) i b → i ≡ count → b ≡ padded 1186 (stretch file at count)
-labels-copied file at {count} f e = f.same ∙ ap (λ (j : ℕ). padded 1186 (map (λ (t : ℕ). get_or file (at + t) 0) (from 0 j))) e ∙ ap (padded 1186) (stretch-map file at count)
+-- ---- the label bytes
+-- what is read of a part is what is read of a stretch, and 0 behind it
+part_reads : (s : List ℕ) (at k i : ℕ) → get_or (take k (drop at s)) i 0 ≡ get_or (stretch s at k) i 0
+part_reads s at k i = go (lt-or-le i k)
+  where
+    go : (i < k) ⊎ (k ≤ i) → get_or (take k (drop at s)) i 0 ≡ get_or (stretch s at k) i 0
+    go (inl h) = get_or-take k (drop at s) i 0 h ∙ get_or-drop at s i 0 ∙ sym (get_or-stretch s at k i h)
+    go (inr h) = sym (past (take k (drop at s)) i (omega (arith, length-take k (drop at s)))) ∙ past (stretch s at k) i (omega (arith, length-stretch s at k))
 
-pub points-copied : (file : List ℕ) (at : ℕ) {n u : ℕ} {b : List ℕ} → Fills 200 (λ (t : ℕ). word_at file (at + 4 * t)) u b → u ≡ n → b ≡ padded 200 (every_four file at n)
-unfolding every_four
-points-copied file at f e = f.same ∙ ap (λ (j : ℕ). padded 200 (map (λ (t : ℕ). word_at file (at + 4 * t)) (from 0 j))) e
+-- the part of a file from an offset on, at most k bytes, in an array with zeros behind it
+pub part_padded : (s : List ℕ) (at k m : ℕ) → k ≤ m → padded m (take k (drop at s)) ≡ padded m (stretch s at k)
+part_padded s at k m h =
+    let l = take k (drop at s) in
+    let a = length-padded m l (omega (arith, length-take k (drop at s))) in
+    let b = length-padded m (stretch s at k) (omega (arith, length-stretch s at k)) in
+    ext_get_or 0 (padded m l) (padded m (stretch s at k)) (a ∙ sym b) (λ i p. get_or-padded m l i ∙ part_reads s at k i ∙ sym (get_or-padded m (stretch s at k) i))
+
+-- all that is left from an offset on, or from the end
+pub rest-from : (s : List ℕ) (at : ℕ) {from : ℕ} → from ≡ min at (length s) → take (length s - from) (drop from s) ≡ drop at s
+rest-from s at {from} e = take_all (length s - from) (drop from s) (omega (arith, length-drop from s)) ∙ go (lt-or-le at (length s))
+  where
+    go : (at < length s) ⊎ (length s ≤ at) → drop from s ≡ drop at s
+    go (inl h) = ap (λ (k : ℕ). drop k s) (omega arith)
+    go (inr h) = drop_of_length-le s (omega arith) ∙ sym (drop_of_length-le s h)
+
+-- so is what is copied of the rest
+pub labels-copied : (s : List ℕ) (at k m : ℕ) {r b : List ℕ} {j : ℕ} → k ≤ m → r ≡ drop at s → j ≡ min (length r) k → b ≡ take j r ++ replicate (m - j) 0 → b ≡ padded m (stretch s at k)
+unfolding padded zeros
+labels-copied s at k m {r} {j = j} h e q f = f ∙ (λ i. same (lt-or-le k (length r)) i ++ replicate (m - size i) 0) ∙ ap (λ (l : List ℕ). padded m (take k l)) e ∙ part_padded s at k m h
+  where
+    size : j ≡ length (take k r)
+    size = omega (arith, length-take k r)
+
+    same : (k < length r) ⊎ (length r ≤ k) → take j r ≡ take k r
+    same (inl g) = ap (λ (i : ℕ). take i r) (omega arith)
+    same (inr g) = take_all j r (omega arith) ∙ sym (take_all k r g)

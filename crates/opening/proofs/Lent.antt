@@ -1,35 +1,34 @@
--- 4 to 7, in the order in which they are judged in a file: what each place of a rule that was looked for says of them.
-use Prim.Native.Nat.{ℕ, ◌≤◌, ◌<◌}
-use mathlib.Core.Path.{◌≡◌}
-use borrow.Author.Tests.{eq-eqb, ne_eqb}
+-- 4 to 7, in the order in which they are judged in a file.
+use Prim.Native.Nat.{ℕ, ◌≤◌}
+use mathlib.Core.Path.{◌≡◌, sym}
+use mathlib.Core.Bool.{Bool}
+use lib.Dec.{eqb}
+use borrow.Author.Tests.{le-leb}
 use Rattle.lists.specs.Ranges.{lowest}
-use Rattle.model.specs.Outcome.{refused, passed}
+use Rattle.model.specs.Outcome.{refused, passed, require, rule}
 use Rattle.model.specs.Plan.{Plan, bad_entry, bad_repeat, unreturned, entry_count, dart_count}
-use Rattle.judging.proofs.Rules.{rule-at, rule-past}
 use Rattle.opening.specs.Opening.{lent_rules}
 
+-- a rule that no number below n breaks is kept
+pub rule_kept : (k n : ℕ) (bad : ℕ → Bool) {u : ℕ} → u ≡ lowest bad n → n ≤ u → passed ≡ rule k n bad
+rule_kept k n bad {u} e h = sym (rw (← e, le-leb n u h))
+
 module _ (n : ℕ) (p : Plan) where
-  pub four_refused : {u : ℕ} → u ≡ lowest (bad_entry p) n → u < n → refused 4 u ≡ lent_rules n p
+  pub four_refused : (k u : ℕ) → refused k u ≡ rule 4 n (bad_entry p) → refused k u ≡ lent_rules n p
   unfolding lent_rules
-  four_refused e h = rw (← rule-at 4 n (bad_entry p) e h)
+  four_refused k u e = rw (← e)
 
-  module _ {four : ℕ} (e4 : four ≡ lowest (bad_entry p) n) (h4 : n ≤ four) where
-    pub five_refused : {u : ℕ} → u ≡ lowest (bad_repeat p) n → u < n → refused 5 u ≡ lent_rules n p
+  module _ (e4 : passed ≡ rule 4 n (bad_entry p)) where
+    pub five_refused : (k u : ℕ) → refused k u ≡ rule 5 n (bad_repeat p) → refused k u ≡ lent_rules n p
     unfolding lent_rules
-    five_refused e h = rw (← rule-past 4 n (bad_entry p) e4 h4, ← rule-at 5 n (bad_repeat p) e h)
+    five_refused k u e = rw (← e4, ← e)
 
-    module _ {five : ℕ} (e5 : five ≡ lowest (bad_repeat p) n) (h5 : n ≤ five) where
-      pub six_refused : {u : ℕ} → u ≡ lowest (unreturned p) n → u < n → refused 6 u ≡ lent_rules n p
+    module _ (e5 : passed ≡ rule 5 n (bad_repeat p)) where
+      pub six_refused : (k u : ℕ) → refused k u ≡ rule 6 n (unreturned p) → refused k u ≡ lent_rules n p
       unfolding lent_rules
-      six_refused e h = rw (← rule-past 4 n (bad_entry p) e4 h4, ← rule-past 5 n (bad_repeat p) e5 h5, ← rule-at 6 n (unreturned p) e h)
+      six_refused k u e = rw (← e4, ← e5, ← e)
 
-      module _ {six : ℕ} (e6 : six ≡ lowest (unreturned p) n) (h6 : n ≤ six) where
-        pub seven_refused : {t : ℕ} → entry_count p ≡ t → (t ≡ dart_count n → ⊥) → refused 7 0 ≡ lent_rules n p
-        unfolding lent_rules
-        seven_refused {t} e h =
-            rw (← rule-past 4 n (bad_entry p) e4 h4, ← rule-past 5 n (bad_repeat p) e5 h5, ← rule-past 6 n (unreturned p) e6 h6, e, ne_eqb t (dart_count n) h)
-
-        pub lent-passed : {t : ℕ} → entry_count p ≡ t → t ≡ dart_count n → passed ≡ lent_rules n p
-        unfolding lent_rules
-        lent-passed {t} e h =
-            rw (← rule-past 4 n (bad_entry p) e4 h4, ← rule-past 5 n (bad_repeat p) e5 h5, ← rule-past 6 n (unreturned p) e6 h6, e, eq-eqb t (dart_count n) h)
+      -- 4 to 6 kept: 7 is what is left
+      pub seven_judged : passed ≡ rule 6 n (unreturned p) → {t : Bool} → eqb (entry_count p) (dart_count n) ≡ t → require t 7 0 ≡ lent_rules n p
+      unfolding lent_rules
+      seven_judged e6 e = rw (← e4, ← e5, ← e6, e)

@@ -1,12 +1,12 @@
 -- A file that was framed, judged in parts and copied is opened as the model opens it.
-use Prim.Native.Nat.{ℕ, zero, suc, ◌+◌, ◌*◌, ◌≤◌}
+use Prim.Native.Nat.{ℕ, zero, suc, ◌+◌, ◌*◌, ◌≤◌, min}
 use mathlib.Core.Path.{◌≡◌, refl, sym, ap, ◌∙◌}
 use mathlib.Core.List.{List, ◌∷◌, map}
 use mathlib.Core.Bool.{true}
 use native.Mathlib.Omega.{arith}
 use lib.ListN.{length, get_or, drop}
 use lib.Dec.{eqb}
-use borrow.Author.Tests.{eqb-true}
+use borrow.Author.Tests.{eqb-true, le-leb}
 use Rattle.lists.specs.Ranges.{from}
 use Rattle.lists.specs.Parts.{concat, pairs}
 use Rattle.lists.specs.Spans.{stretch, padded}
@@ -24,7 +24,7 @@ use Rattle.rings.specs.Tables.{start_of, starts_of}
 use Rattle.rings.specs.Lent.{words_at, body_at, lent}
 use Rattle.lent.proofs.Rings.{length-words-at, get_or-words-at, count-lent}
 use Rattle.lent.proofs.Copied.{entry-count-lent}
-use Rattle.framing.specs.Offsets.{word_at}
+use Rattle.arrays.specs.Parts.{word_of, words_every}
 use Rattle.framing.specs.Layouts.{plan_in, chart_from, sheet_with, laid}
 use Rattle.framing.specs.declared.layout.Parts.{Parts}
 use Rattle.framing.specs.declared.layout.Layout.{Layout}
@@ -32,7 +32,7 @@ use Rattle.sheet.specs.declared.Sheet.{Sheet}
 use Rattle.sheet.specs.declared.Stage.TheVariants.{Open, Labelled, Charted}
 use Rattle.sheet.specs.Sheets.{reads, pack, packed}
 use Rattle.sheet.specs.Answers.{packed_as}
-use Rattle.opening.specs.Opening.{lent_rules, lent_of, every_four}
+use Rattle.opening.specs.Opening.{lent_rules, lent_of, due}
 use Rattle.fit.specs.Fits.{fit}
 use Rattle.fit.proofs.Fits.{says-fit}
 use Rattle.sheet.proofs.Packed.{Held, reads-packed}
@@ -100,9 +100,9 @@ sheet_held_lem (file.charted p ls c) f e = (plan-held p f.0 e, f.1 ∙ sym (tota
 
 -- ---- the whole call
 -- a file that is not framed is refused so
-pub open-unframed : (b : List ℕ) (k at : ℕ) → refused k at ≡ decode b → refused k at ≡ packed_as (open_call b)
+pub open_unframed : (b : List ℕ) (k at : ℕ) → refused k at ≡ decode b → refused k at ≡ packed_as (open_call b)
 unfolding packed_as open_call
-open-unframed b k at e = ap (λ (q : Outcome file.Sheet). packed_as (q >>= λ (t : file.Sheet). judge t >> accepted t)) e
+open_unframed b k at e = ap (λ (q : Outcome file.Sheet). packed_as (q >>= λ (t : file.Sheet). judge t >> accepted t)) e
 
 -- one that is framed is judged
 module _ (b : List ℕ) (s : file.Sheet) (is : decode b ≡ accepted s) where
@@ -154,9 +154,9 @@ room_in b l e = go l.parts e
     go (Parts.Chart labels chart) f = kept f
 
 -- 4 to 7 of the plan that stands in the file
-pub lent_there : (b : List ℕ) (l : Layout) → lent_rules l.n (plan_in b l.sizes l.n) ≡ lent_of (laid b l)
+pub lent_there : (b : List ℕ) (l : Layout) {starts : List ℕ} → starts ≡ starts_of l.sizes → lent_rules l.n (lent starts l.sizes b l.n) ≡ lent_of (laid b l)
 unfolding laid lent_of
-lent_there b l = ap (λ (k : ℕ). lent_rules k p) (sym (count-lent (starts_of l.sizes) l.sizes b l.n)) ∙ go l.parts
+lent_there b l e = ap (λ (s : List ℕ). lent_rules l.n (lent s l.sizes b l.n)) e ∙ ap (λ (k : ℕ). lent_rules k p) (sym (count-lent (starts_of l.sizes) l.sizes b l.n)) ∙ go l.parts
   where
     p : Plan
     p = plan_in b l.sizes l.n
@@ -165,6 +165,13 @@ lent_there b l = ap (λ (k : ℕ). lent_rules k p) (sym (count-lent (starts_of l
     go Parts.Plan = refl
     go (Parts.Labels labels) = refl
     go (Parts.Chart labels chart) = refl
+
+-- 7, as the sizes tell it
+pub due_entries : (starts sizes b : List ℕ) (n : ℕ) → 5 ≤ n → n ≤ 200 → eqb (entry_count (lent starts sizes b n)) (dart_count n) ≡ due sizes n
+unfolding due
+due_entries starts sizes b n low few =
+    let m : n ≡ min n 200 = omega arith in
+    rw (le-leb 5 n low) (ap (λ (k : ℕ). eqb k (dart_count n)) (entry-count-lent starts sizes b n ∙ ap (start_of sizes) m))
 
 -- ---- the sheet in a file, packed
 -- how long the rings in a file are
@@ -178,16 +185,16 @@ unfolding lent
 sizes_lent b sizes n = sizes_from (λ (u : ℕ). words_at b (body_at (starts_of sizes) u) (get_or sizes u 0)) sizes (λ u. length-words-at b (body_at (starts_of sizes) u) (get_or sizes u 0)) 0 n
 
 -- the coordinates, taken two by two
-first_numbers : (b : List ℕ) (at a n k : ℕ) → k ≡ 2 * n → map (λ (t : ℕ × ℕ). t.0) (pairs (words_at b (at + 4 * a) k)) ≡ map (λ (u : ℕ). word_at b (at + 4 * u)) (from a n)
+first_numbers : (b : List ℕ) (at a n k : ℕ) → k ≡ 2 * n → map (λ (t : ℕ × ℕ). t.0) (pairs (words_at b (at + 4 * a) k)) ≡ map (λ (u : ℕ). word_of b (at + 4 * u)) (from a n)
 unfolding words_at
 first_numbers b at a zero k e = let z : k ≡ 0 = omega arith in rw z
 first_numbers b at a (suc n) k e =
     let two : k ≡ suc (suc (2 * n)) = omega arith in
     let far : at + 4 * a + 2 + 2 ≡ at + 4 * suc a = omega arith in
     ap (λ (j : ℕ). map (λ (t : ℕ × ℕ). t.0) (pairs (words_at b (at + 4 * a) j))) two
-    ∙ (λ i. word_at b (at + 4 * a) ∷ (ap (λ (j : ℕ). map (λ (t : ℕ × ℕ). t.0) (pairs (words_at b j (2 * n)))) far ∙ first_numbers b at (suc a) n (2 * n) refl) i)
+    ∙ (λ i. word_of b (at + 4 * a) ∷ (ap (λ (j : ℕ). map (λ (t : ℕ × ℕ). t.0) (pairs (words_at b j (2 * n)))) far ∙ first_numbers b at (suc a) n (2 * n) refl) i)
 
-second_numbers : (b : List ℕ) (at a n k : ℕ) → k ≡ 2 * n → map (λ (t : ℕ × ℕ). t.1) (pairs (words_at b (at + 4 * a) k)) ≡ map (λ (u : ℕ). word_at b (at + 2 + 4 * u)) (from a n)
+second_numbers : (b : List ℕ) (at a n k : ℕ) → k ≡ 2 * n → map (λ (t : ℕ × ℕ). t.1) (pairs (words_at b (at + 4 * a) k)) ≡ map (λ (u : ℕ). word_of b (at + 2 + 4 * u)) (from a n)
 unfolding words_at
 second_numbers b at a zero k e = let z : k ≡ 0 = omega arith in rw z
 second_numbers b at a (suc n) k e =
@@ -195,7 +202,7 @@ second_numbers b at a (suc n) k e =
     let here : at + 4 * a + 2 ≡ at + 2 + 4 * a = omega arith in
     let far : at + 4 * a + 2 + 2 ≡ at + 4 * suc a = omega arith in
     ap (λ (j : ℕ). map (λ (t : ℕ × ℕ). t.1) (pairs (words_at b (at + 4 * a) j))) two
-    ∙ (λ i. word_at b (here i) ∷ (ap (λ (j : ℕ). map (λ (t : ℕ × ℕ). t.1) (pairs (words_at b j (2 * n)))) far ∙ second_numbers b at (suc a) n (2 * n) refl) i)
+    ∙ (λ i. word_of b (here i) ∷ (ap (λ (j : ℕ). map (λ (t : ℕ × ℕ). t.1) (pairs (words_at b j (2 * n)))) far ∙ second_numbers b at (suc a) n (2 * n) refl) i)
 
 module _ (b : List ℕ) (at n : ℕ) where
   abbrev Numbers : List ℕ
@@ -208,28 +215,23 @@ module _ (b : List ℕ) (at n : ℕ) where
       let far : at + 2 + 2 ≡ at + 4 + 4 * 0 = omega arith in
       ap (λ (j : ℕ). drop 2 (words_at b at j)) two ∙ ap (λ (j : ℕ). words_at b j (2 * n)) far
 
-  pub w_in : word_at b at ≡ (chart_from b n at).w
+  pub w_in : word_of b at ≡ (chart_from b n at).w
   unfolding chart_in
-  w_in = sym (get_or-words-at b at (2 + 2 * n) 0 (omega arith) ∙ ap (word_at b) (omega arith))
+  w_in = sym (get_or-words-at b at (2 + 2 * n) 0 (omega arith) ∙ ap (word_of b) (omega arith))
 
-  pub h_in : word_at b (at + 2) ≡ (chart_from b n at).h
+  pub h_in : word_of b (at + 2) ≡ (chart_from b n at).h
   unfolding chart_in
-  h_in = sym (get_or-words-at b at (2 + 2 * n) 1 (omega arith) ∙ ap (word_at b) (omega arith))
+  h_in = sym (get_or-words-at b at (2 + 2 * n) 1 (omega arith) ∙ ap (word_of b) (omega arith))
 
-  pub xs_in : every_four b (at + 4) n ≡ (chart_from b n at).xs
-  unfolding chart_in every_four
+  pub xs_in : words_every b (at + 4) 4 n ≡ (chart_from b n at).xs
+  unfolding chart_in words_every
   xs_in = sym (ap (λ (l : List ℕ). map (λ (t : ℕ × ℕ). t.0) (pairs l)) numbers_after ∙ first_numbers b (at + 4) 0 n (2 * n) refl)
 
-  pub ys_in : every_four b (at + 6) n ≡ (chart_from b n at).ys
-  unfolding chart_in every_four
+  pub ys_in : words_every b (at + 6) 4 n ≡ (chart_from b n at).ys
+  unfolding chart_in words_every
   ys_in =
       let far : at + 4 + 2 ≡ at + 6 = omega arith in
-      sym (ap (λ (l : List ℕ). map (λ (t : ℕ × ℕ). t.1) (pairs l)) numbers_after ∙ second_numbers b (at + 4) 0 n (2 * n) refl ∙ ap (λ (j : ℕ). map (λ (u : ℕ). word_at b (j + 4 * u)) (from 0 n)) far)
-
--- the sheet in a file, by what follows its plan
-pub laid-as : (b : List ℕ) (l : Layout) (g : Parts) → l.parts ≡ g → packed (sheet_with b l.n (plan_in b l.sizes l.n) g) ≡ packed (laid b l)
-unfolding laid
-laid-as b l g e = ap (λ (h : Parts). packed (sheet_with b l.n (plan_in b l.sizes l.n) h)) (sym e)
+      sym (ap (λ (l : List ℕ). map (λ (t : ℕ × ℕ). t.1) (pairs l)) numbers_after ∙ second_numbers b (at + 4) 0 n (2 * n) refl ∙ ap (λ (j : ℕ). map (λ (u : ℕ). word_of b (j + 4 * u)) (from 0 n)) far)
 
 -- the struct that each stage makes of the one before it
 module _ (b sizes : List ℕ) (n : ℕ) where
@@ -246,17 +248,17 @@ module _ (b sizes : List ℕ) (n : ℕ) where
   unfolding packed pack
   opened_packed s e whole f = λ i. record (e i) { stage = Open; n = n_in i; sizes = sizes_in whole i; entries = f i }
 
-  pub labelled-packed : {lb : List ℕ} (ls : List ℕ) (s : Sheet) → s ≡ packed (file.opened plan) → lb ≡ padded 1186 ls → record s { stage = Labelled; labels = lb } ≡ packed (file.labelled plan ls)
+  pub labelled_packed : {lb : List ℕ} (ls : List ℕ) (s : Sheet) → s ≡ packed (file.opened plan) → lb ≡ padded 1186 ls → record s { stage = Labelled; labels = lb } ≡ packed (file.labelled plan ls)
   unfolding packed pack
-  labelled-packed ls s e f = λ i. record (e i) { stage = Labelled; labels = f i }
+  labelled_packed ls s e f = λ i. record (e i) { stage = Labelled; labels = f i }
 
-  pub charted-packed : {xs ys : List ℕ} (ls : List ℕ) (at : ℕ) {w h : ℕ} (s : Sheet) → s ≡ packed (file.labelled plan ls) → w ≡ word_at b at → h ≡ word_at b (at + 2) → xs ≡ padded 200 (every_four b (at + 4) n) → ys ≡ padded 200 (every_four b (at + 6) n)
+  pub charted_packed : {xs ys : List ℕ} (ls : List ℕ) (at : ℕ) {w h : ℕ} (s : Sheet) → n ≤ 200 → s ≡ packed (file.labelled plan ls) → w ≡ word_of b at → h ≡ word_of b (at + 2) → xs ≡ padded 200 (words_every b (at + 4) 4 (min n 200)) → ys ≡ padded 200 (words_every b (at + 6) 4 (min n 200))
       → record s { stage = Charted; w = w; h = h; xs = xs; ys = ys } ≡ packed (file.charted plan ls (chart_from b n at))
   unfolding packed pack
-  charted-packed ls at s e f g x y = λ i. record (e i) {
+  charted_packed ls at s few e f g x y = let all : min n 200 ≡ n = omega arith in λ i. record (e i) {
     stage = Charted;
     w = (f ∙ w_in b at n) i;
     h = (g ∙ h_in b at n) i;
-    xs = (x ∙ ap (padded 200) (xs_in b at n)) i;
-    ys = (y ∙ ap (padded 200) (ys_in b at n)) i;
+    xs = (x ∙ ap (λ (k : ℕ). padded 200 (words_every b (at + 4) 4 k)) all ∙ ap (padded 200) (xs_in b at n)) i;
+    ys = (y ∙ ap (λ (k : ℕ). padded 200 (words_every b (at + 6) 4 k)) all ∙ ap (padded 200) (ys_in b at n)) i;
   }

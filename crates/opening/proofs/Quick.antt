@@ -6,12 +6,12 @@ use mathlib.Core.Bool.{Bool, true, false, cond}
 use native.Mathlib.Omega.{arith}
 use lib.ListN.{length}
 use lib.Dec.{eqb, leb}
-use borrow.Author.Tests.{leb-true, eqb-true, le-leb}
+use borrow.Author.Tests.{leb-true, eqb-true, le-leb, eq-eqb}
 use Rattle.lists.specs.Parts.{concat}
 use Rattle.lists.specs.Spans.{stretch, padded}
 use Rattle.lists.proofs.Bools.{and_yes}
 use Rattle.model.specs.Outcome.{passed}
-use Rattle.model.specs.Plan.{Plan, count, dart_count}
+use Rattle.model.specs.Plan.{Plan, count, bad_entry, bad_repeat, unreturned, bad_border, bad_face, dart_count}
 use Rattle.model.specs.Chart.{Chart}
 use Rattle.model.specs.File as file
 use Rattle.rings.specs.Tables.{start_of, starts_of, table}
@@ -28,14 +28,14 @@ use Rattle.sound.specs.Sound.{sound}
 use Rattle.sound.proofs.Sound.{four_kept, five_kept, six_kept, eight_kept, nine_kept}
 use Rattle.opening.specs.Opening.{lent_rules, lent_of, due}
 use Rattle.judging.specs.Rules.{flat_rules, flat_of, rules_from_10, rules_from_8}
-use Rattle.judging.proofs.Rules.{flat-passed, first-passed}
-use Rattle.opening.proofs.Lent.{lent-passed}
+use Rattle.judging.proofs.Rules.{first-passed}
+use Rattle.opening.proofs.Lent.{rule_kept, seven_judged}
 use Rattle.opening.proofs.Opened.{sizes_lent}
 
 -- ---- the test as the code makes it
-pub due-total : (sizes : List ℕ) (n : ℕ) {t : ℕ} → 5 ≤ n → t ≡ start_of sizes (min n 200) → eqb t (6 * n - 14) ≡ due sizes n
+pub due_total : (sizes : List ℕ) (n : ℕ) {t : ℕ} → 5 ≤ n → t ≡ start_of sizes (min n 200) → eqb t (6 * n - 14) ≡ due sizes n
 unfolding due
-due-total sizes n h e = ap (λ (k : ℕ). eqb k (dart_count n)) e ∙ sym (rw (le-leb 5 n h))
+due_total sizes n h e = ap (λ (k : ℕ). eqb k (dart_count n)) e ∙ sym (rw (le-leb 5 n h))
 
 -- ---- what it says
 due-says : (sizes : List ℕ) (n : ℕ) → n ≤ 200 → due sizes n ≡ true → (5 ≤ n) × (start_of sizes n ≡ dart_count n)
@@ -51,7 +51,10 @@ due-room sizes n few e = let (a, b) = due-says sizes n few e in omega arith
 
 -- 8 and 9
 quick_flat : (p : Plan) → sound p ≡ true → passed ≡ flat_rules (count p) p
-quick_flat p e = flat-passed (count p) p refl (eight_kept p e) (nine_kept p e) (omega arith)
+unfolding flat_rules
+quick_flat p e =
+    let here : count p ≤ count p = omega arith in
+    rw (← rule_kept 8 4 (bad_border p) refl (eight_kept p e), ← rule_kept 9 (count p) (bad_face p) (nine_kept p e) here)
 
 -- so 10 to 12 are what is left
 pub quick_held : (t : Sheet) → sound (held_plan t) ≡ true → rules_from_10 (reads t) ≡ rules_from_8 (reads t)
@@ -82,7 +85,10 @@ module _ (b sizes : List ℕ) (n : ℕ) (few : n ≤ 200) where
       let (_, total) = due-says sizes n few d in
       let size = count-lent (starts_of sizes) sizes b n in
       let here : count plan ≤ count plan = omega arith in
-      lent-passed (count plan) plan (four_kept plan s) here (five_kept plan s) here (six_kept plan s) here (entry-count-lent (starts_of sizes) sizes b n) (total ∙ ap dart_count (sym size))
+      let four = rule_kept 4 (count plan) (bad_entry plan) (four_kept plan s) here in
+      let five = rule_kept 5 (count plan) (bad_repeat plan) (five_kept plan s) here in
+      let six = rule_kept 6 (count plan) (unreturned plan) (six_kept plan s) here in
+      seven_judged (count plan) plan four five six (eq-eqb _ _ (entry-count-lent (starts_of sizes) sizes b n ∙ total ∙ ap dart_count (sym size)))
 
 -- 4 to 7 of what a layout finds
 pub quick_laid : (b : List ℕ) (l : Layout) → due l.sizes l.n ≡ true → (t : Sheet) → t ≡ packed (laid b l) → sound (held_plan t) ≡ true → passed ≡ lent_of (laid b l)

@@ -1,12 +1,10 @@
 -- Opening a file: the rules 4 to 7, which are judged where the rings stand in the file, and what is copied from it.
-use Rattle.std.specs.Prelude.{ℕ, ◌+◌, ◌*◌, min, List, map, Bool, ◌&&◌, eqb, leb}
-use Rattle.lists.specs.Ranges.{from}
+use Rattle.std.specs.Prelude.{ℕ, min, List, Bool, ◌&&◌, eqb, leb}
 use Rattle.model.specs.Outcome as model
 use Rattle.model.specs.Outcome.{passed, require, rule, ◌>>◌}
 use Rattle.model.specs.Plan.{Plan, count, bad_entry, bad_repeat, unreturned, entry_count, dart_count}
 use Rattle.model.specs.File as file
 use Rattle.rings.specs.Tables.{start_of}
-use Rattle.framing.specs.Offsets.{word_at}
 
 -- 4 to 7, which are judged in the file
 unfoldable pub lent_rules : ℕ → Plan → model.Outcome (Unit {0})
@@ -26,7 +24,3 @@ lent_of (file.charted p ls c) = lent_rules (count p) p
 -- 5 contexts or more, with as many entries as 7 asks for
 unfoldable pub due : List ℕ → ℕ → Bool
 due sizes n = leb 5 n && eqb (start_of sizes (min n 200)) (dart_count n)
-
--- n numbers of two bytes from an offset on, one every four bytes
-unfoldable pub every_four : List ℕ → ℕ → ℕ → List ℕ
-every_four file at n = map (λ (u : ℕ). word_at file (at + 4 * u)) (from 0 n)

@@ -15,10 +15,10 @@ pub enum Record {
 
 impl Record {
     // The number that stands for this kind in a file.
-    pub fn number(self) -> usize
+    pub fn number(self) -> u16
         ensures value { result ≡ number_of self }
         ensures upper_bound { result ≤ 4 }
     {
-        self as usize
+        self as u16
     }
 }

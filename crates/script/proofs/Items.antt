@@ -3,6 +3,7 @@ use Prim.Native.Nat.{ℕ, ◌+◌, ◌-◌, ◌≤◌, ◌<◌}
 use mathlib.Core.Path.{◌≡◌, refl, sym, ap, ◌∙◌}
 use mathlib.Core.List.{List}
 use mathlib.Core.Bool.{Bool, true, false, cond, ◌&&◌, and-false}
+use mathlib.Core.Logic.{◌⊎◌, inl, inr}
 use mathlib.Core.Option.{Option, none, some, none-ne-some, some-injective}
 use native.Mathlib.Omega.{arith}
 use lib.ListN.{length, get_or, take, drop}
@@ -99,9 +100,14 @@ module _ (s : List ℕ) where
   item-short h = rw (lt-leb 4 (length s) h)
 
   -- an argument that reaches past the end
-  pub item-past : length s - 4 < argument_size s → call_at s ≡ none
+  item-past : length s - 4 < argument_size s → call_at s ≡ none
   unfolding call_at
   item-past h = rw (lt-leb (argument_size s) (length s - 4) h, and-false)
+
+  -- so where the code finds no such argument
+  pub item-cut : {size : ℕ} → size ≡ argument_size s → 4 ≤ length s → (4 + size < 4) ⊎ (length s < 4 + size) → call_at s ≡ none
+  item-cut e l (inl h) = let never : ⊥ = omega arith in absurd never
+  item-cut e l (inr h) = item-past (omega arith)
 
   -- an item that is all there, with its argument as the code lends it
   pub item_whole : {kind size : ℕ} → kind ≡ get_or s 0 0 → size ≡ argument_size s → 4 ≤ length s → size ≤ length s - 4 → call_of kind (take (4 + size - 4) (drop 4 s)) ≡ call_at s

@@ -1,5 +1,5 @@
 -- The argument of a turn: its numbers of two bytes, copied into an array and read from its front, and which arguments are malformed.
-use Prim.Native.Nat.{ℕ, ◌+◌, ◌-◌, ◌*◌, ◌%◌, ◌≤◌, ◌<◌}
+use Prim.Native.Nat.{ℕ, ◌+◌, ◌-◌, ◌*◌, ◌%◌, ◌≤◌, ◌<◌, min}
 use mathlib.Core.Path.{◌≡◌, refl, sym, ap, ◌∙◌}
 use mathlib.Core.List.{List, map}
 use mathlib.Core.Bool.{and-false}
@@ -12,38 +12,37 @@ use Rattle.lists.specs.Ranges.{from}
 use Rattle.lists.specs.Words.{words}
 use Rattle.lists.specs.Spans.{zeros, padded}
 use Rattle.lists.proofs.Ranges.{length-map-from, get_or-map-from}
-use Rattle.lists.proofs.Loops.{Fills}
+use Rattle.lists.proofs.Spans.{stretch_part}
 use Rattle.model.specs.CallLists.{turn_edges}
 use Rattle.rings.specs.Lent.{words_at}
 use Rattle.lent.proofs.Rings.{length-words-at, get_or-words-at}
-use Rattle.framing.specs.Offsets.{word_at}
-use Rattle.framing.proofs.Offsets.{take-stretch, words-stretch}
+use Rattle.arrays.specs.Parts.{word_of, words_every}
+use Rattle.framing.proofs.Offsets.{words-stretch}
 use Rattle.script.specs.Scripts.{turn_of}
 
 -- numbers of two bytes, one by one
-words-map : (s : List ℕ) (at k : ℕ) → map (λ (i : ℕ). word_at s (at + 2 * i)) (from 0 k) ≡ words_at s at k
-words-map s at k =
-    let f : ℕ → ℕ = λ (i : ℕ). word_at s (at + 2 * i) in
+words-every : (s : List ℕ) (at k : ℕ) → words_every s at 2 k ≡ words_at s at k
+unfolding words_every
+words-every s at k =
+    let f : ℕ → ℕ = λ (i : ℕ). word_of s (at + 2 * i) in
     ext_get_or 0 (map f (from 0 k)) (words_at s at k) (length-map-from f 0 k ∙ sym (length-words-at s at k))
     (λ i h.
     let b : i < k = let q = length-map-from f 0 k in omega arith in
     let z : 0 + i ≡ i = omega arith in
     get_or-map-from f 0 k i 0 b ∙ ap f z ∙ sym (get_or-words-at s at k i b))
 
--- an array that was filled with the first k numbers
-pub numbers_copied : (a : List ℕ) {k i : ℕ} {b : List ℕ} → Fills 1200 (λ (t : ℕ). word_at a (1 + 2 * t)) i b → i ≡ k → b ≡ padded 1200 (words_at a 1 k)
-numbers_copied a {k} f e = f.same ∙ ap (λ (j : ℕ). padded 1200 (map (λ (t : ℕ). word_at a (1 + 2 * t)) (from 0 j))) e ∙ ap (padded 1200) (words-map a 1 k)
-
 -- all numbers behind the direction
 words-behind : (a : List ℕ) (k : ℕ) → length a ≡ 1 + 2 * k → words (drop 1 a) ≡ words_at a 1 k
 words-behind a k e =
     let long = length-drop 1 a in
-    ap words (sym (take_all (2 * k) (drop 1 a) (omega arith)) ∙ take-stretch a 1 (2 * k) (omega arith)) ∙ words-stretch a 1 k (2 * k) refl
+    ap words (sym (take_all (2 * k) (drop 1 a) (omega arith)) ∙ sym (stretch_part a 1 (2 * k) (omega arith))) ∙ words-stretch a 1 k (2 * k) refl
 
 -- the front of the array is the list of all numbers
-pub numbers_front : (a b : List ℕ) (k : ℕ) → length a ≡ 1 + 2 * k → b ≡ padded 1200 (words_at a 1 k) → take k b ≡ words (drop 1 a)
+pub numbers_front : (a b : List ℕ) (k : ℕ) → k ≤ 1200 → length a ≡ 1 + 2 * k → b ≡ padded 1200 (words_every a 1 2 (min k 1200)) → take k b ≡ words (drop 1 a)
 unfolding padded
-numbers_front a b k e f = ap (take k) f ∙ take_at (words_at a 1 k) (zeros (1200 - length (words_at a 1 k))) k (length-words-at a 1 k) ∙ sym (words-behind a k e)
+numbers_front a b k h e f =
+    let all : min k 1200 ≡ k = omega arith in
+    ap (take k) (f ∙ ap (λ (j : ℕ). padded 1200 (words_every a 1 2 j)) all ∙ ap (padded 1200) (words-every a 1 k)) ∙ take_at (words_at a 1 k) (zeros (1200 - length (words_at a 1 k))) k (length-words-at a 1 k) ∙ sym (words-behind a k e)
 
 -- no direction, or an odd byte over
 pub turn_even : (a : List ℕ) → (length a % 2 ≡ 1 → ⊥) → turn_of a ≡ none

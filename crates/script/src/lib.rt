@@ -9,9 +9,7 @@
 // An item is malformed where fewer than 4 bytes are left, where its argument reaches past the end, and where its kind is none of these or its argument not one of its kind. A script ends at its first malformed item, or else at its end. A call that is refused is run like any other: the script goes on.
 #![tactic(auto)]
 
-ghost use Rattle.std.specs.Prelude.{◌≡◌, ◌+◌, ◌≤◌, ◌<◌, ◌^◌};
-ghost use Rattle.lists.specs.Spans.{padded};
-ghost use Rattle.rings.specs.Lent.{words_at};
+ghost use Rattle.std.specs.Prelude.{◌≡◌, ◌+◌, ◌*◌};
 ghost use Rattle.guarantee.specs.Engine.{start, left};
 ghost use Rattle.guarantee.specs.Guarantee.{Guarantee};
 ghost use Rattle.script.specs.Scripts.{argument_size, turn_of, call_of, call_at, calls_of, end_of};
@@ -58,31 +56,16 @@ fn kind_of(number: u8) -> Option<Kind>
     }
 }
 
-// The first k numbers of two bytes behind the direction, and zeros behind them.
-fn numbers_of(argument: &[u8], k: usize) -> [u16; 1200]
-    requires { k ≤ 1200 }
-    ensures { result ≡ padded 1200 (words_at argument.now 1 k) }
-{
-    let mut numbers = [0u16; 1200];
-    for i in 0..k {
-        numbers[i] = arrays::word_at(argument, 1 + 2 * i) as u16;
-    }
-    numbers
-}
-
 // An item of the kind turn: malformed without a direction, with an odd byte over, or with more than 1200 numbers.
 fn run_turn(sheet: Sheet, argument: &[u8]) -> Option<Result<Sheet, Refusal>>
     ensures { ran result ≡ answered sheet (turn_of argument.now) }
 {
     let long = argument.len();
-    if long % 2 != 1 {
-        return None;
-    }
-    if 2401 < long {
+    if long % 2 != 1 || 2401 < long {
         return None;
     }
     let k = long / 2;
-    let numbers = numbers_of(argument, k);
+    let numbers = arrays::words::<1200>(argument, 1, 2, k);
     Some(calls::turn(sheet, &numbers[..k], argument[0]))
 }
 
@@ -100,28 +83,23 @@ fn run_call(sheet: Sheet, kind: Kind, argument: &[u8]) -> Option<Result<Sheet, R
     }
 }
 
-// The size of the argument of the item that the bytes begin with.
-fn argument_size(rest: &[u8]) -> usize
-    ensures value { result ≡ argument_size rest.now }
-    ensures upper_bound { result < 2 ^ 24 }
+// The size of an argument by its three bytes.
+fn size_of(low: u8, middle: u8, high: u8) -> usize
+    ensures { result ≡ low + 256 * middle + 65536 * high }
 {
-    arrays::word_at(rest, 1) + 65536 * arrays::num(rest, 3)
+    usize::from_le_bytes([low, middle, high, 0, 0, 0, 0, 0])
 }
 
 // The item that the bytes begin with; nothing where it is malformed.
 fn run_item(sheet: Sheet, rest: &[u8]) -> Option<Step>
     ensures { result ≡ stepped sheet (4 + argument_size rest.now) (call_at rest.now) }
 {
-    if rest.len() < 4 {
+    let [kind, low, middle, high, ..] = *rest else {
         return None;
-    }
-    let size = argument_size(rest);
-    if rest.len() - 4 < size {
-        return None;
-    }
-    let end = 4 + size;
-    let kind = kind_of(rest[0])?;
-    let answer = run_call(sheet, kind, &rest[4..end])?;
+    };
+    let end = 4 + size_of(low, middle, high);
+    let argument = rest.get(4..end)?;
+    let answer = run_call(sheet, kind_of(kind)?, argument)?;
     Some(Step {
         sheet: answer.unwrap_or(sheet),
         size: end,

@@ -1,46 +1,37 @@
--- Stores one after the other from a place of a buffer on: how they join, what the buffer is afterwards, and what a loop of them keeps.
+-- What a buffer holds after a store from its beginning on, and what a loop of puts keeps.
 use Prim.Native.Nat.{ℕ, suc, ◌+◌, ◌-◌, ◌≤◌, ◌<◌}
 use mathlib.Core.Path.{◌≡◌, refl, sym, ap, ◌∙◌}
 use mathlib.Core.List.{List, [], ◌∷◌, ◌++◌, map}
 use native.Mathlib.Omega.{arith}
-use lib.ListN.{length, get_or, drop, set}
-use lib.Seq.{sets, length-sets, sets-eq}
+use lib.ListN.{length, get_or, drop}
+use lib.Seq.{sets, sets-eq}
 use Rattle.lists.specs.Ranges.{from}
 use Rattle.lists.specs.Spans.{stretch}
 use Rattle.lists.specs.Words.{bytes}
 use Rattle.model.specs.File.{entry, points, rings_out}
-
--- two lists stored one after the other
-pub sets_append : (d : List ℕ) (i : ℕ) (x y : List ℕ) → sets d i (x ++ y) ≡ sets (sets d i x) (i + length x) y
-sets_append d i [] y = let z : i ≡ i + 0 = omega arith in ap (λ (j : ℕ). sets d j y) z
-sets_append d i (a ∷ x) y = let z : suc i + length x ≡ i + suc (length x) = omega arith in sets_append (set d i a) (suc i) x y ∙ ap (λ (j : ℕ). sets (sets (set d i a) (suc i) x) j y) z
+use Rattle.writing.specs.declared.Buffer.{Buffer}
+use Rattle.writing.specs.Puts.{Put}
+use Rattle.writing.proofs.Puts.{put-none, put_join, put_as}
 
 -- what is stored from the beginning on, and the later entries as they were
 pub sets_front : (d l : List ℕ) → length l ≤ length d → sets d 0 l ≡ l ++ drop (length l) d
 sets_front d l h = let z : 0 + length l ≡ length l = omega arith in sets-eq l d 0 (omega arith) ∙ ap (λ (k : ℕ). l ++ drop k d) z
 
--- ---- a list is being stored in d₀ from place `at` on: what is left is still to be stored in d from place `to` on
-pub record Emits (d₀ : List ℕ) (at : ℕ) (all : List ℕ) (d : List ℕ) (to : ℕ) (left : List ℕ) : Type 0 where
-  pub same : sets d₀ at all ≡ sets d to left
+-- ---- a text is being put: what is left, put into the buffer as it is now, makes the whole text, put into the buffer as it was at first
+pub record Emits (first : Buffer) (all : List ℕ) (now : Buffer) (left : List ℕ) : Type 0 where
+  pub rest : (w : Buffer) → Put now left w → Put first all w
 
-pub emits_start : {d : List ℕ} {at to : ℕ} {all left : List ℕ} → to ≡ at → left ≡ all → Emits d at all d to left
-emits_start {d} p q = record { same = λ i. sets d (sym p i) (sym q i) }
+pub emits_start : {b : Buffer} {all left : List ℕ} → left ≡ all → Emits b all b left
+emits_start e = record { rest = λ w q. put_as q e }
 
-module _ {d₀ : List ℕ} {at : ℕ} {all d : List ℕ} {to : ℕ} {left : List ℕ} (inv : Emits d₀ at all d to left) where
-  pub emits_on : (x : List ℕ) {d' : List ℕ} {to' : ℕ} {left' : List ℕ} → left ≡ x ++ left' → d' ≡ sets d to x → to' ≡ to + length x → Emits d₀ at all d' to' left'
-  emits_on x {d'} {to'} {left'} e q t = record { same = inv.same ∙ ap (sets d to) e ∙ sets_append d to x left' ∙ (λ i. sets (sym q i) (sym t i) left') }
+module _ {first : Buffer} {all : List ℕ} {b : Buffer} {left : List ℕ} (inv : Emits first all b left) where
+  pub emits_on : {x : List ℕ} {c : Buffer} {later : List ℕ} → Put b x c → left ≡ x ++ later → Emits first all c later
+  emits_on p e = record { rest = λ w q. inv.rest w (put_as (put_join p q) (sym e)) }
 
-  pub emits_end : left ≡ [] → d ≡ sets d₀ at all
-  emits_end e = sym (inv.same ∙ ap (sets d to) e)
-
-  pub emits_size : length d ≡ length d₀
-  emits_size = sym (length-sets d to left) ∙ ap length (sym inv.same) ∙ length-sets d₀ at all
+  pub emits_end : left ≡ [] → Put first all b
+  emits_end e = inv.rest b (put_as (put-none b) (sym e))
 
 -- ---- what is left of k entries after j of them
-pub bytes_two : (x : ℕ) → length (bytes (x ∷ [])) ≡ 2
-unfolding bytes
-bytes_two x = refl
-
 pub bytes-cons : (x : ℕ) (l : List ℕ) → bytes (x ∷ l) ≡ bytes (x ∷ []) ++ bytes l
 unfolding bytes
 bytes-cons x l = refl

@@ -86,6 +86,9 @@ length-chart w h xs ys n k q =
     let l = length-entry 4 (bytes (chart_out (chart_held w h xs ys n))) in
     omega arith
 
+-- the length of a record, for the functions that count it
+pub ruleset part_lengths = (length-plan, length-labels, length-chart)
+
 -- ---- the whole file, by its parts
 module _ (t : Table) where
   -- the records of the plan
@@ -117,3 +120,6 @@ module _ (t : Table) where
       let ps = plan_part in
       let lp = labels_part ls.now in
       (λ i. e i + f i + g i) ∙ (λ i. sym (length-append ps lp) i + length (chart_part d)) ∙ sym (length-append (ps ++ lp) (chart_part d)) ∙ ap Long (sym q)
+
+-- the length of the file, by its parts
+pub ruleset file_lengths = (length-opened, length-labelled, length-charted)

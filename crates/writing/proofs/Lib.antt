@@ -1,3 +1,4 @@
+pub mod Puts
 pub mod Emits
 pub mod Lengths
 pub mod Pieces

@@ -1,12 +1,11 @@
 -- The file from its pieces, each stored behind the one before.
 use Prim.Native.Nat.{ℕ, ◌+◌, ◌*◌, ◌≤◌, ◌<◌}
 use mathlib.Core.Path.{◌≡◌, refl, sym, ap, ◌∙◌}
-use mathlib.Core.List.{List, [], ◌∷◌, ◌++◌, map, append_assoc}
+use mathlib.Core.List.{List, [], ◌∷◌, ◌++◌, map}
 use native.Mathlib.Omega.{arith}
-use lib.ListN.{length, get_or, drop, length-append}
+use lib.ListN.{length, get_or, drop}
 use lib.Seq.{sets}
 use borrow.Author.Tests.{le-leb, lt-leb}
-use Rattle.model.proofs.FileWrite.{length-entry}
 use Rattle.lists.specs.Ranges.{from}
 use Rattle.lists.specs.Spans.{stretch}
 use Rattle.lists.specs.Words.{bytes}
@@ -25,31 +24,27 @@ use Rattle.rings.specs.declared.Table.{Table}
 use Rattle.writing.specs.Files.{kept, darts_held, labels_held, chart_held, sheet_with, outcome_of, buffer_after}
 use Rattle.charts.specs.declared.Points.{Points}
 use Rattle.writing.specs.declared.Parts.{Parts}
-use Rattle.writing.proofs.Emits.{sets_append, sets_front, bytes_two, bytes-cons}
+use Rattle.writing.specs.declared.Buffer.{Buffer}
+use Rattle.writing.specs.Puts.{Put}
+use Rattle.writing.proofs.Puts.{put_join, put_as}
+use Rattle.writing.proofs.Emits.{sets_front, bytes-cons}
 use Rattle.writing.proofs.Lengths.{length-body, plan_part, labels_part, chart_part}
 
--- y stored behind x
-pub sets_join : (d : List ℕ) (i : ℕ) (x y : List ℕ) {d' e : List ℕ} {j : ℕ} → d' ≡ sets d i x → j ≡ i + length x → e ≡ sets d' j y → e ≡ sets d i (x ++ y)
-sets_join d i x y p q r = r ∙ (λ t. sets (p t) (q t) y) ∙ sym (sets_append d i x y)
-
 -- a number behind a number
-pub words_join : (d : List ℕ) (i a b : ℕ) {d' e : List ℕ} {j : ℕ} → d' ≡ sets d i (bytes (a ∷ [])) → j ≡ i + 2 → e ≡ sets d' j (bytes (b ∷ [])) → e ≡ sets d i (bytes (a ∷ b ∷ []))
-words_join d i a b p q r = let two = bytes_two a in sets_join d i (bytes (a ∷ [])) (bytes (b ∷ [])) p (omega arith) r ∙ ap (sets d i) (sym (bytes-cons a (b ∷ [])))
+pub words_join : {w m n : Buffer} (a b : ℕ) → Put w (bytes (a ∷ [])) m → Put m (bytes (b ∷ [])) n → Put w (bytes (a ∷ b ∷ [])) n
+words_join a b p q = put_as (put_join p q) (sym (bytes-cons a (b ∷ [])))
 
 -- a record: the body behind its head
-pub entry_join : (d : List ℕ) (i kind k : ℕ) (body : List ℕ) {d' e : List ℕ} {j : ℕ} → k ≡ length body → d' ≡ sets d i (bytes ((2 + k) ∷ kind ∷ [])) → j ≡ i + 4 → e ≡ sets d' j body → e ≡ sets d i (entry kind body)
+pub entry_join : {w m n : Buffer} (kind k : ℕ) {body : List ℕ} → k ≡ length body → Put w (bytes ((2 + k) ∷ kind ∷ [])) m → Put m body n → Put w (entry kind body) n
 unfolding entry
-entry_join d i kind k body l p q r =
-    let four = length-bytes ((2 + k) ∷ kind ∷ []) in
-    sets_join d i (bytes ((2 + k) ∷ kind ∷ [])) body p (omega arith) r ∙ ap (λ (m : ℕ). sets d i (bytes ((2 + m) ∷ kind ∷ []) ++ body)) l
+entry_join kind k {body} l p q = put_as (put_join p q) (ap (λ (m : ℕ). bytes ((2 + m) ∷ kind ∷ []) ++ body) l)
 
 -- a ring's record
-pub ring_join : (d : List ℕ) (i : ℕ) (es : List ℕ) (from k : ℕ) {d' e : List ℕ} {j : ℕ} → d' ≡ sets d i (bytes ((2 + 2 * k) ∷ 2 ∷ [])) → j ≡ i + 4 → e ≡ sets d' j (bytes (stretch es from k)) → e ≡ sets d i (entry 2 (bytes (stretch es from k)))
-ring_join d i es from k p q r =
+pub ring_join : {w m n : Buffer} (es : List ℕ) (from k h : ℕ) → h ≡ k → Put w (bytes ((2 + 2 * h) ∷ 2 ∷ [])) m → Put m (bytes (stretch es from k)) n → Put w (entry 2 (bytes (stretch es from k))) n
+ring_join es from k h e p q =
     let b = length-bytes (stretch es from k) in
     let s = length-stretch es from k in
-    let l : 2 * k ≡ length (bytes (stretch es from k)) = omega arith in
-    entry_join d i 2 (2 * k) (bytes (stretch es from k)) l p q r
+    entry_join 2 (2 * h) (omega arith) p q
 
 -- ---- the rings of a table
 abbrev pub table_row : List ℕ → List ℕ → ℕ → List ℕ
@@ -67,61 +62,47 @@ table-row sizes es u i k h p q =
     λ t. stretch es ((p ∙ sym s) t) (q t)
 
 -- ---- the three parts
-pub plan_join : (d : List ℕ) (i : ℕ) (sizes es : List ℕ) (n k : ℕ) {d₁ d₂ e : List ℕ} {i₁ i₂ : ℕ} → k ≡ kept n
-    → d₁ ≡ sets d i (bytes ((2 + 2) ∷ 1 ∷ [])) → i₁ ≡ i + 4 → d₂ ≡ sets d₁ i₁ (bytes (k ∷ [])) → i₂ ≡ i + 6 → e ≡ sets d₂ i₂ (rings_out (table sizes es k).rings)
-    → e ≡ sets d i (plan_out (held sizes es n))
+pub plan_join : {w m n o : Buffer} (sizes es : List ℕ) (c k : ℕ) → k ≡ kept c
+    → Put w (bytes ((2 + 2) ∷ 1 ∷ [])) m → Put m (bytes (k ∷ [])) n → Put n (rings_out (table sizes es k).rings) o → Put w (plan_out (held sizes es c)) o
 unfolding plan_out held table
-plan_join d i sizes es n k {d₁} {d₂} {e} {i₁} q p₁ a p₂ b p₃ =
-    let c : k ≡ count (table sizes es k) = sym (count-rows (starts_of sizes) sizes es k) in
+plan_join sizes es c k q p₁ p₂ p₃ =
+    let e : k ≡ count (table sizes es k) = sym (count-rows (starts_of sizes) sizes es k) in
     let two = length-bytes (count (table sizes es k) ∷ []) in
-    let long = length-entry 1 (bytes (count (table sizes es k) ∷ [])) in
-    let head = entry_join d i 1 2 (bytes (count (table sizes es k) ∷ [])) (omega arith) p₁ a (p₂ ∙ ap (λ (m : ℕ). sets d₁ i₁ (bytes (m ∷ []))) c) in
-    sets_join d i (entry 1 (bytes (count (table sizes es k) ∷ []))) (rings_out (table sizes es k).rings) head (omega arith) p₃ ∙ ap (λ (m : ℕ). sets d i (plan_out (table sizes es m))) q
+    let head = entry_join 1 2 {body = bytes (count (table sizes es k) ∷ [])} (omega arith) p₁ (put_as p₂ (ap (λ (i : ℕ). bytes (i ∷ [])) e)) in
+    put_as (put_join head p₃) (ap (λ (i : ℕ). plan_out (table sizes es i)) q)
 
-pub labels_join : (d : List ℕ) (i : ℕ) (sizes ls : List ℕ) (n k : ℕ) {d₁ e : List ℕ} {i₁ : ℕ} → k ≡ darts_held sizes n
-    → d₁ ≡ sets d i (bytes ((2 + k) ∷ 3 ∷ [])) → i₁ ≡ i + 4 → e ≡ sets d₁ i₁ (stretch ls 0 k) → e ≡ sets d i (entry 3 (labels_held sizes ls n))
+pub labels_join : {w m n : Buffer} (sizes ls : List ℕ) (c k : ℕ) → k ≡ darts_held sizes c
+    → Put w (bytes ((2 + k) ∷ 3 ∷ [])) m → Put m (stretch ls 0 k) n → Put w (entry 3 (labels_held sizes ls c)) n
 unfolding labels_held
-labels_join d i sizes ls n k q p₁ a p₂ =
-    let s = length-stretch ls 0 k in
-    entry_join d i 3 k (stretch ls 0 k) (sym s) p₁ a p₂ ∙ ap (λ (m : ℕ). sets d i (entry 3 (stretch ls 0 m))) q
+labels_join sizes ls c k q p₁ p₂ = put_as (entry_join 3 k (sym (length-stretch ls 0 k)) p₁ p₂) (ap (λ (i : ℕ). entry 3 (stretch ls 0 i)) q)
 
-pub chart_join : (d : List ℕ) (i w h : ℕ) (xs ys : List ℕ) (n k : ℕ) {d₁ d₂ d₃ e : List ℕ} {i₁ i₂ i₃ : ℕ} → k ≡ kept n
-    → d₁ ≡ sets d i (bytes ((2 + (4 + 4 * k)) ∷ 4 ∷ [])) → i₁ ≡ i + 4 → d₂ ≡ sets d₁ i₁ (bytes (w ∷ [])) → i₂ ≡ i + 6 → d₃ ≡ sets d₂ i₂ (bytes (h ∷ [])) → i₃ ≡ i + 8
-    → e ≡ sets d₃ i₃ (bytes (points (stretch xs 0 k) (stretch ys 0 k))) → e ≡ sets d i (entry 4 (bytes (chart_out (chart_held w h xs ys n))))
+pub chart_join : {a b c d e : Buffer} (w h : ℕ) (xs ys : List ℕ) (n k : ℕ) → k ≡ kept n
+    → Put a (bytes ((2 + (4 + 4 * k)) ∷ 4 ∷ [])) b → Put b (bytes (w ∷ [])) c → Put c (bytes (h ∷ [])) d
+    → Put d (bytes (points (stretch xs 0 k) (stretch ys 0 k))) e → Put a (entry 4 (bytes (chart_out (chart_held w h xs ys n)))) e
 unfolding chart_out chart_held
-chart_join d i w h xs ys n k {d₁} {d₂} {d₃} {e} {i₁} {i₂} {i₃} q p₁ a p₂ b p₃ c p₄ =
-    let size = length-body w h xs ys n k q in
-    let two = bytes_two w in
-    let four = length-bytes (w ∷ h ∷ []) in
+chart_join w h xs ys n k q p₁ p₂ p₃ p₄ =
     let pts = points (stretch xs 0 (kept n)) (stretch ys 0 (kept n)) in
-    let wh = words_join d₁ i₁ w h p₂ (omega arith) p₃ in
-    let body = sets_join d₁ i₁ (bytes (w ∷ h ∷ [])) (bytes pts) wh (omega arith) (p₄ ∙ ap (λ (m : ℕ). sets d₃ i₃ (bytes (points (stretch xs 0 m) (stretch ys 0 m)))) q) in
-    entry_join d i 4 (4 + 4 * k) (bytes (chart_out (chart_held w h xs ys n))) (sym size) p₁ a (body ∙ ap (sets d₁ i₁) (sym (bytes-cons w (h ∷ pts) ∙ ap (λ (l : List ℕ). bytes (w ∷ []) ++ l) (bytes-cons h pts) ∙ whole pts)))
-  where
-    whole : (pts : List ℕ) → bytes (w ∷ []) ++ (bytes (h ∷ []) ++ bytes pts) ≡ bytes (w ∷ h ∷ []) ++ bytes pts
-    whole pts = sym (append_assoc (bytes (w ∷ [])) (bytes (h ∷ [])) (bytes pts)) ∙ ap (λ (l : List ℕ). l ++ bytes pts) (sym (bytes-cons w (h ∷ [])))
+    let all = put_join p₂ (put_join p₃ (put_as p₄ (ap (λ (i : ℕ). bytes (points (stretch xs 0 i) (stretch ys 0 i))) q))) in
+    let whole = sym (bytes-cons w (h ∷ pts) ∙ ap (λ (l : List ℕ). bytes (w ∷ []) ++ l) (bytes-cons h pts)) in
+    entry_join 4 (4 + 4 * k) (sym (length-body w h xs ys n k q)) p₁ (put_as all whole)
 
 -- ---- the whole file
 module _ (t : Table) where
   abbrev File : Parts → List ℕ
   File parts = encode (sheet_with t parts)
 
-  pub opened_join : (d : List ℕ) {parts : Parts} {d₁ : List ℕ} → parts ≡ Parts.Plan → d₁ ≡ sets d 0 (plan_part t) → d₁ ≡ sets d 0 (File parts)
+  pub opened_join : {a b : Buffer} {parts : Parts} → parts ≡ Parts.Plan → Put a (plan_part t) b → Put a (File parts) b
   unfolding encode
-  opened_join d is p = p ∙ ap (λ (s : Parts). sets d 0 (File s)) (sym is)
+  opened_join is p = put_as p (ap File (sym is))
 
-  pub labelled_join : (d : List ℕ) {parts : Parts} {ls : Bor (List ℕ)} {d₁ d₂ : List ℕ} {k : ℕ} → parts ≡ Parts.Labels ls → d₁ ≡ sets d 0 (plan_part t) → k ≡ length (plan_part t) → d₂ ≡ sets d₁ k (labels_part t ls.now) → d₂ ≡ sets d 0 (File parts)
+  pub labelled_join : {a b c : Buffer} {parts : Parts} {ls : Bor (List ℕ)} → parts ≡ Parts.Labels ls → Put a (plan_part t) b → Put b (labels_part t ls.now) c → Put a (File parts) c
   unfolding encode
-  labelled_join d {ls = ls} is p a q = sets_join d 0 (plan_part t) (labels_part t ls.now) p (omega arith) q ∙ ap (λ (s : Parts). sets d 0 (File s)) (sym is)
+  labelled_join is p q = put_as (put_join p q) (ap File (sym is))
 
-  pub charted_join : (d : List ℕ) {parts : Parts} {ls : Bor (List ℕ)} {c : Points} {d₁ d₂ d₃ : List ℕ} {k m : ℕ} → parts ≡ Parts.Chart ls c → d₁ ≡ sets d 0 (plan_part t) → k ≡ length (plan_part t)
-      → d₂ ≡ sets d₁ k (labels_part t ls.now) → m ≡ length (labels_part t ls.now) → d₃ ≡ sets d₂ (k + m) (chart_part t c) → d₃ ≡ sets d 0 (File parts)
+  pub charted_join : {a b c d : Buffer} {parts : Parts} {ls : Bor (List ℕ)} {x : Points} → parts ≡ Parts.Chart ls x
+      → Put a (plan_part t) b → Put b (labels_part t ls.now) c → Put c (chart_part t x) d → Put a (File parts) d
   unfolding encode
-  charted_join d {ls = ls} {c} is p a q b r =
-      let ps = plan_part t in
-      let lp = labels_part t ls.now in
-      let s = length-append ps lp in
-      sets_join d 0 (ps ++ lp) (chart_part t c) (sets_join d 0 ps lp p (omega arith) q) (omega arith) r ∙ ap (λ (v : Parts). sets d 0 (File v)) (sym is)
+  charted_join is p q r = put_as (put_join (put_join p q) r) (ap File (sym is))
 
   -- a sheet that has a plan is written where the buffer is long enough, and else refused
   pub written : (parts : Parts) (d : List ℕ) → length (File parts) ≤ length d → write_call (sheet_with t parts) d ≡ accepted (length (File parts), File parts ++ drop (length (File parts)) d)
@@ -138,17 +119,31 @@ module _ (t : Table) where
 
   -- the answer and the buffer of a call that is accepted, and of one that is refused
   module _ (parts : Parts) (d : List ℕ) {k : ℕ} (long : k ≡ length (File parts)) where
-    pub accepted_answer : {e : List ℕ} → k ≤ length d → e ≡ sets d 0 (File parts) → (outcome_of (Ok k) e ≡ write_call (sheet_with t parts) d) × (e ≡ buffer_after (write_call (sheet_with t parts) d) d)
-    unfolding outcome_of buffer_after
-    accepted_answer {e} h p =
+    accepted_as : {e : List ℕ} → k ≤ length d → e ≡ sets d 0 (File parts) → accepted (k, e) ≡ write_call (sheet_with t parts) d
+    accepted_as {e} h p =
         let f = File parts in
         let room : length f ≤ length d = omega arith in
         let same : e ≡ f ++ drop (length f) d = p ∙ sets_front d f room in
-        (sym (written parts d room ∙ (λ i. accepted (sym long i, sym same i))), same ∙ ap (λ (o : Outcome (ℕ × List ℕ)). buffer_after o d) (sym (written parts d room)))
+        (λ i. accepted (long i, same i)) ∙ sym (written parts d room)
 
-    pub refused_answer : length d < k → (outcome_of (Err (Refusal.ShortBuffer k)) d ≡ write_call (sheet_with t parts) d) × (d ≡ buffer_after (write_call (sheet_with t parts) d) d)
-    unfolding outcome_of buffer_after
-    refused_answer h =
-        let f = File parts in
-        let none : length d < length f = omega arith in
-        (sym (short parts d none ∙ (λ i. refused 16 (sym long i))), ap (λ (o : Outcome (ℕ × List ℕ)). buffer_after o d) (sym (short parts d none)))
+    refused_as : length d < k → refused 16 k ≡ write_call (sheet_with t parts) d
+    refused_as h = let none : length d < length (File parts) = omega arith in (λ i. refused 16 (long i)) ∙ sym (short parts d none)
+
+    pub accepted_answer : {e : List ℕ} → k ≤ length d → e ≡ sets d 0 (File parts) → outcome_of (Ok k) e ≡ write_call (sheet_with t parts) d
+    unfolding outcome_of
+    accepted_answer h p = accepted_as h p
+
+    pub accepted_buffer : {e : List ℕ} → k ≤ length d → e ≡ sets d 0 (File parts) → e ≡ buffer_after (write_call (sheet_with t parts) d) d
+    unfolding buffer_after
+    accepted_buffer h p = ap (λ (o : Outcome (ℕ × List ℕ)). buffer_after o d) (accepted_as h p)
+
+    pub refused_answer : length d < k → outcome_of (Err (Refusal.ShortBuffer k)) d ≡ write_call (sheet_with t parts) d
+    unfolding outcome_of
+    refused_answer h = refused_as h
+
+    pub refused_buffer : length d < k → d ≡ buffer_after (write_call (sheet_with t parts) d) d
+    unfolding buffer_after
+    refused_buffer h = ap (λ (o : Outcome (ℕ × List ℕ)). buffer_after o d) (refused_as h)
+
+-- what the call gives and leaves, for the function that writes
+pub ruleset written_file = (accepted_answer, accepted_buffer, refused_answer, refused_buffer)

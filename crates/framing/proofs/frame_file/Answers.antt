@@ -4,10 +4,10 @@ use Rattle.std.proofs.lemmas.Result.{err_from_is_err_and}
 use Rattle.framing.proofs.Layouts.{file_refused, file_there}
 use Rattle.framing.proofs.frame_file.Goals as goal
 
-pub returns-in_err-due_at : goal.returns-in_err-due_at
-returns-in_err-due_at c =
+pub returns-in_err-due : goal.returns-in_err-due
+returns-in_err-due c =
     let p = err_from_is_err_and c.from_residual.result c.from_residual.ensures.1 in
-    rw (p.1, p.2) (file_refused c.args.file.now _ _ c.in_err-due_at.ensures)
+    rw (p.1, p.2) (file_refused c.args.file.now _ _ c.in_err-due.ensures)
 
 pub returns : goal.returns
-returns c = c.frame_plan.ensures ∙ file_there c.args.file.now c.in_ok-due_at.ensures
+returns c = c.frame_plan.ensures ∙ file_there c.args.file.now c.in_ok-due.ensures

@@ -16,7 +16,7 @@ returns-in_err-size-clause-result_value c =
 pub loop-i-preserved : goal.loop-i-preserved
 loop-i-preserved c =
     let e = c.in_ok-size.ensures in
-    walks_on c.loop-i.invariant (omega arith) c.requires e.ring_below e.result_value refl (omega arith) refl
+    walks_on c.loop-i.invariant (omega arith) c.requires e.ring_below e.result_value (omega arith) (omega arith) refl
 
 pub returns-clause-result_value : goal.returns-clause-result_value
 returns-clause-result_value c =

@@ -1,13 +1,8 @@
 -- darts_of meets its contract.
-use Rattle.writing.specs.Files.{darts_held}
 use Rattle.writing.proofs.Lengths.{start-most}
 use native.Mathlib.Omega.{arith}
 use Rattle.std.proofs.Common.{min}
 use Rattle.writing.proofs.darts_of.Goals as goal
-
-pub returns-clause-value : goal.returns-clause-value
-unfolding darts_held
-returns-clause-value c = c.total_of.ensures.value
 
 pub returns-clause-upper_bound : goal.returns-clause-upper_bound
 returns-clause-upper_bound c =
