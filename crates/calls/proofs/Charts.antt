@@ -21,7 +21,7 @@ use Rattle.sheet.specs.declared.Stage.TheVariants.{Charted}
 use Rattle.sheet.specs.Sheets.{held_count, held_plan, held_labels, fits, reads, pack, packed}
 use Rattle.sheet.specs.Sheets.{rank, stage_read}
 use Rattle.model.proofs.Outcomes.{bind_at, bind_off}
-use Rattle.sheet.proofs.Reading.{labels_early, labels_there, few, room}
+use Rattle.sheet.proofs.Reading.{stage_refused, stage_missed, packed-off, labels_early, labels_there, few, room}
 
 module _ (s : Sheet) where
   -- the chart that is worked out is the chart of what the struct holds
@@ -58,3 +58,6 @@ module _ (s : Sheet) where
   chart-stored t d c same e =
       let p : d ≡ record { w = c.w; h = c.h; xs = padded 200 c.xs; ys = padded 200 c.ys } = cc in
       λ i. record { stage = Charted; n = (same i).n; sizes = (same i).sizes; entries = (same i).entries; labels = (same i).labels; w = (p i).w; h = (p i).h; xs = (p i).xs; ys = (p i).ys }
+
+-- for the call where the stage is too early
+pub ruleset steps = (stage_refused, stage_missed, packed-off, chart-call_early)

@@ -17,6 +17,7 @@ use Rattle.sheet.specs.declared.Sheet.{Sheet}
 use Rattle.sheet.specs.declared.Stage.TheVariants.{Labelled}
 use Rattle.sheet.specs.Sheets.{held_plan, fits, pack, no_chart, packed}
 use Rattle.sheet.proofs.Reading.{few, count_held}
+use Rattle.std.proofs.lemmas.List.{drop-replicate}
 
 -- all entries of a list
 pub stretch-all : (l : List ℕ) → stretch l 0 (length l) ≡ l
@@ -51,3 +52,6 @@ rebuilt s n a b ls f e p q = λ i. record {
 
     entries-held : concat (held_plan s).rings ≡ stretch s.entries 0 (start_of s.sizes s.n)
     entries-held = unfold held_plan in table-entries s.sizes s.entries s.n (few s f)
+
+-- for the array with the same element behind its first ones
+pub ruleset copied = (drop-replicate)

@@ -1,25 +1,21 @@
 -- Offer, step by step: 13, then 2, then 10, then accepted.
-use Prim.Native.Nat.{ℕ, ◌≤◌, ◌<◌, min}
+use Prim.Native.Nat.{ℕ, ◌≤◌, ◌<◌}
 use mathlib.Core.Path.{◌≡◌, sym, ap, ◌∙◌}
 use mathlib.Core.List.{List}
 use mathlib.Core.Bool.{Bool}
-use native.Mathlib.Omega.{arith}
 use lib.ListN.{length}
-use lib.Dec.{eqb, leb}
-use borrow.Author.Tests.{eq-eqb, ne_eqb, le-leb, lt-leb}
-use Rattle.lists.specs.Ranges.{lowest}
+use lib.Dec.{eqb}
+use borrow.Author.Tests.{eq-eqb, ne_eqb}
 use Rattle.model.specs.Outcome.{Outcome, accepted, refused, passed, require, ◌>>=◌, ◌>>◌}
 use Rattle.model.specs.Plan.{Plan, count, dart_count}
-use Rattle.model.specs.Labels.{breaks, label_rules}
+use Rattle.model.specs.Labels.{label_rules}
 use Rattle.model.specs.File as file
 use Rattle.model.specs.Calls.{plan_of, offered, offer_call}
-use Rattle.rings.specs.Tables.{table}
-use Rattle.rings.specs.Tables as flat
 use Rattle.sheet.specs.declared.Sheet.{Sheet}
 use Rattle.sheet.specs.Sheets.{held_plan, reads}
 use Rattle.sheet.specs.Sheets.{rank, stage_read}
 use Rattle.model.proofs.Outcomes.{bind_at, bind_off, then_at, then_off}
-use Rattle.sheet.proofs.Reading.{plan_early, plan_there, fits_there, few, count_held}
+use Rattle.sheet.proofs.Reading.{stage_refused, stage_missed, stage_reached, packed-off, packed-at, rules_held, few, plan_early, plan_there, count_held}
 
 -- the steps on a plan
 module _ (p : Plan) (ls : List ℕ) where
@@ -30,14 +26,6 @@ module _ (p : Plan) (ls : List ℕ) where
   offered_ruled : length ls ≡ dart_count (count p) → offered p ls ≡ (label_rules p ls >> accepted ls)
   unfolding offered
   offered_ruled h = then_at (require (eqb (length ls) (dart_count (count p))) 2 0) tt (label_rules p ls >> accepted ls) (ap (λ (t : Bool). require t 2 0) (eq-eqb (length ls) (dart_count (count p)) h))
-
-  rules_broken : (u : ℕ) → u ≡ lowest (breaks p ls) (count p) → u < count p → label_rules p ls ≡ refused 10 u
-  unfolding label_rules
-  rules_broken u e h = ap (λ (k : ℕ). require (leb (count p) k) 10 k) (sym e) ∙ ap (λ (t : Bool). require t 10 u) (lt-leb (count p) u h)
-
-  rules_kept : (u : ℕ) → u ≡ lowest (breaks p ls) (count p) → count p ≤ u → label_rules p ls ≡ passed
-  unfolding label_rules
-  rules_kept u e h = ap (λ (k : ℕ). require (leb (count p) k) 10 k) (sym e) ∙ ap (λ (t : Bool). require t 10 u) (le-leb (count p) u h)
 
 -- what comes after the plan
 abbrev stored : Plan → List ℕ → Outcome file.Sheet
@@ -55,24 +43,16 @@ module _ (s : Sheet) (ls : List ℕ) where
   pub offer_count : (d : ℕ) → 1 ≤ rank (stage_read s) → d ≡ dart_count s.n → (length ls ≡ d → ⊥) → offer_call (reads s) ls ≡ refused 2 0
   offer_count d h e miss = offer_there h ∙ bind_off (offered (held_plan s) ls) 2 0 (stored (held_plan s)) (offered-count (held_plan s) ls (λ q. miss (q ∙ ap dart_count (count_held s) ∙ sym e)))
 
-  -- the place that the rules give, on the plan as the label rules read it
-  lowest-held : (u : ℕ) → 1 ≤ rank (stage_read s) → u ≡ lowest (breaks (flat.held s.sizes s.entries s.n) ls) (min s.n 200) → u ≡ lowest (breaks (held_plan s) ls) (count (held_plan s))
-  unfolding flat.held held_plan
-  lowest-held u h e =
-      let b = few s (fits_there s h) in
-      let m : min s.n 200 ≡ s.n = omega arith in
-      e ∙ (λ i. lowest (breaks (table s.sizes s.entries (m i)) ls) (m i)) ∙ ap (lowest (breaks (held_plan s) ls)) (sym (count_held s))
+  -- what the label rules say of the labels is what the call says
+  module _ (d : ℕ) (h : 1 ≤ rank (stage_read s)) (e : d ≡ dart_count s.n) (q : length ls ≡ d) where
+    ruled : offered (held_plan s) ls ≡ (label_rules (held_plan s) ls >> accepted ls)
+    ruled = offered_ruled (held_plan s) ls (q ∙ e ∙ ap dart_count (sym (count_held s)))
 
-  pub offer_broken : (d u : ℕ) → 1 ≤ rank (stage_read s) → d ≡ dart_count s.n → length ls ≡ d → u ≡ lowest (breaks (flat.held s.sizes s.entries s.n) ls) (min s.n 200) → u < s.n → offer_call (reads s) ls ≡ refused 10 u
-  offer_broken d u h e q at below =
-      let p = held_plan s in
-      let c = count_held s in
-      let ruled : offered p ls ≡ refused 10 u = offered_ruled p ls (q ∙ e ∙ ap dart_count (sym c)) ∙ then_off (label_rules p ls) 10 u (accepted ls) (rules_broken p ls u (lowest-held u h at) (omega arith)) in
-      offer_there h ∙ bind_off (offered p ls) 10 u (stored p) ruled
+    pub offer_broken : (k at : ℕ) → refused k at ≡ label_rules (held_plan s) ls → offer_call (reads s) ls ≡ refused k at
+    offer_broken k at w = offer_there h ∙ bind_off (offered (held_plan s) ls) k at (stored (held_plan s)) (ruled ∙ then_off (label_rules (held_plan s) ls) k at (accepted ls) (sym w))
 
-  pub offer_kept : (d u : ℕ) → 1 ≤ rank (stage_read s) → d ≡ dart_count s.n → length ls ≡ d → u ≡ lowest (breaks (flat.held s.sizes s.entries s.n) ls) (min s.n 200) → s.n ≤ u → offer_call (reads s) ls ≡ accepted (file.labelled (held_plan s) ls)
-  offer_kept d u h e q at past =
-      let p = held_plan s in
-      let c = count_held s in
-      let ruled : offered p ls ≡ accepted ls = offered_ruled p ls (q ∙ e ∙ ap dart_count (sym c)) ∙ then_at (label_rules p ls) tt (accepted ls) (rules_kept p ls u (lowest-held u h at) (omega arith)) in
-      offer_there h ∙ bind_at (offered p ls) ls (stored p) ruled
+    pub offer_kept : passed ≡ label_rules (held_plan s) ls → offer_call (reads s) ls ≡ accepted (file.labelled (held_plan s) ls)
+    offer_kept w = offer_there h ∙ bind_at (offered (held_plan s) ls) ls (stored (held_plan s)) (ruled ∙ then_at (label_rules (held_plan s) ls) tt (accepted ls) (sym w))
+
+-- for the call itself, step by step
+pub ruleset steps = (stage_refused, stage_missed, stage_reached, packed-off, packed-at, offer_early, offer_count, offer_kept, rules_held, few)

@@ -27,6 +27,8 @@ use Rattle.exchange.proofs.Small.{Small, small-accepted, small-refused, small_bi
 use Rattle.exchange.proofs.Sizes.{file_short}
 use Rattle.exchange.proofs.Places.{small_open, small-call, small_write}
 use Rattle.exchange.proofs.Codes.{Roomy, code_whole}
+use Rattle.answers.proofs.Steps.{wrapped-at}
+use Rattle.exchange.proofs.Steps.{none_in, some_in}
 
 -- ---- good sheets
 -- what open leaves is good
@@ -139,3 +141,9 @@ pub open_way : (b buffer d : List ℕ) (g : Outcome Sheet) (r : ℕ) → g ≡ o
 open_way b buffer d g r e number bytes =
     let all = ap (λ (o : Outcome Sheet). handed_back o buffer) e in
     (number ∙ ap (λ (o : Outcome (ℕ × List ℕ)). wrapped (length_of o)) all ∙ code_whole (length_of (handed_back (open_call b) buffer)) (roomy_open b buffer), bytes ∙ ap (λ (o : Outcome (ℕ × List ℕ)). buffer_after o buffer) all)
+
+-- what is handed over: a fresh sheet for no bytes, else the sheet of the file
+pub ruleset handed = (given-fresh, given-opened, none_in, some_in)
+
+-- an answer that has room in the number
+pub ruleset codes = (wrapped-at)

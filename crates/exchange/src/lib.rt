@@ -12,6 +12,7 @@ use refusal::Refusal;
 use sheet::Sheet;
 
 // The sheet that bytes hand over: a fresh one for no bytes, else the file is opened.
+#[tactic(auto, using(crate::proofs::Handing::handed))]
 pub fn hand_over(bytes: &[u8]) -> Result<Sheet, Refusal>
     ensures { given result ≡ sheet_in bytes.now }
 {
@@ -22,6 +23,7 @@ pub fn hand_over(bytes: &[u8]) -> Result<Sheet, Refusal>
 }
 
 // An answer as one number: what is accepted, or the refusal's number and place.
+#[tactic(auto, using(crate::proofs::Handing::codes))]
 pub fn code_of(answer: Result<u64, Refusal>) -> u64
     ensures { result ≡ wrapped (told answer) }
 {

@@ -1,94 +1,56 @@
--- Refusals in the order in which a sheet is judged: what each place of a rule that was looked for says of the rules.
-use Prim.Native.Nat.{ℕ, ◌≤◌, ◌<◌, min}
+-- Refusals in the order in which a sheet is judged.
+use Prim.Native.Nat.{ℕ, ◌≤◌, ◌<◌}
 use mathlib.Core.Path.{◌≡◌, refl, sym, ap, ◌∙◌}
 use mathlib.Core.List.{List}
 use mathlib.Core.Bool.{Bool, true, false, cond}
 use native.Mathlib.Omega.{arith}
-use borrow.Author.Tests.{le-leb, lt-leb}
-use Rattle.lists.specs.Ranges.{lowest}
-use Rattle.model.specs.Outcome.{Outcome, refused, passed, require, rule, ◌>>=◌, ◌>>◌}
-use Rattle.model.specs.Plan.{Plan, count, bad_border, bad_face}
-use Rattle.model.specs.Labels.{breaks, label_rules}
+use borrow.Author.Tests.{le-leb, ltb-true, ltb-false}
+use Rattle.model.specs.Outcome.{Outcome, refused, passed, require, ◌>>=◌, ◌>>◌}
+use Rattle.model.specs.Plan.{count}
 use Rattle.model.specs.Chart.{Chart, chart, same_chart}
 use Rattle.model.specs.File as file
-use Rattle.rings.specs.Tables as flat
-use Rattle.rings.specs.Tables.{start_of, starts_of, table, in_bounds}
-use Rattle.rings.proofs.Rows.{count-rows}
+use Rattle.rings.specs.Tables.{start_of, in_bounds}
 use Rattle.std.specs.Prelude.{Ok, Err}
 use Rattle.std.specs.declared.result.Result.{Result}
 use Rattle.refusal.specs.declared.Refusal.{Refusal}
 use Rattle.refusal.specs.Refusals.{number_of, place_of}
-use Rattle.charts.specs.Charts.{chart_on}
+use Rattle.charts.specs.Charts.{chart_on, chart_in}
+use Rattle.charts.specs.declared.Points.{Points}
 use Rattle.placement.specs.declared.Drawn.{Drawn}
 use Rattle.placement.specs.Drawing.{chart_for, drawn_as}
 use Rattle.sheet.specs.declared.Sheet.{Sheet}
 use Rattle.sheet.specs.declared.Stage.{Stage}
 use Rattle.sheet.specs.declared.Stage.TheVariants.{Empty, Open, Labelled, Charted}
-use Rattle.sheet.specs.Sheets.{held_plan, held, fits, reads, stage_read, rank}
-use Rattle.sheet.proofs.Reading.{reads-stage, fits_there, count_held}
+use Rattle.sheet.specs.Sheets.{held_plan, held_labels, held_chart, held, fits, reads, stage_read, rank}
+use Rattle.sheet.proofs.Reading.{reads-stage, fits_there, count_held, few, room, rings-held, below}
 use Rattle.judging.specs.Rules.{flat_rules, chart_rules, flat_of, rules_from_10, rules_from_8}
 
--- ---- one rule, by its place
-pub rule-at : (k n : ℕ) (bad : ℕ → Bool) {u : ℕ} → u ≡ lowest bad n → u < n → refused k u ≡ rule k n bad
-rule-at k n bad {u} e h = sym (rw (← e, lt-leb n u h))
-
-pub rule-past : (k n : ℕ) (bad : ℕ → Bool) {u : ℕ} → u ≡ lowest bad n → n ≤ u → passed ≡ rule k n bad
-rule-past k n bad {u} e h = sym (rw (← e, le-leb n u h))
-
--- ---- 8 and 9
-module _ (n : ℕ) (p : Plan) where
-  pub eight_refused : {u : ℕ} → u ≡ lowest (bad_border p) 4 → u < 4 → refused 8 u ≡ flat_rules n p
-  unfolding flat_rules
-  eight_refused e h = rw (← rule-at 8 4 (bad_border p) e h)
-
-  module _ {eight : ℕ} (e8 : eight ≡ lowest (bad_border p) 4) (h8 : 4 ≤ eight) where
-    pub nine_refused : {u : ℕ} → u ≡ lowest (bad_face p) n → u < n → refused 9 u ≡ flat_rules n p
-    unfolding flat_rules
-    nine_refused e h = rw (← rule-past 8 4 (bad_border p) e8 h8, ← rule-at 9 n (bad_face p) e h)
-
-    pub flat-passed : {u : ℕ} → u ≡ lowest (bad_face p) n → n ≤ u → passed ≡ flat_rules n p
-    unfolding flat_rules
-    flat-passed e h = rw (← rule-past 8 4 (bad_border p) e8 h8, ← rule-past 9 n (bad_face p) e h)
-
--- ---- 10
-module _ (sizes es : List ℕ) (n : ℕ) (ls : List ℕ) (few : n ≤ 200) where
-  as_table : {u : ℕ} → u ≡ lowest (breaks (flat.held sizes es n) ls) (min n 200) → u ≡ lowest (breaks (table sizes es n) ls) n
-  unfolding flat.held
-  as_table e = let m : min n 200 ≡ n = omega arith in rw m at e
-
-  counted : count (table sizes es n) ≡ n
-  unfolding table
-  counted = count-rows (starts_of sizes) sizes es n
-
-  as_rule : rule 10 n (breaks (table sizes es n) ls) ≡ label_rules (table sizes es n) ls
-  unfolding label_rules
-  as_rule = ap (λ (k : ℕ). rule 10 k (breaks (table sizes es n) ls)) (sym counted)
-
-  pub ten_refused : {u : ℕ} → u ≡ lowest (breaks (flat.held sizes es n) ls) (min n 200) → u < n → refused 10 u ≡ label_rules (table sizes es n) ls
-  ten_refused e h = rule-at 10 n (breaks (table sizes es n) ls) (as_table e) h ∙ as_rule
-
-  pub ten_passed : {u : ℕ} → u ≡ lowest (breaks (flat.held sizes es n) ls) (min n 200) → n ≤ u → passed ≡ label_rules (table sizes es n) ls
-  ten_passed e h = rule-past 10 n (breaks (table sizes es n) ls) (as_table e) h ∙ as_rule
-
 -- ---- 11 and 12
-module _ (sizes es : List ℕ) (n : ℕ) (ls : List ℕ) (few : n ≤ 200) (room : start_of sizes n ≤ 1186) where
-  chart_for_lem : chart_for sizes es n ls ≡ chart (table sizes es n) ls
-  unfolding chart_for in_bounds chart
-  chart_for_lem = rw (le-leb n 200 few, le-leb (start_of sizes n) 1186 room)
+module _ (s : Sheet) (f : fits s ≡ true) where
+  chart_for_lem : chart_for s.sizes s.entries s.n (held_labels s) ≡ chart (held_plan s) (held_labels s)
+  unfolding chart_for in_bounds chart held_plan
+  chart_for_lem = rw (le-leb s.n 200 (few s f), le-leb (start_of s.sizes s.n) 1186 (room s f))
 
-  module _ (r : Result Drawn Refusal) (is : drawn_as r n ≡ chart_for sizes es n ls) (c : Chart) where
+  module _ (r : Result Drawn Refusal) {sizes es ls : List ℕ} {n : ℕ} (a : sizes ≡ s.sizes) (b : es ≡ s.entries) (e : n ≡ s.n) (l : ls ≡ held_labels s) (is : drawn_as r n ≡ chart_for sizes es n ls) where
     abbrev Compare : Outcome Chart → Outcome (Unit {0})
-    Compare o = o >>= λ (d : Chart). require (same_chart c d) 12 0
+    Compare o = o >>= λ (d : Chart). require (same_chart (held_chart s) d) 12 0
+
+    drawn-held : drawn_as r n ≡ chart (held_plan s) (held_labels s)
+    drawn-held = is ∙ (λ i. chart_for (a i) (b i) (e i) (l i)) ∙ chart_for_lem
 
     -- no chart: its refusal
-    pub undrawn : (f : Refusal) → r ≡ Err f → refused (number_of f) (place_of f) ≡ chart_rules (table sizes es n) ls c
+    pub undrawn : (q : Refusal) → r ≡ Err q → refused (number_of q) (place_of q) ≡ chart_rules (held_plan s) (held_labels s) (held_chart s)
     unfolding chart_rules
-    undrawn f e = ap Compare (ap (λ (q : Result Drawn Refusal). drawn_as q n) (sym e) ∙ is ∙ chart_for_lem)
+    undrawn q w = ap Compare (ap (λ (v : Result Drawn Refusal). drawn_as v n) (sym w) ∙ drawn-held)
 
-    -- a chart: it is compared
-    pub compared : (p : Drawn) → r ≡ Ok p → {t : Bool} → t ≡ same_chart c (chart_on n p.w p.h p.xs p.ys) → require t 12 0 ≡ chart_rules (table sizes es n) ls c
+    -- a chart: it is compared with the one that is held
+    pub compared : (p : Drawn) → r ≡ Ok p → (k m : Points) → chart_in s.n k ≡ held_chart s → m.w ≡ p.w → m.h ≡ p.h → m.xs.now ≡ p.xs → m.ys.now ≡ p.ys → {t : Bool} → t ≡ same_chart (chart_in n k) (chart_in n m)
+        → require t 12 0 ≡ chart_rules (held_plan s) (held_labels s) (held_chart s)
     unfolding chart_rules
-    compared p e q = ap (λ (t : Bool). require t 12 0) q ∙ ap Compare (ap (λ (q : Result Drawn Refusal). drawn_as q n) (sym e) ∙ is ∙ chart_for_lem)
+    compared p w k m mine pw ph px py q =
+        let held : chart_in n k ≡ held_chart s = ap (λ (u : ℕ). chart_in u k) e ∙ mine in
+        ap (λ (t : Bool). require t 12 0) (q ∙ λ i. same_chart (held i) (chart_on n (pw i) (ph i) (px i) (py i)))
+        ∙ ap Compare (ap (λ (v : Result Drawn Refusal). drawn_as v n) (sym w) ∙ drawn-held)
 
 -- ---- one part of the rules before another
 pub first-refused : {A : Type 0} (a : Outcome (Unit {0})) (b : Outcome A) {k at : ℕ} → refused k at ≡ a → refused k at ≡ (a >> b)
@@ -141,3 +103,10 @@ module _ (s : Sheet) where
         go Open h = refl
         go Labelled h = refl
         go Charted h = refl
+
+-- for the functions that judge one part of the rules and then another
+pub ruleset parts = (first-refused, first-passed)
+
+pub ruleset flat_parts = (first-refused, first-passed, rings-held)
+
+pub ruleset from_8_parts = (first-refused, first-passed, none-from_8, flat_there, below, ltb-true, ltb-false)

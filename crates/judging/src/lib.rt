@@ -1,99 +1,60 @@
-// The rules 8 to 12 of a sheet, as far as its stage has come. Each function takes every value of the struct: one whose plan does not fit counts as a fresh sheet.
+// The rules 8 to 12 of a sheet, as far as its stage has come. The two public functions take every value of the struct: one whose plan does not fit counts as a fresh sheet.
 #![tactic(auto)]
 
-ghost use Rattle.std.specs.Prelude.{◌≡◌, true, ◌≤◌};
+ghost use Rattle.std.specs.Prelude.{◌≡◌};
 ghost use Rattle.model.specs.Labels.{label_rules};
 ghost use Rattle.model.specs.File.{charted};
 ghost use Rattle.refusal.specs.Refusals.{told};
-ghost use Rattle.rings.specs.Tables.{start_of, plan_of, table_of};
-ghost use Rattle.charts.specs.Charts.{chart_in};
-ghost use Rattle.sheet.specs.Sheets.{held_plan, held_labels, held_chart, fits, reads};
+ghost use Rattle.sheet.specs.Sheets.{held_plan, held_labels, held_chart, reads};
 ghost use Rattle.judging.specs.Rules.{flat_rules, chart_rules, rules_from_10, rules_from_8};
 
-use charts::Points;
 use refusal::Refusal;
-use rings::{Rings, Table};
-use sheet::{Sheet, Stage};
+use sheet::{Fitting, Sheet, Stage};
 
-// 8 and 9 of rings in flat arrays.
-fn flat_rules(rings: &Rings) -> Result<(), Refusal>
-    ensures { told result ≡ flat_rules rings.now.n (plan_of rings.now) }
+// 8 and 9 of a sheet.
+#[tactic(auto, using(crate::proofs::Rules::flat_parts), unfolding(crate::specs::Rules::flat_rules))]
+fn flat_part(sheet: &Sheet) -> Result<(), Refusal>
+    ensures { told result ≡ flat_rules sheet.now.n (held_plan sheet.now) }
 {
-    let eight = faces::rule8_place(rings);
-    if eight < 4 {
-        return Err(Refusal::BadBorder(eight));
-    }
-    let nine = faces::rule9_place(rings);
-    if nine < rings.n {
-        return Err(Refusal::BadFace(nine));
-    }
-    Ok(())
+    let starts = rings::starts_of(&sheet.sizes);
+    let plan = sheet::table_of(sheet);
+    let rings = plan.rings(&starts);
+    faces::rule8(&rings)?;
+    faces::rule9(&rings)
 }
 
-// 10 of a plan with these labels.
-fn label_rule(plan: &Table, labels: &[u8]) -> Result<(), Refusal>
-    requires { plan.now.n ≤ 200 }
-    ensures { told result ≡ label_rules (table_of plan.now) labels.now }
+// 10 of a sheet whose plan fits.
+#[tactic(auto, using(sheet::proofs::Reading::rules_held))]
+fn label_part(fitting: &Fitting) -> Result<(), Refusal>
+    ensures { told result ≡ label_rules (held_plan fitting.now.sheet.now) (held_labels fitting.now.sheet.now) }
 {
-    let ten = conditions::rules_place(plan, labels);
-    if ten < plan.n {
-        return Err(Refusal::BadLabels(ten));
-    }
-    Ok(())
+    conditions::check(&fitting.plan(), fitting.labels())
 }
 
-// 11 and 12 of a plan with these labels: the chart given is the plan's chart.
-fn chart_rule(plan: &Table, labels: &[u8], chart: &Points) -> Result<(), Refusal>
-    requires few { plan.now.n ≤ 200 }
-    requires room { start_of plan.now.sizes.now plan.now.n ≤ 1186 }
-    ensures { told result ≡ chart_rules (table_of plan.now) labels.now (chart_in plan.now.n chart.now) }
+// 11 and 12 of a sheet whose plan fits: the chart in its arrays is the plan's chart.
+#[tactic(auto, using(crate::proofs::Rules::undrawn))]
+fn chart_part(fitting: &Fitting) -> Result<(), Refusal>
+    ensures { told result ≡ chart_rules (held_plan fitting.now.sheet.now) (held_labels fitting.now.sheet.now) (held_chart fitting.now.sheet.now) }
 {
-    let drawn = placement::chart_of(plan, labels)?;
-    if charts::same_chart(plan.n, chart, &drawn.points()) {
+    let plan = fitting.plan();
+    let drawn = placement::chart_of(&plan, fitting.labels())?;
+    if charts::same_chart(plan.n, &fitting.points(), &drawn.points()) {
         Ok(())
     } else {
         Err(Refusal::OtherChart)
     }
 }
 
-// 8 and 9 of a sheet.
-fn flat_part(sheet: &Sheet) -> Result<(), Refusal>
-    ensures { told result ≡ flat_rules sheet.now.n (held_plan sheet.now) }
-{
-    let starts = rings::starts_of(&sheet.sizes);
-    flat_rules(&sheet::table_of(sheet).rings(&starts))
-}
-
-// 10 of a sheet whose plan fits.
-fn label_part(sheet: &Sheet) -> Result<(), Refusal>
-    requires { fits sheet.now ≡ true }
-    ensures { told result ≡ label_rules (held_plan sheet.now) (held_labels sheet.now) }
-{
-    label_rule(&sheet::table_of(sheet), sheet::labels_of(sheet))
-}
-
-// 11 and 12 of a sheet whose plan fits.
-fn chart_part(sheet: &Sheet) -> Result<(), Refusal>
-    requires { fits sheet.now ≡ true }
-    ensures { told result ≡ chart_rules (held_plan sheet.now) (held_labels sheet.now) (held_chart sheet.now) }
-{
-    chart_rule(
-        &sheet::table_of(sheet),
-        sheet::labels_of(sheet),
-        &sheet::points_of(sheet),
-    )
-}
-
 // 10 of a sheet whose plan fits, then 11 and 12.
-fn charted_part(sheet: &Sheet) -> Result<(), Refusal>
-    requires { fits sheet.now ≡ true }
-    ensures { told result ≡ rules_from_10 (charted (held_plan sheet.now) (held_labels sheet.now) (held_chart sheet.now)) }
+#[tactic(auto, using(crate::proofs::Rules::parts), unfolding(crate::specs::Rules::rules_from_10))]
+fn charted_part(fitting: &Fitting) -> Result<(), Refusal>
+    ensures { told result ≡ rules_from_10 (charted (held_plan fitting.now.sheet.now) (held_labels fitting.now.sheet.now) (held_chart fitting.now.sheet.now)) }
 {
-    label_part(sheet)?;
-    chart_part(sheet)
+    label_part(fitting)?;
+    chart_part(fitting)
 }
 
-// 10 to 12 of a sheet: of its labels and its chart, where it has them.
+// 10 to 12 of a sheet: of its labels and its chart, where it has them. One without labels is passed at once, before its plan is read.
 pub fn rules_from_10(sheet: &Sheet) -> Result<(), Refusal>
     ensures { told result ≡ rules_from_10 (reads sheet.now) }
 {
@@ -101,14 +62,14 @@ pub fn rules_from_10(sheet: &Sheet) -> Result<(), Refusal>
         return Ok(());
     }
     match sheet::stage_of(sheet) {
-        Stage::Empty => Ok(()),
-        Stage::Open => Ok(()),
-        Stage::Labelled => label_part(sheet),
-        Stage::Charted => charted_part(sheet),
+        Stage::Empty | Stage::Open => Ok(()),
+        Stage::Labelled => label_part(&Fitting { sheet }),
+        Stage::Charted => charted_part(&Fitting { sheet }),
     }
 }
 
 // 8 to 12 of a sheet: 8 and 9 of its plan, then 10 to 12.
+#[tactic(auto, using(crate::proofs::Rules::from_8_parts), unfolding(sheet::specs::Sheets::rank, crate::specs::Rules::rules_from_8))]
 pub fn rules_from_8(sheet: &Sheet) -> Result<(), Refusal>
     ensures { told result ≡ rules_from_8 (reads sheet.now) }
 {

@@ -10,7 +10,7 @@ use Rattle.model.specs.Calls.{chart_of, same_call}
 use Rattle.model.proofs.Outcomes.{bind_at, bind_off}
 use Rattle.sheet.specs.declared.Sheet.{Sheet}
 use Rattle.sheet.specs.Sheets.{held_plan, held_chart, reads, stage_read, rank}
-use Rattle.sheet.proofs.Reading.{chart_early, chart_there, count_held}
+use Rattle.sheet.proofs.Reading.{stage_refused, stage_missed, stage_reached, chart_early, chart_there, count_held}
 
 module _ (a b : Sheet) where
   abbrev compared : Plan × Chart → Outcome Bool
@@ -34,3 +34,6 @@ module _ (a b : Sheet) where
   same_there t h k e =
       ap accepted e
       ∙ sym (same_first h ∙ bind_at (chart_of (reads b)) (held_plan b, held_chart b) answered (chart_there b k) ∙ λ i. accepted (eqb (count_held a i) (count_held b i) && same_chart (held_chart a) (held_chart b)))
+
+-- for the call itself, step by step
+pub ruleset steps = (stage_refused, stage_missed, stage_reached, same_early, same_early_second, same_there)

@@ -26,7 +26,7 @@ use Rattle.sheet.specs.Answers.{length_of}
 use Rattle.sheet.specs.Sheets.{rank, stage_read}
 use Rattle.reports.specs.FileParts.{written_at}
 use Rattle.model.proofs.Outcomes.{bind_off}
-use Rattle.sheet.proofs.Reading.{reads-stage, plan_early, fits_there, few, stage_there}
+use Rattle.sheet.proofs.Reading.{stage_refused, stage_missed, stage_reached, reads-stage, plan_early, fits_there, few, stage_there}
 
 module _ (s : Sheet) where
   plan_in_lem : s.n ≤ 200 → flat.held s.sizes s.entries s.n ≡ held_plan s
@@ -81,3 +81,6 @@ module _ (s : Sheet) where
     -- every byte of the buffer
     pub buffer_written : d' ≡ buffer_after (write_call t d) d → d' ≡ buffer_after (write_call (reads s) d) d
     buffer_written p = p ∙ ap (λ (o : Outcome (ℕ × List ℕ)). buffer_after o d) call_in
+
+-- for the call itself, step by step
+pub ruleset steps = (stage_refused, stage_missed, stage_reached, early_length, buffer_kept, length-written, buffer_written)

@@ -23,8 +23,7 @@ fn held_of(sheet: &Sheet) -> Held
 {
     let labels = &sheet.labels;
     let parts = match sheet.stage {
-        Stage::Empty => Parts::Plan,
-        Stage::Open => Parts::Plan,
+        Stage::Empty | Stage::Open => Parts::Plan,
         Stage::Labelled => Parts::Labels { labels },
         Stage::Charted => Parts::Chart {
             labels,
@@ -38,6 +37,7 @@ fn held_of(sheet: &Sheet) -> Held
 }
 
 // Write (OPEN up): the file into the buffer, whose later bytes stay; its length.
+#[tactic(auto, using(crate::proofs::Writes::steps), unfolding(sheet::specs::Sheets::rank))]
 pub fn write(sheet: &Sheet, out: &mut [u8]) -> Result<usize, Refusal>
     ensures result_value { told result ≡ length_of (write_call (reads sheet.now) out.old) }
     ensures out_after { out.new ≡ buffer_after (write_call (reads sheet.now) out.old) out.old }
@@ -47,6 +47,7 @@ pub fn write(sheet: &Sheet, out: &mut [u8]) -> Result<usize, Refusal>
 }
 
 // The scan of the sheet's plan.
+#[tactic(auto, using(crate::proofs::Scans::rings_of))]
 fn scan_plan(sheet: &Sheet) -> Option<(usize, usize, usize)>
     ensures { plans.scanned_as result ≡ scan (held_plan sheet.now) }
 {
@@ -55,6 +56,7 @@ fn scan_plan(sheet: &Sheet) -> Option<(usize, usize, usize)>
 }
 
 // Scan (OPEN up): the smallest triple of mutual neighbours that are no inner face, or that there is none.
+#[tactic(auto, using(crate::proofs::Scans::steps), unfolding(sheet::specs::Sheets::rank, crate::specs::Scanned::scanned_as))]
 pub fn scan(sheet: &Sheet) -> Result<Option<(usize, usize, usize)>, Refusal>
     ensures { scanned_as result ≡ scan_call (reads sheet.now) }
 {
@@ -70,6 +72,7 @@ fn is_same(a: &Sheet, b: &Sheet) -> bool
 }
 
 // Same (both CHARTED): whether n, w, h and all points are equal.
+#[tactic(auto, using(crate::proofs::Comparisons::steps), unfolding(sheet::specs::Sheets::rank))]
 pub fn same(a: &Sheet, b: &Sheet) -> Result<bool, Refusal>
     ensures { told result ≡ same_call (reads a.now) (reads b.now) }
 {

@@ -1,6 +1,7 @@
 -- What a struct reads as, by the number of its stage; and what a call answers and leaves.
 use Prim.Native.Nat.{ℕ, ◌≤◌, ◌<◌, min}
 use mathlib.Core.Path.{◌≡◌, refl, sym, ap, ◌∙◌}
+use mathlib.Core.List.{List}
 use mathlib.Core.Bool.{Bool, true, false, cond}
 use native.Mathlib.Omega.{arith}
 use lib.ListN.{length, take, drop, take-append-drop}
@@ -12,17 +13,19 @@ use borrow.Author.Tests.{leb-true, leb-false, lt-leb}
 use Rattle.std.specs.Prelude.{Ok, Err}
 use Rattle.std.specs.Ordering.{partial_lt}
 use Rattle.std.proofs.lemmas.Bool.Decides.{nat_tests}
-use Rattle.model.specs.Outcome.{Outcome, accepted, refused, passed, require, taken, ◌>>◌}
+use Rattle.model.specs.Outcome.{Outcome, accepted, refused, passed, require, rule, taken, ◌>>◌}
 use Rattle.std.specs.declared.result.Result.{Result}
 use Rattle.refusal.specs.declared.Refusal.{Refusal}
 use Rattle.refusal.specs.Refusals.{told}
-use Rattle.model.specs.Plan.{count, entry_count}
+use Rattle.model.specs.Plan.{Plan, count, entry_count}
+use Rattle.model.specs.Labels.{breaks, label_rules}
 use Rattle.model.specs.File as file
 use Rattle.model.specs.Calls.{plan_of, labels_of, chart_of}
 use Rattle.rings.specs.declared.Rings as rings
+use Rattle.rings.specs.declared.Table as tables
 use Rattle.rings.specs.Tables as flat
 use Rattle.rings.specs.Tables.{start_of, starts_of, rows, table}
-use Rattle.rings.proofs.Rows.{count-rows}
+use Rattle.rings.proofs.Rows.{count-rows, held_small}
 use Rattle.fit.proofs.Fits.{fit-says, total-is, all-counted}
 use Rattle.model.proofs.Outcomes.{not-both, require-passed}
 use Rattle.sheet.specs.contracts.StagePartialOrd.TheImpl.{partial_cmp-value}
@@ -140,6 +143,15 @@ module _ (s : Sheet) where
   unfolding held_plan table
   rings-held r a b c d = λ i. rows (a i) (b i) (c i) (d i)
 
+  -- the label rules on the arrays of a table that is the plan's are those on the plan
+  pub rules_held : (t : tables.Table) (ls : List ℕ) → t.sizes.now ≡ s.sizes → t.entries.now ≡ s.entries → t.n ≡ s.n → fits s ≡ true
+      → rule 10 (min t.n 200) (breaks (flat.held t.sizes.now t.entries.now t.n) ls) ≡ label_rules (held_plan s) ls
+  unfolding held_plan label_rules
+  rules_held t ls a b e f =
+      let h = few f in
+      let m : min t.n 200 ≡ count (held_plan s) = omega (arith, count_held) in
+      (λ i. rule 10 (m i) (breaks (flat.held (a i) (b i) (e i)) ls)) ∙ ap (λ (p : Plan). rule 10 (count (held_plan s)) (breaks p ls)) (held_small s.sizes s.entries s.n h)
+
   -- how many entries the code counts
   pub total-held : {n k : ℕ} → fits s ≡ true → n ≡ s.n → k ≡ start_of s.sizes (min n 200) → k ≡ start_of s.sizes s.n
   total-held {n} f e q = q ∙ ap (start_of s.sizes) (let h = few f in omega arith)
@@ -186,6 +198,10 @@ module _ (s : Sheet) (g : Stage) (r : Result (Unit {0}) Refusal) (q : told r ≡
   -- it is reached
   pub stage_reached : (u : Unit {0}) → r ≡ Ok u → rank g ≤ rank (stage_read s)
   stage_reached u e = leb-true (rank g) (rank (stage_read s)) (require-passed (leb (rank g) (rank (stage_read s))) 13 0 (sym q ∙ ap told e))
+
+  -- and the plan fits, where that stage is past EMPTY
+  pub reached_fits : (u : Unit {0}) → r ≡ Ok u → 1 ≤ rank g → fits s ≡ true
+  reached_fits u e h = let k = stage_reached u e in fits_there s (omega arith)
 
   -- it is too early
   pub stage_missed : (f : Refusal) → r ≡ Err f → rank (stage_read s) < rank g

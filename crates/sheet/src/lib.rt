@@ -1,4 +1,4 @@
-// The sheet: plan, labels and chart in flat arrays, passed and returned by value.
+// The sheet: plan, labels and chart in flat arrays. The calls that change it take and return it by value; all else is lent it.
 #![tactic(auto)]
 
 ghost use Rattle.std.specs.Prelude.{◌≡◌, true, min, take, leb};
@@ -16,10 +16,10 @@ use rings::Table;
 // How far a sheet has come.
 #[derive(Clone, Copy, PartialEq, Eq, PartialOrd, Ord)]
 pub enum Stage {
-    Empty,
-    Open,
-    Labelled,
-    Charted,
+    Empty = 0,
+    Open = 1,
+    Labelled = 2,
+    Charted = 3,
 }
 
 // A sheet. What is not in use is zero.
@@ -37,6 +37,7 @@ pub struct Sheet {
 }
 
 // A fresh sheet.
+#[tactic(auto, unfolding(crate::specs::Sheets::packed, crate::specs::Sheets::pack, crate::specs::Sheets::no_chart, lists::specs::Spans::padded, lists::specs::Spans::zeros))]
 pub fn fresh_sheet() -> Sheet
     ensures { result ≡ packed fresh }
 {
@@ -54,6 +55,7 @@ pub fn fresh_sheet() -> Sheet
 }
 
 // The sheet's plan, whether it fits or not.
+#[tactic(auto, unfolding(crate::specs::Sheets::held_plan))]
 pub fn table_of(sheet: &Sheet) -> Table
     ensures sizes { result.sizes.now ≡ sheet.now.sizes }
     ensures entries { result.entries.now ≡ sheet.now.entries }
@@ -68,6 +70,7 @@ pub fn table_of(sheet: &Sheet) -> Table
 }
 
 // The chart in the sheet's arrays, whether one stands or not.
+#[tactic(auto, unfolding(crate::specs::Sheets::held_chart, charts::specs::Charts::chart_on))]
 pub fn points_of(sheet: &Sheet) -> Points
     ensures w { result.w ≡ sheet.now.w }
     ensures h { result.h ≡ sheet.now.h }
@@ -84,6 +87,7 @@ pub fn points_of(sheet: &Sheet) -> Points
 }
 
 // The labels of the sheet, one for each entry of its plan, as far as the array reaches.
+#[tactic(auto, using(crate::proofs::Reading::labels_lent))]
 pub fn labels_of(sheet: &Sheet) -> &[u8]
     ensures front { result.now ≡ take (start_of sheet.now.sizes (min sheet.now.n 200)) sheet.now.labels }
     ensures held { fits sheet.now ≡ true → result.now ≡ held_labels sheet.now }
@@ -92,7 +96,45 @@ pub fn labels_of(sheet: &Sheet) -> &[u8]
     &sheet.labels[..total.min(1186)]
 }
 
+// A sheet whose plan fits.
+#[derive(Clone, Copy)]
+pub struct Fitting<'a> {
+    pub sheet: &'a Sheet,
+    pub ghost fits: { fits sheet.now ≡ true },
+}
+
+impl<'a> Fitting<'a> {
+    // The sheet's plan.
+    pub fn plan(&self) -> Table<'a>
+        ensures sizes { result.sizes.now ≡ self.now.sheet.now.sizes }
+        ensures entries { result.entries.now ≡ self.now.sheet.now.entries }
+        ensures n { result.n ≡ self.now.sheet.now.n }
+        ensures plan { table_of result ≡ held_plan self.now.sheet.now }
+    {
+        table_of(self.sheet)
+    }
+
+    // The sheet's labels, one for each entry of its plan.
+    pub fn labels(&self) -> &'a [u8]
+        ensures { result.now ≡ held_labels self.now.sheet.now }
+    {
+        labels_of(self.sheet)
+    }
+
+    // The chart in the sheet's arrays, whether one stands or not.
+    pub fn points(&self) -> Points<'a>
+        ensures w { result.w ≡ self.now.sheet.now.w }
+        ensures h { result.h ≡ self.now.sheet.now.h }
+        ensures xs { result.xs.now ≡ self.now.sheet.now.xs }
+        ensures ys { result.ys.now ≡ self.now.sheet.now.ys }
+        ensures chart { chart_in self.now.sheet.now.n result ≡ held_chart self.now.sheet.now }
+    {
+        points_of(self.sheet)
+    }
+}
+
 // The stage that counts: Empty where the plan does not fit.
+#[tactic(auto, unfolding(crate::specs::Sheets::stage_read, crate::specs::Sheets::fits))]
 pub fn stage_of(sheet: &Sheet) -> Stage
     ensures { result ≡ stage_read sheet.now }
 {
@@ -104,18 +146,15 @@ pub fn stage_of(sheet: &Sheet) -> Stage
 }
 
 // The number of a stage.
+#[tactic(auto, unfolding(crate::specs::Sheets::rank))]
 pub fn rank_of(stage: Stage) -> usize
     ensures { result ≡ rank stage }
 {
-    match stage {
-        Stage::Empty => 0,
-        Stage::Open => 1,
-        Stage::Labelled => 2,
-        Stage::Charted => 3,
-    }
+    stage as usize
 }
 
 // Nothing where the sheet has come as far as this stage; else the refusal of a stage too early.
+#[tactic(auto, using(crate::proofs::Reading::stage_order))]
 pub fn require_stage(sheet: &Sheet, stage: Stage) -> Result<(), Refusal>
     ensures { told result ≡ require (leb (rank stage) (rank (stage_read sheet.now))) 13 0 }
 {

@@ -1,4 +1,4 @@
--- The answers of scan, same and ring: each has room in the number, and the code gives it.
+-- The answers of scan, same and ring: each has room in the number, and the code gives it. And a call on what is handed over.
 use Prim.Native.Nat.{ℕ, ◌+◌, ◌*◌, ◌<◌, ◌^◌}
 use mathlib.Core.Path.{◌≡◌, refl, sym, ap, ◌∙◌, subst}
 use mathlib.Core.List.{List}
@@ -7,7 +7,14 @@ use mathlib.Core.Option.{Option, none, some}
 use native.Mathlib.Omega.{arith}
 use lib.Dec.{ltb}
 use borrow.Author.Tests.{ltb-true, ltb-false}
+use Rattle.std.specs.Prelude.{Ok, Err, MatchResult}
+use Rattle.std.specs.declared.result.Result.{Result}
+use Rattle.refusal.specs.declared.Refusal.{Refusal}
+use Rattle.refusal.specs.Refusals.{told}
 use Rattle.model.specs.Outcome.{Outcome, accepted, refused, ◌>>=◌}
+use Rattle.model.specs.CallLists.{Call, call}
+use Rattle.sheet.specs.Answers.{packed_as}
+use Rattle.answers.specs.Codes.{given}
 use Rattle.model.specs.Plan.{Plan}
 use Rattle.model.specs.Scan.{Triple, scan}
 use Rattle.model.specs.File.{Sheet}
@@ -26,7 +33,7 @@ use Rattle.exchange.proofs.Small.{small-accepted, small_bind}
 use Rattle.exchange.proofs.Sizes.{scan-inside, part_short}
 use Rattle.exchange.proofs.Places.{plan-held, small-scan, small_same, small-ring}
 use Rattle.exchange.proofs.Codes.{Roomy}
-use Rattle.exchange.proofs.Handing.{opened_good, handed_good, small_in}
+use Rattle.exchange.proofs.Handing.{opened_good, handed_good, small_in, chained, unhanded}
 use Rattle.touchchart.specs.Interface.{triple_value, scan_value, scans_to, same_value, compare_value, compares_to, part_value, rings_to}
 
 -- ---- scan
@@ -141,3 +148,10 @@ roomy-ring b u = record {
 pub ring-at : (b : List ℕ) (u w : ℕ) (o : Outcome (ℕ × ℕ)) → w ≡ u → o ≡ ring_call b w → (o >>= λ (t : ℕ × ℕ). accepted (part_value t)) ≡ rings_to b u
 unfolding rings_to
 ring-at b u w o s e = ap (λ (p : Outcome (ℕ × ℕ)). p >>= λ (t : ℕ × ℕ). accepted (part_value t)) (e ∙ ap (ring_call b) s)
+
+-- ---- the calls
+-- a call on what is handed over
+pub given_then : (b : List ℕ) (c : Call) (r q : Result struct.Sheet Refusal) → given r ≡ sheet_in b → MatchResult r (λ x. told q ≡ packed_as (call (reads x) c)) (λ f. q ≡ Err f) → given q ≡ (sheet_in b >>= λ (s : Sheet). call s c)
+unfolding given
+given_then b c (Ok x) q e m = chained b c x q e m
+given_then b c (Err f) q e m = ap given m ∙ unhanded b c _ _ e

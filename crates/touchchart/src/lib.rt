@@ -4,7 +4,7 @@
 #![tactic(auto)]
 
 ghost use Rattle.std.specs.Prelude.{◌≡◌, ◌+◌, ◌*◌, ◌<◌};
-ghost use Rattle.model.specs.Calls.{sweep_call, offer_call, turn_call, chart_call};
+ghost use Rattle.model.specs.Calls.{offer_call, turn_call};
 ghost use Rattle.refusal.specs.Refusals.{told};
 ghost use Rattle.writing.specs.Files.{buffer_after};
 ghost use Rattle.sheet.specs.Answers.{length_of};
@@ -22,19 +22,12 @@ pub fn touchchart_open(file: &[u8], out: &mut [u8]) -> u64
     exchange::hand_back(opening::open_file(file), out)
 }
 
-// The sheet that is handed over, swept.
-fn swept(sheet: &[u8]) -> Result<Sheet, Refusal>
-    ensures { given result ≡ called_on sheet.now sweep_call }
-{
-    calls::sweep(exchange::hand_over(sheet)?)
-}
-
 // Sweeps a sheet (OPEN up): the length of the new sheet's file, which is written to out.
 pub fn touchchart_sweep(sheet: &[u8], out: &mut [u8]) -> u64
     ensures value { result ≡ code (length_of (sweeps_to sheet.now out.old)) }
     ensures out_after { out.new ≡ buffer_after (sweeps_to sheet.now out.old) out.old }
 {
-    exchange::hand_back(swept(sheet), out)
+    exchange::hand_back(exchange::hand_over(sheet).and_then(calls::sweep), out)
 }
 
 // The sheet that is handed over, with the labels that are offered to it.
@@ -67,19 +60,12 @@ pub fn touchchart_turn(sheet: &[u8], pairs: &[u16], direction: u8, out: &mut [u8
     exchange::hand_back(turned(sheet, pairs, direction), out)
 }
 
-// The sheet that is handed over, with its chart.
-fn charted(sheet: &[u8]) -> Result<Sheet, Refusal>
-    ensures { given result ≡ called_on sheet.now chart_call }
-{
-    calls::chart(exchange::hand_over(sheet)?)
-}
-
 // Charts a sheet (LABELLED up): the length of the new sheet's file, which is written to out.
 pub fn touchchart_chart(sheet: &[u8], out: &mut [u8]) -> u64
     ensures value { result ≡ code (length_of (charts_to sheet.now out.old)) }
     ensures out_after { out.new ≡ buffer_after (charts_to sheet.now out.old) out.old }
 {
-    exchange::hand_back(charted(sheet), out)
+    exchange::hand_back(exchange::hand_over(sheet).and_then(calls::chart), out)
 }
 
 // Three contexts as one number.
@@ -128,12 +114,12 @@ pub fn touchchart_same(a: &[u8], b: &[u8]) -> u64
 }
 
 // The offset and the length of a part of a file as one number.
-fn part_value(at: usize, size: usize) -> u64
-    requires at_bound { at < 4096 }
-    requires size_bound { size < 4096 }
-    ensures { result ≡ at * 65536 + size }
+fn part_value(part: files::Part) -> u64
+    requires at_bound { part.at < 4096 }
+    requires size_bound { part.size < 4096 }
+    ensures { result ≡ part.at * 65536 + part.size }
 {
-    (at * 65536 + size) as u64
+    (part.at * 65536 + part.size) as u64
 }
 
 // Where a context's ring stands in a file, as a number.
@@ -141,7 +127,7 @@ fn part_of(file: &[u8], context: u16) -> Result<u64, Refusal>
     ensures { told result ≡ rings_to file.now context }
 {
     let part = files::ring_answer(file, usize::from(context))?;
-    Ok(part_value(part.at, part.size))
+    Ok(part_value(part))
 }
 
 // Finds a context's ring in a file: offset × 65536 + length of the part.

@@ -8,15 +8,15 @@ use Rattle.calls.proofs.relabelled.Goals as goal
 
 pub first-requires : goal.first-requires
 first-requires c =
-    let s = c.args.sheet.now in
-    let h = few s c.requires.plan in
+    let s = c.args.fitting.now.sheet.now in
+    let h = few s c.args.fitting.now.fits in
     let l : 200 ≡ length s.sizes = search rules in
     (lit< tt, (omega arith, omega arith))
 
 pub first-requires-2 : goal.first-requires-2
 first-requires-2 c =
-    let s = c.args.sheet.now in
-    let f = c.requires.plan in
+    let s = c.args.fitting.now.sheet.now in
+    let f = c.args.fitting.now.fits in
     let t = total-held s f c.from-n.ensures c.total_of-total.ensures.value in
     let h = room s f in
     let l : 1186 ≡ length s.entries = search rules in
@@ -26,10 +26,10 @@ pub returns : goal.returns
 unfolding zeros
 returns c =
     let a = c.args in
-    let s = a.sheet.now in
+    let s = a.fitting.now.sheet.now in
     let ls = a.labels.now in
     let n = c.from-n.result in
-    let f = c.requires.plan in
+    let f = c.args.fitting.now.fits in
     let t = total-held s f c.from-n.ensures c.total_of-total.ensures.value in
     let h = few s f in
     let r = room s f in

@@ -9,17 +9,17 @@ use Rattle.calls.proofs.with_labels.Goals as goal
 
 pub shared_ref_as_front-relabelled : goal.shared_ref_as_front-relabelled
 shared_ref_as_front-relabelled c =
-    let s = c.args.sheet.now in
-    let t = total-held s c.requires c.from.ensures c.total_of-total.ensures.value in
-    let h = room s c.requires in
+    let s = c.args.fitting.now.sheet.now in
+    let t = total-held s c.args.fitting.now.fits c.from.ensures c.total_of-total.ensures.value in
+    let h = room s c.args.fitting.now.fits in
     omega arith
 
 pub returns : goal.returns
 unfolding held_count
 returns c =
-    let s = c.args.sheet.now in
+    let s = c.args.fitting.now.sheet.now in
     let ls = c.args.labels.now in
-    let t = total-held s c.requires c.from.ensures c.total_of-total.ensures.value in
-    let h = room s c.requires in
+    let t = total-held s c.args.fitting.now.fits c.from.ensures c.total_of-total.ensures.value in
+    let h = room s c.args.fitting.now.fits in
     c.relabelled.ensures
     ∙ ap (λ (l : List ℕ). packed (labelled (held_plan s) l)) (sym (stretch_part ls 0 c.total_of-total.result (omega arith)) ∙ ap (stretch ls 0) t)

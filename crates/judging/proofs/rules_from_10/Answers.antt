@@ -1,5 +1,5 @@
 -- rules_from_10 meets its contract.
-use Rattle.std.proofs.Common.{sym, ◌∙◌, arith}
+use Rattle.std.proofs.Common.{inl, inr, sym, ◌∙◌, arith}
 use borrow.Author.Tests.{ltb-true}
 use Rattle.sheet.specs.declared.Stage.TheVariants.{Labelled}
 use Rattle.sheet.specs.Sheets.{held, rank}
@@ -12,21 +12,20 @@ pub returns-then-lt : goal.returns-then-lt
 unfolding rank
 returns-then-lt c = let s = c.args.sheet.now in none-from_10 s (ltb-true (rank s.stage) 2 (sym (below s.stage Labelled) ∙ sym c.lt.ensures ∙ c.if-lt.true))
 
-pub label_part-requires : goal.label_part-requires
+pub invariant_of-label_part : goal.invariant_of-label_part
 unfolding rank
-label_part-requires c = fits-at c.args.sheet.now (sym c.in-Labelled.is ∙ c.stage_of.ensures) (omega arith)
+invariant_of-label_part c = record { fits = fits-at c.args.sheet.now (sym c.in-Labelled.is ∙ c.stage_of.ensures) (omega arith) }
 
-pub charted_part-requires : goal.charted_part-requires
+pub invariant_of-charted_part : goal.invariant_of-charted_part
 unfolding rank
-charted_part-requires c = fits-at c.args.sheet.now (sym c.in-Charted.is ∙ c.stage_of.ensures) (omega arith)
+invariant_of-charted_part c = record { fits = fits-at c.args.sheet.now (sym c.in-Charted.is ∙ c.stage_of.ensures) (omega arith) }
 
 pub returns-in-Empty : goal.returns-in-Empty
 unfolding held rules_from_10
-returns-in-Empty c = from_10_at c.args.sheet.now (sym c.in-Empty.is ∙ c.stage_of.ensures)
-
-pub returns-in-Open : goal.returns-in-Open
-unfolding held rules_from_10
-returns-in-Open c = from_10_at c.args.sheet.now (sym c.in-Open.is ∙ c.stage_of.ensures)
+returns-in-Empty c = elim c.in-Empty.is [
+  | inl e ↦ from_10_at c.args.sheet.now (sym e ∙ c.stage_of.ensures)
+  | inr e ↦ from_10_at c.args.sheet.now (sym e ∙ c.stage_of.ensures)
+]
 
 pub returns-in-Labelled : goal.returns-in-Labelled
 unfolding held rules_from_10
