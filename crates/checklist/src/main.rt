@@ -15,16 +15,7 @@
 #![tactic(auto)]
 
 use sheet::Sheet;
-use verdicts::{Tally, Turned};
-
-// A turn of the edge from u to v in a direction, and the sheet that it leaves.
-#[derive(Clone, Copy)]
-struct Turn {
-    u: u16,
-    v: u16,
-    direction: u8,
-    left: Sheet,
-}
+use verdicts::{Drawn, Filed, Opened, Tally, Turn, Turned};
 
 // The first turn of one edge that is accepted, if there is one.
 fn first_turn(sheet: &Sheet) -> Option<Turn> {
@@ -56,13 +47,17 @@ fn drawn_anew(opened: &Sheet, sheet: &Sheet) -> Sheet {
     charted(&offered.unwrap_or(*opened))
 }
 
+// A sheet written into a buffer.
+fn filed<'a>(sheet: &Sheet, buffer: &'a mut [u8]) -> Filed<'a> {
+    let answer = reports::write(sheet, buffer);
+    Filed { buffer, answer }
+}
+
 // The check that two sheets are written as the same file.
 fn check_written(tally: Tally, a: &Sheet, b: &Sheet) -> Tally {
     let mut one = io::large_buffer();
-    let first = reports::write(a, &mut one);
     let mut other = io::large_buffer();
-    let second = reports::write(b, &mut other);
-    verdicts::tell_files(tally, &one, first, &other, second)
+    verdicts::tell_files(tally, &filed(a, &mut one), &filed(b, &mut other))
 }
 
 // The checks of a turn of a chart.
@@ -71,11 +66,8 @@ fn check_turn(tally: Tally, opened: &Sheet, sheet: &Sheet, turn: &Turn) -> Tally
     let new = charted(left);
     let anew = drawn_anew(opened, left);
     let turned = Turned {
-        u: turn.u,
-        v: turn.v,
-        direction: turn.direction,
+        turn,
         old: sheet,
-        left,
         left_same: reports::same(left, left),
         new: &new,
         new_same: reports::same(&new, &anew),
@@ -95,9 +87,14 @@ fn check_turns(tally: Tally, opened: &Sheet, sheet: &Sheet) -> Tally {
 fn check_chart(tally: Tally, sheet: &Sheet) -> Tally {
     let swept = calls::sweep(*sheet);
     let before = swept.unwrap_or(*sheet);
-    let drawn = calls::chart(before);
-    let after = verdicts::tell_chart(tally, &swept, &drawn, &drawn.unwrap_or(before));
-    match drawn {
+    let charted = calls::chart(before);
+    let drawn = Drawn {
+        swept: &swept,
+        before: &before,
+        charted: &charted,
+    };
+    let after = verdicts::tell_chart(tally, &drawn);
+    match charted {
         Ok(chart) => check_turns(after, sheet, &chart),
         Err(_) => after,
     }
@@ -105,12 +102,16 @@ fn check_chart(tally: Tally, sheet: &Sheet) -> Tally {
 
 // The checks of a file, where it is accepted.
 fn check_file(tally: Tally, number: usize, file: &[u8]) -> Tally {
-    let opened = opening::open_file(file);
-    let sheet = opened.unwrap_or(sheet::fresh_sheet());
-    let same = reports::same(&sheet, &sheet);
-    let scan = reports::scan(&sheet);
-    let after = verdicts::tell_file(tally, number, &opened, same, scan);
-    if opened.is_ok() {
+    let answer = opening::open_file(file);
+    let sheet = answer.unwrap_or(sheet::fresh_sheet());
+    let opened = Opened {
+        number,
+        answer: &answer,
+        same: reports::same(&sheet, &sheet),
+        scan: reports::scan(&sheet),
+    };
+    let after = verdicts::tell_file(tally, &opened);
+    if answer.is_ok() {
         check_chart(after, &sheet)
     } else {
         after
@@ -119,18 +120,12 @@ fn check_file(tally: Tally, number: usize, file: &[u8]) -> Tally {
 
 // Runs the files of standard input, one after another, and says how many checks there were.
 fn main() {
-    let mut space = io::large_buffer();
-    let got = io::read_full(0, &mut space);
-    let mut rest = arrays::part(&space, 0, got);
     let mut tally = Tally {
         checks: 0,
         wrong: 0,
     };
-    let mut number = 0usize;
-    while let Some((file, behind)) = console::next_file(rest) {
-        number = number.wrapping_add(1);
+    console::run_files(&mut io::large_buffer(), |number, file| {
         tally = check_file(tally, number, file);
-        rest = behind;
-    }
-    console::show(b"# checks, # wrong\n", &[tally.checks, tally.wrong]);
+    });
+    console::println(format_args!("{} checks, {} wrong", tally.checks, tally.wrong,));
 }

@@ -1,2 +1,2 @@
-pub mod Lines
 pub mod Reading
+pub mod Writing

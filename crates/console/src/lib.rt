@@ -1,22 +1,27 @@
-// Standard input and output of the programs: items read, texts with numbers in them. A contract says what a function gives and leaves; what is read and written is outside the logic, as in the kit's io.
+// Standard input and output of the programs: items and files read, texts written. A contract says what a function gives and leaves; what is read and written is outside the logic, as in the kit's io.
 #![tactic(auto)]
 
-ghost use Rattle.std.specs.Prelude.{◌≡◌, ◌+◌, ◌≤◌, ◌<◌, [], drop, length, IfSome, IfNone};
+ghost use Rattle.std.specs.Prelude.{◌≡◌, ◌+◌, ◌≤◌, ◌<◌, ◌%◌, ◌^◌, [], drop, length, IfSome, IfNone};
+ghost use Rattle.std.specs.Fmt.{with_newline};
 ghost use Rattle.arrays.specs.Parts.{part_at};
-ghost use Rattle.console.specs.Lines.{behind, behind_marks};
 ghost use Rattle.console.specs.Reading.{Read, size_at};
+ghost use Rattle.console.specs.Writing.{Counts};
+
+use std::fmt;
+use std::fmt::Write;
 
 // How many items a run takes at most.
 const MOST: usize = 100000;
 
-// Reads so many bytes to the start of a space; whether they were there. What stands behind them stays, and all stays where the space is too short.
-fn read_bytes(space: &mut [u8], size: usize) -> bool
+// Reads so many bytes to the start of a space: something where they were there. What stands behind them stays, and all stays where the space is too short.
+fn read_bytes(space: &mut [u8], size: usize) -> Option<()>
     ensures { Read size space.old space.new result }
 {
     if space.len() < size {
-        return false;
+        return None;
     }
-    io::read_full(0, &mut space[..size]) == size
+    let got = io::read_full(0, &mut space[..size]);
+    (got == size).then_some(())
 }
 
 // An item of the input: its kind, and the length of its argument.
@@ -31,14 +36,11 @@ pub fn read_item(space: &mut [u8]) -> Option<Item>
     ensures size { IfSome result (λ item. item.size ≤ length space.old) }
     ensures room { length space.new ≡ length space.old }
 {
-    if !read_bytes(space, 4) {
-        return None;
-    }
-    let kind = arrays::num(space, 0) as u8;
-    let size = arrays::num(space, 1) + 256 * arrays::word_at(space, 2);
-    if !read_bytes(space, size) {
-        return None;
-    }
+    let mut head = [0u8; 4];
+    read_bytes(&mut head, 4)?;
+    let [kind, low, middle, high] = head;
+    let size = usize::from_le_bytes([low, middle, high, 0, 0, 0, 0, 0]);
+    read_bytes(space, size)?;
     Some(Item { kind, size })
 }
 
@@ -71,32 +73,59 @@ pub fn next_file(input: &[u8]) -> Option<(&[u8], &[u8])>
     if input.is_empty() {
         return None;
     }
-    let size = arrays::word_at(input, 0);
+    let size = usize::from(arrays::word_at(input, 0));
     let end = input.len().min(2 + size);
     Some((arrays::part(input, 2, size), &input[end..]))
 }
 
-// Writes a text from an index on, up to its next `#`, and a number in place of that; the index behind it.
-fn show_part(text: &[u8], from: usize, x: usize) -> usize
-    ensures { result ≡ behind text.now from }
+// Reads all of standard input into a space, as far as it has room, and runs the files that it holds, one after another, each with its number, from 1 on; how many there were, of which each has a byte at least.
+pub fn run_files<F: FnMut(usize, &[u8])>(space: &mut [u8], mut run: F) -> usize
+    requires { F.IsAlwaysCallable run }
+    ensures most { result ≤ length space.old }
+    ensures room { length space.new ≡ length space.old }
 {
-    for i in from..text.len() {
-        if text[i] == b'#' {
-            io::print_decimal(1, x as u64);
-            return i + 1;
+    let got = io::read_full(0, space);
+    let mut rest = arrays::part(space, 0, got);
+    for done in 0..got {
+        match next_file(rest) {
+            None => return done,
+            Some((file, behind)) => {
+                run(done + 1, file);
+                rest = behind;
+            }
         }
-        io::write_all(1, &text[i..i + 1]);
     }
-    from.max(text.len())
+    got
 }
 
-// Writes a text with these numbers for its first `#`, and all that stands behind the last of them up to one `#` more, which is 0; the index behind what is written.
-pub fn show(text: &[u8], numbers: &[usize]) -> usize
-    ensures { result ≡ behind_marks (length numbers.now + 1) text.now }
-{
-    let mut at = 0;
-    for x in numbers {
-        at = show_part(text, at, *x);
+// Standard output, and how many bytes went to it.
+#[derive(Clone, Copy)]
+struct Output {
+    count: usize,
+}
+
+impl fmt::Write for Output {
+    ghost write_str_gives = { λ s bytes t. t.count ≡ (s.count + length bytes) % 2 ^ 64 };
+
+    fn write_str(&mut self, text: &str) -> fmt::Result {
+        io::write_all(1, text.as_bytes());
+        self.count = self.count.wrapping_add(text.len());
+        Ok(())
     }
-    show_part(text, at, 0)
+}
+
+// Writes a text to standard output; how many bytes it has. None where the text itself fails: the contract leaves open which do, and says nothing of a text whose type doesn't say what it writes.
+pub fn print<D: fmt::Display + Drop>(text: D) -> Option<usize>
+    ensures { Counts (D.output text) result }
+{
+    let mut output = Output { count: 0 };
+    output.write(text).ok()?;
+    Some(output.count)
+}
+
+// The same of a line: the text, and its end, which counts as a byte.
+pub fn println<D: fmt::Display + Drop>(text: D) -> Option<usize>
+    ensures { Counts (with_newline (D.output text)) result }
+{
+    print(format_args!("{text}\n"))
 }

@@ -1,40 +1,38 @@
--- Digits: how they go on from those of a number's tenth, how many there are, and that they say the number.
+-- Digits: how they go on from those of a number's tenth, that they are what the kit prints, how many there are, and that they say the number.
 use Prim.Native.Nat.{ℕ, zero, suc, ◌+◌, ◌-◌, ◌*◌, ◌/◌, ◌%◌, ◌^◌, ◌≤◌, ◌<◌}
-use mathlib.Core.Path.{◌≡◌, refl, ap, ◌∙◌}
+use mathlib.Core.Path.{◌≡◌, refl, sym, ap, ◌∙◌}
 use mathlib.Core.List.{List, [], ◌∷◌, ◌++◌}
 use mathlib.Core.Bool.{Bool, true, false, cond}
 use native.Mathlib.Omega.{arith}
 use lib.ListN.{length, length-append}
 use lib.Dec.{ltb}
 use borrow.Author.Tests.{ltb-true, ltb-false, lt-ltb, le-ltb}
+use Rattle.std.specs.Fmt.{decimal}
+use Rattle.std.proofs.lemmas.Fmt.{decimal_from_appends, length-decimal-le_succ}
 use Rattle.forms.specs.Words.{digits_below, digits, number}
 
 -- ---- the digits of a number from those of its tenth
--- two lists that are the same where the test fails are the same behind the test
-either : (b : Bool) (l m t : List ℕ) → (b ≡ false → l ≡ m) → (cond b [] l ++ t) ≡ (cond b [] m ++ t)
-either true l m t f = refl
-either false l m t f = ap (λ (k : List ℕ). k ++ t) (f refl)
-
--- it does not matter below which bound
-same_digits : (k m x : ℕ) → x < k → x < m → digits_below k x ≡ digits_below m x
+-- the last digit of a number below ten is the number
+one_digit : (k x : ℕ) → x < 10 → digits_below (suc k) x ≡ (48 + x) ∷ []
 unfolding digits_below
-same_digits zero m x h j = absurd (omega arith)
-same_digits (suc k) zero x h j = absurd (omega arith)
-same_digits (suc k) (suc m) x h j =
-    either (ltb x 10) (digits_below k (x / 10)) (digits_below m (x / 10)) ((48 + x % 10) ∷ []) (λ e. let g = ltb-false x 10 e in same_digits k m (x / 10) (omega arith) (omega arith))
+one_digit k x h =
+    let one : x % 10 ≡ x = omega arith in
+    ap (λ (b : Bool). cond b [] (digits_below k (x / 10)) ++ ((48 + x % 10) ∷ [])) (lt-ltb x 10 h) ∙ ap (λ (d : ℕ). (48 + d) ∷ []) one
+
+-- any other number has its tenth's digits, then its last digit
+more-digits : (k x : ℕ) → 10 ≤ x → digits_below (suc k) x ≡ digits_below k (x / 10) ++ ((48 + x % 10) ∷ [])
+unfolding digits_below
+more-digits k x h = ap (λ (b : Bool). cond b [] (digits_below k (x / 10)) ++ ((48 + x % 10) ∷ [])) (le-ltb x 10 h)
 
 -- a number below ten is one digit
 pub digits_low : (x : ℕ) → x < 10 → digits x ≡ (48 + x) ∷ []
-unfolding digits digits_below
-digits_low x h =
-    let one : x % 10 ≡ x = omega arith in
-    ap (λ (b : Bool). cond b [] (digits_below x (x / 10)) ++ ((48 + x % 10) ∷ [])) (lt-ltb x 10 h) ∙ ap (λ (d : ℕ). (48 + d) ∷ []) one
+unfolding digits
+digits_low x h = one_digit x x h
 
--- any other number is its tenth's digits, then its last digit
-pub digits-high : (x : ℕ) → 10 ≤ x → digits x ≡ digits (x / 10) ++ ((48 + x % 10) ∷ [])
-unfolding digits digits_below
-digits-high x h =
-    ap (λ (b : Bool). cond b [] (digits_below x (x / 10)) ++ ((48 + x % 10) ∷ [])) (le-ltb x 10 h) ∙ ap (λ (l : List ℕ). l ++ ((48 + x % 10) ∷ [])) (same_digits x (suc (x / 10)) (x / 10) (omega arith) (omega arith))
+-- of a number of eight bytes they are what the kit prints
+pub digits-decimal : (x : ℕ) → x < 2 ^ 64 → decimal x ≡ digits x
+unfolding digits
+digits-decimal x h = sym (decimal_from_appends digits_below (record { one = one_digit; more = more-digits }) (suc x) x h (let n = length-decimal-le_succ x h in omega arith))
 
 -- ---- how many digits there are
 -- ten to the k

@@ -9,6 +9,7 @@ use lib.Seq.{get_or-drop, take-length}
 use lib.Dec.{eqb}
 use Rattle.forms.specs.Words.{digits}
 use Rattle.forms.specs.Forms.{mark, stands, filled}
+use Rattle.forms.specs.declared.Writer.{Writer}
 use Rattle.forms.specs.Puts.{Put}
 use Rattle.forms.proofs.Digits.{digits_low, digits-word, digits_wide}
 use Rattle.forms.proofs.Puts.{put_join, put_as}
@@ -34,12 +35,12 @@ marks-more (b ∷ form) zero h = omega arith
 marks-more (b ∷ form) (suc i) h = let m = marks-more form i (omega arith) in omega arith
 
 -- ---- the first i bytes of a form are put, and k of them are `#`
-module _ (form numbers : List ℕ) (i k : ℕ) {d₀ : List ℕ} {at : ℕ} {d : List ℕ} {m : ℕ} (p : Put d₀ at (filled (take i form) numbers) d m) (q : k ≡ marks (take i form)) where
+module _ (form numbers : List ℕ) (i k : ℕ) {w m : Writer} (p : Put w (filled (take i form) numbers) m) (q : k ≡ marks (take i form)) where
   -- then what one more stands for
-  pub put-more : {x i' to : ℕ} {d' : List ℕ} → i < length form → x ≡ get_or numbers k 0 → i' ≡ i + 1 → Put d m (stands (get_or form i 0) x) d' to → Put d₀ at (filled (take i' form) numbers) d' to
+  pub put-more : {x i' : ℕ} {n : Writer} → i < length form → x ≡ get_or numbers k 0 → i' ≡ i + 1 → Put m (stands (get_or form i 0) x) n → Put w (filled (take i' form) numbers) n
   put-more {x} {i'} h e f r =
-      let n : suc i ≡ i' = omega arith in
-      put_as (put_join p r) (ap (λ (y : ℕ). filled (take i form) numbers ++ stands (get_or form i 0) y) (e ∙ ap (λ (j : ℕ). get_or numbers j 0) q) ∙ filled_more form numbers i h ∙ ap (λ (j : ℕ). filled (take j form) numbers) n)
+      let s : suc i ≡ i' = omega arith in
+      put_as (put_join p r) (ap (λ (y : ℕ). filled (take i form) numbers ++ stands (get_or form i 0) y) (e ∙ ap (λ (j : ℕ). get_or numbers j 0) q) ∙ filled_more form numbers i h ∙ ap (λ (j : ℕ). filled (take j form) numbers) s)
 
   -- which may be one more `#`
   pub mark-more : {x i' k' : ℕ} → i < length form → x ≡ mark (get_or form i 0) → i' ≡ i + 1 → k' ≡ k + x → k' ≡ marks (take i' form)
@@ -49,7 +50,7 @@ module _ (form numbers : List ℕ) (i k : ℕ) {d₀ : List ℕ} {at : ℕ} {d :
       s ∙ marks-more form i h ∙ ap (λ (j : ℕ). marks (take j form)) n
 
   -- and when there are no more, the form
-  pub put_all : i ≡ length form → Put d₀ at (filled form numbers) d m
+  pub put_all : i ≡ length form → Put w (filled form numbers) m
   put_all e = put_as p (ap (λ (l : List ℕ). filled l numbers) (ap (λ (j : ℕ). take j form) e ∙ take-length form))
 
 -- ---- how long a filled form is

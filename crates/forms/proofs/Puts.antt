@@ -8,6 +8,7 @@ use lib.ListN.{length, set, length-set, length-append}
 use lib.Seq.{sets, length-sets, set_out}
 use lib.Dec.{ltb}
 use borrow.Author.Tests.{ltb-true, ltb-false}
+use Rattle.forms.specs.declared.Writer.{Writer}
 use Rattle.forms.specs.Puts.{Put}
 
 -- ---- stores one after the other
@@ -35,33 +36,34 @@ sets_join d i (a ∷ t) u = go (ltb i (length d)) refl (sets_join (set d i a) (s
 
 -- ---- puts
 -- nothing
-pub put-none : {d : List ℕ} {at to : ℕ} → to ≡ at → Put d at [] d to
-put-none q = record { stored = refl; behind = omega arith }
+pub put-none : (w : Writer) → Put w [] w
+put-none w = record { stored = refl; behind = omega arith; same = refl }
 
 -- one byte, inside
-pub put_one : {d₀ d : List ℕ} {at x to : ℕ} → at < length d₀ → d ≡ set d₀ at x → to ≡ at + 1 → Put d₀ at (x ∷ []) d to
-put_one h e q = record { stored = e; behind = omega arith }
+pub put_one : {w m : Writer} {x : ℕ} → w.at < length w.out.now → m.out.now ≡ set w.out.now w.at x → m.at ≡ w.at + 1 → m.out.ghost_name ≡ w.out.ghost_name → Put w (x ∷ []) m
+put_one h e q g = record { stored = e; behind = omega arith; same = g }
 
 -- and outside
-pub put_outside : (d : List ℕ) (at x : ℕ) → length d ≤ at → Put d at (x ∷ []) d at
-put_outside d at x h = record { stored = sym (set_out d at x h); behind = omega arith }
+pub put_outside : (w : Writer) (x : ℕ) → length w.out.now ≤ w.at → Put w (x ∷ []) w
+put_outside w x h = record { stored = sym (set_out w.out.now w.at x h); behind = omega arith; same = refl }
 
-module _ {d₀ : List ℕ} {at : ℕ} {t d : List ℕ} {m : ℕ} (p : Put d₀ at t d m) where
+module _ {w m : Writer} {t : List ℕ} (p : Put w t m) where
   -- the buffer keeps its length
-  pub put-size : length d ≡ length d₀
-  put-size = ap length p.stored ∙ length-sets d₀ at t
+  pub put-size : length m.out.now ≡ length w.out.now
+  put-size = ap length p.stored ∙ length-sets w.out.now w.at t
 
   -- one text, then another
-  pub put_join : {u d' : List ℕ} {to : ℕ} → Put d m u d' to → Put d₀ at (t ++ u) d' to
+  pub put_join : {u : List ℕ} {n : Writer} → Put m u n → Put w (t ++ u) n
   put_join {u} q = record {
-    stored = q.stored ∙ (λ i. sets (p.stored i) (p.behind i) u) ∙ sets_join d₀ at t u;
+    stored = q.stored ∙ (λ i. sets (p.stored i) (p.behind i) u) ∙ sets_join w.out.now w.at t u;
     behind = let a = p.behind in let b = q.behind in let c = length-append t u in let n = put-size in omega arith;
+    same = q.same ∙ p.same;
   }
 
   -- the text by another name
-  pub put_as : {u : List ℕ} → t ≡ u → Put d₀ at u d m
-  put_as e = subst (λ (l : List ℕ). Put d₀ at l d m) e p
+  pub put_as : {u : List ℕ} → t ≡ u → Put w u m
+  put_as e = subst (λ (l : List ℕ). Put w l m) e p
 
--- a text at the front of a buffer that has room for it: its length is given back
-pub put_long : {d₀ t d : List ℕ} {to : ℕ} → Put d₀ 0 t d to → length t ≤ length d₀ → to ≡ length t
-put_long p h = omega (arith, p.behind)
+  -- at the front of a buffer that has room for it: the place is its length
+  pub put_long : w.at ≡ 0 → length t ≤ length w.out.now → m.at ≡ length t
+  put_long z h = omega (arith, p.behind)

@@ -1,8 +1,10 @@
--- Bytes put into a lent buffer: what a function that puts them leaves there, and the place that it gives back.
+-- Bytes put into a lent buffer: what a writer leaves there, and its place behind them.
 use Rattle.std.specs.Prelude.{ℕ, ◌+◌, ◌-◌, min, ◌≡◌, List, length}
 use Rattle.std.proofs.lemmas.List.Edits.{sets}
+use Rattle.forms.specs.declared.Writer.{Writer}
 
--- The bytes t are put into the buffer from place `at` on, as many as it has room for, the others are passed over; the buffer is then `after`, and `to` is the place behind those that are put.
-pub record Put (before : List ℕ) (at : ℕ) (t after : List ℕ) (to : ℕ) : Type 0 where
-  pub stored : after ≡ sets before at t
-  pub behind : to ≡ at + min (length t) (length before - at)
+-- The bytes t are put into the buffer from the writer's place on, as many as it has room for, the others are passed over; its place is then behind those that are put, and the buffer is the same one.
+pub record Put (before : Writer) (t : List ℕ) (after : Writer) : Type 0 where
+  pub stored : after.out.now ≡ sets before.out.now before.at t
+  pub behind : after.at ≡ before.at + min (length t) (length before.out.now - before.at)
+  pub same : after.out.ghost_name ≡ before.out.ghost_name

@@ -6,44 +6,20 @@ ghost use Rattle.forms.specs.Words.{digits};
 ghost use Rattle.forms.specs.Forms.{mark, stands, filled};
 ghost use Rattle.forms.specs.Puts.{Put};
 
-// A byte at a place of the buffer; a place outside it is passed over.
-fn put_byte(out: &mut [u8], at: usize, x: u8) -> usize
-    ensures { Put out.old at (x ∷ []) out.new result }
-{
-    if at < out.len() {
-        out[at] = x;
-        return at + 1;
-    }
-    at
-}
-
-// A number in decimal: the digits of its tenth, if it has a tenth, then its last digit.
-fn put_number(out: &mut [u8], at: usize, x: usize) -> usize
-    ensures { Put out.old at (digits x) out.new result }
-{
-    if x < 10 {
-        return put_byte(out, at, (48 + x) as u8);
-    }
-    let to = put_number(out, at, x / 10);
-    put_byte(out, to, (48 + x % 10) as u8)
-}
-
-// What a byte of a form stands for: a number in decimal, or itself.
-fn put_sign(out: &mut [u8], at: usize, sign: u8, x: usize) -> usize
-    ensures { Put out.old at (stands sign x) out.new result }
-{
-    if sign == b'#' {
-        return put_number(out, at, x);
-    }
-    put_byte(out, at, sign)
+// A lent buffer, and the place behind what is put there. What the buffer has no room for is passed over.
+#[derive(Drop)]
+pub struct Writer<'a> {
+    pub out: &'a mut [u8],
+    pub at: usize,
 }
 
 // 1 for the byte `#`, 0 for any other.
+#[tactic(auto, unfolding(crate::specs::Forms::mark))]
 fn mark(sign: u8) -> usize
     ensures value { result ≡ mark sign }
     ensures upper_bound { result ≤ 1 }
 {
-    if sign == b'#' { 1 } else { 0 }
+    usize::from(sign == b'#')
 }
 
 // The k-th of these numbers, from 0 on; 0 behind them.
@@ -53,15 +29,52 @@ fn number(k: usize, numbers: &[usize]) -> usize
     numbers.get(k).copied().unwrap_or(0)
 }
 
-// A form with these numbers in it, at a place of the buffer; the place behind it. What the buffer has no room for is passed over.
-pub fn put(out: &mut [u8], at: usize, form: &[u8], numbers: &[usize]) -> usize
-    ensures { Put out.old at (filled form.now numbers.now) out.new result }
-{
-    let mut to = at;
-    let mut k = 0;
-    for sign in form {
-        to = put_sign(out, to, *sign, number(k, numbers));
-        k += mark(*sign);
+impl<'a> Writer<'a> {
+    // A byte.
+    fn put_byte(&mut self, x: u8)
+        ensures { Put self.old (x ∷ []) self.new }
+    {
+        if self.at < self.out.len() {
+            self.out[self.at] = x;
+            self.at += 1;
+        }
     }
-    to
+
+    // Bytes, one after another.
+    fn put_bytes(&mut self, bytes: &[u8])
+        ensures { Put self.old bytes.now self.new }
+    {
+        for x in bytes {
+            self.put_byte(*x);
+        }
+    }
+
+    // A number in decimal.
+    fn put_number(&mut self, x: usize)
+        ensures { Put self.old (digits x) self.new }
+    {
+        self.put_bytes(itoa::Buffer::new().format(x).as_bytes());
+    }
+
+    // What a byte of a form stands for: a number in decimal, or itself.
+    fn put_sign(&mut self, sign: u8, x: usize)
+        ensures { Put self.old (stands sign x) self.new }
+    {
+        if sign == b'#' {
+            self.put_number(x);
+        } else {
+            self.put_byte(sign);
+        }
+    }
+
+    // A form with these numbers in it.
+    pub fn put(&mut self, form: &[u8], numbers: &[usize])
+        ensures { Put self.old (filled form.now numbers.now) self.new }
+    {
+        let mut k = 0;
+        for sign in form {
+            self.put_sign(*sign, number(k, numbers));
+            k += mark(*sign);
+        }
+    }
 }

@@ -16,8 +16,13 @@
 // stdin and stdout beside this crate are made by the reference in rust/, by its examples calls_items and run_calls.
 #![tactic(auto)]
 
+ghost use Rattle.std.specs.Prelude.{◌≡◌, Some};
+ghost use Rattle.std.specs.Fmt.{padded};
+ghost use Rattle.trial_calls.specs.Names.{kind_name};
+
 use refusal::Refusal;
 use sheet::{Sheet, Stage};
+use std::fmt;
 
 // The kinds of items.
 #[derive(Clone, Copy)]
@@ -45,27 +50,36 @@ impl Kind {
     }
 
     // The name that its line begins with.
-    fn name(self) -> &'static [u8] {
+    fn name(self) -> &'static str
+        ensures { result.now ≡ kind_name self }
+    {
         match self {
-            Kind::Fresh => b"fresh ",
-            Kind::Open => b"open  ",
-            Kind::Offer => b"offer ",
-            Kind::Sweep => b"sweep ",
-            Kind::Turn => b"turn  ",
-            Kind::Chart => b"chart ",
+            Kind::Fresh => "fresh",
+            Kind::Open => "open",
+            Kind::Offer => "offer",
+            Kind::Sweep => "sweep",
+            Kind::Turn => "turn",
+            Kind::Chart => "chart",
         }
+    }
+}
+
+// A kind as it is written: its name.
+impl fmt::Display for Kind {
+    ghost output = { λ kind. Some (kind_name kind) };
+
+    ghost styled_output = { λ kind spec. Some (padded spec (kind_name kind)) };
+
+    fn fmt<W: fmt::Write>(&self, f: &mut fmt::Formatter<W>) -> fmt::Result {
+        f.pad(self.name())
     }
 }
 
 // Turn: the direction, and the numbers of the list behind it.
 fn run_turn(sheet: Sheet, argument: &[u8]) -> Result<Sheet, Refusal> {
-    let mut numbers = [0u16; 4096];
-    for i in 0..4096 {
-        numbers[i] = arrays::word_at(argument, 1 + 2 * i) as u16;
-    }
     let count = (argument.len().saturating_sub(1) / 2).min(4096);
-    let direction = arrays::num(argument, 0) as u8;
-    calls::turn(sheet, &numbers[..count], direction)
+    let numbers = arrays::words::<4096>(argument, 1, 2, count);
+    calls::turn(sheet, &numbers[..count], arrays::at(argument, 0))
 }
 
 // The call of an item.
@@ -83,47 +97,39 @@ fn run_call(sheet: Sheet, kind: Kind, argument: &[u8]) -> Result<Sheet, Refusal>
 // Writes the answer of a call.
 fn show_answer(answer: &Result<Sheet, Refusal>) {
     match answer {
-        Ok(_) => {
-            io::write_all(1, b"accepted; ");
-        }
-        Err(refusal) => {
-            let number = usize::from(refusal.number());
-            console::show(b"refused # at #; ", &[number, refusal.place()]);
-        }
-    }
+        Ok(_) => console::print("accepted; "),
+        Err(refusal) => console::print(format_args!("{refusal}; ")),
+    };
 }
 
-// The name of a stage, and spaces behind it.
-fn name_of(stage: Stage) -> &'static [u8] {
+// The name of a stage.
+fn name_of(stage: Stage) -> &'static str {
     match stage {
-        Stage::Empty => b"EMPTY    ",
-        Stage::Open => b"OPEN     ",
-        Stage::Labelled => b"LABELLED ",
-        Stage::Charted => b"CHARTED  ",
+        Stage::Empty => "EMPTY",
+        Stage::Open => "OPEN",
+        Stage::Labelled => "LABELLED",
+        Stage::Charted => "CHARTED",
     }
 }
 
 // Writes the sheet after a call, and the end of the line.
 fn show_sheet(sheet: &Sheet) {
-    io::write_all(1, name_of(sheet.stage));
     let mut space = [170u8; 8192];
     let size = reports::write(sheet, &mut space).unwrap_or(0);
-    console::show(
-        b"n #, #x#, length #, checksum #\n",
-        &[
-            usize::from(sheet.n),
-            usize::from(sheet.w),
-            usize::from(sheet.h),
-            size,
-            comparison::checksum(&space),
-        ],
-    );
+    console::println(format_args!(
+        "{:<9}n {}, {}x{}, length {size}, checksum {}",
+        name_of(sheet.stage),
+        sheet.n,
+        sheet.w,
+        sheet.h,
+        comparison::checksum(&space),
+    ));
 }
 
 // The line of an item; the sheet after its call.
 fn run_item(sheet: Sheet, kind: Kind, argument: &[u8]) -> Sheet {
     let answer = run_call(sheet, kind, argument);
-    io::write_all(1, kind.name());
+    console::print(format_args!("{kind:<6}"));
     show_answer(&answer);
     let after = answer.unwrap_or(sheet);
     show_sheet(&after);
@@ -141,5 +147,5 @@ fn main() {
             true
         }
     });
-    console::show(b"# items\n", &[done]);
+    console::println(format_args!("{done} items"));
 }

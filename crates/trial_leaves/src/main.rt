@@ -1,11 +1,9 @@
 // Runs vectors over the leaves. Standard input holds plan files, each behind its length in two bytes, little-endian; the
 // program prints a line for each: the refusal of framing, or n and the offsets of labels and chart, 0 where there are none; the
-// place that each plan rule gives (n where it is kept), how many entries there are, the scan, how many bytes of the plan that is
+// place that each plan rule gives (where it is kept n, for rule 8 the number 4), how many entries there are, the scan, how many bytes of the plan that is
 // written are the file's, what a buffer that just fits and one that is a byte short give (16), the place of the label rules, the
 // chart, and for a chart record 0 if it is that chart, else 12. A leaf that the ones before it rule out is not asked.
 #![tactic(auto)]
-
-ghost use Rattle.std.specs.Prelude.{◌≤◌};
 
 use charts::Points;
 use framing::{Layout, Parts};
@@ -14,48 +12,54 @@ use refusal::Refusal;
 use rings::{Rings, Table};
 use writing::Held;
 
-// The entries of all rings, copied for each context and each number below 256: behind the end of a ring that is 0, and the next ring is copied over it.
+// The entries of all rings, one ring behind the other.
 fn entries_of(rings: &LentRings) -> [u16; 1186] {
     let mut entries = [0u16; 1186];
     for u in 0..rings.n {
-        for i in 0..256 {
+        for i in 0..rings.size_of(u) {
             let v = rings.neighbour_at(u, i);
             let at = arrays::num(rings.starts, u) + i;
-            arrays::put(&mut entries, at, (v % 65536) as u16);
+            arrays::put(&mut entries, at, u16::try_from(v).unwrap_or(0));
         }
     }
     entries
 }
 
+// The place that a rule refuses; this number where it is kept.
+fn place_of(rule: Result<(), Refusal>, kept: usize) -> usize {
+    rule.err().map_or(kept, Refusal::place)
+}
+
 // The places that rules 4, 5 and 6 give; whether all are kept.
 fn print_lent_rules(rings: &LentRings) -> bool {
     let n = rings.n;
-    let four = single::rule4_place(rings);
-    let five = single::rule5_place(rings);
-    let six = mutual::rule6_place(rings);
-    let total = arrays::num(rings.starts, n);
-    console::show(b" 4:# 5:# 6:# entries #", &[four, five, six, total]);
-    n <= four.min(five).min(six)
+    let four = single::rule4(rings);
+    let five = single::rule5(rings);
+    let six = mutual::rule6(rings);
+    console::print(format_args!(
+        " 4:{} 5:{} 6:{} entries {}",
+        place_of(four, n),
+        place_of(five, n),
+        place_of(six, n),
+        arrays::num(rings.starts, n),
+    ));
+    four.is_ok() && five.is_ok() && six.is_ok()
 }
 
 // The places that rules 8 and 9 give; whether both are kept.
 fn print_flat_rules(rings: &Rings) -> bool {
-    let eight = faces::rule8_place(rings);
-    let nine = faces::rule9_place(rings);
-    console::show(b" 8:# 9:#", &[eight, nine]);
-    4 <= eight && rings.n <= nine
+    let eight = faces::rule8(rings);
+    let nine = faces::rule9(rings);
+    console::print(format_args!(" 8:{} 9:{}", place_of(eight, 4), place_of(nine, rings.n),));
+    eight.is_ok() && nine.is_ok()
 }
 
 // The smallest triple of mutual neighbours that are no inner face.
 fn print_scan(rings: &Rings) {
     match triples::scan(rings) {
-        None => {
-            io::write_all(1, b" triangle none");
-        }
-        Some((a, b, c)) => {
-            console::show(b" triangle #,#,#", &[a, b, c]);
-        }
-    }
+        None => console::print(" triangle none"),
+        Some((a, b, c)) => console::print(format_args!(" triangle {a},{b},{c}")),
+    };
 }
 
 // The plan alone, written as a file into the first bytes of a buffer, and how long it is. Where the buffer has fewer bytes, nothing is written.
@@ -70,60 +74,62 @@ fn write_part(space: &mut [u8], size: usize, plan: &Table) -> Result<usize, Refu
     writing::write_file(&mut space[..size], &held)
 }
 
-// The plan written into so many bytes, with what is said of it where they suffice: how many it takes, and how many of them are the file's; else how many it needs. Either number.
-fn print_part(text: &[u8], size: usize, file: &[u8], plan: &Table) -> usize {
+// The plan written into a buffer: how many bytes it takes, and how many of them are the file's; or how many it needs. Either number.
+fn print_whole(file: &[u8], plan: &Table) -> usize {
     let mut space = io::buffer();
-    match write_part(&mut space, size, plan) {
+    match write_part(&mut space, 4096, plan) {
+        Ok(size) => {
+            let same = comparison::agreeing(file, &space, size);
+            console::print(format_args!(" bytes {size} same {same}"));
+            size
+        }
+        Err(refusal) => print_short(refusal),
+    }
+}
+
+// How many bytes a buffer that is too short would need.
+fn print_short(refusal: Refusal) -> usize {
+    let size = refusal.place();
+    console::print(format_args!(" short {size}"));
+    size
+}
+
+// The plan written into so many bytes: how many it takes, or how many it needs.
+fn print_part(size: usize, plan: &Table) {
+    match write_part(&mut io::buffer(), size, plan) {
         Ok(k) => {
-            console::show(text, &[k, comparison::agreeing(file, &space, k)]);
-            k
+            console::print(format_args!(" length {k}"));
         }
         Err(refusal) => {
-            let k = refusal.place();
-            console::show(b" short #", &[k]);
-            k
+            print_short(refusal);
         }
     }
 }
 
 // The plan written into a buffer, into one that just fits, and into one that is a byte short.
 fn print_written(file: &[u8], plan: &Table) {
-    let size = print_part(b" bytes # same #", 4096, file, plan);
-    print_part(b" length #", size, file, plan);
-    print_part(b" length #", size.saturating_sub(1), file, plan);
+    let size = print_whole(file, plan);
+    print_part(size, plan);
+    print_part(size.saturating_sub(1), plan);
 }
 
 // A chart: its size and the point of each of n contexts.
 fn print_points(drawn: &Points, n: usize) {
-    console::show(b" chart #x#", &[usize::from(drawn.w), usize::from(drawn.h)]);
+    console::print(format_args!(" chart {}x{}", drawn.w, drawn.h));
     for u in 0..n {
-        console::show(
-            b" #,#",
-            &[arrays::num(drawn.xs, u), arrays::num(drawn.ys, u)],
-        );
+        let x = arrays::num(drawn.xs, u);
+        let y = arrays::num(drawn.ys, u);
+        console::print(format_args!(" {x},{y}"));
     }
-}
-
-// One coordinate of each point in the body of a chart record, from an offset on.
-fn coordinates_in(record: &[u8], from: usize) -> [u16; 200]
-    requires { from ≤ 6 }
-{
-    let mut numbers = [0u16; 200];
-    for u in 0..200 {
-        numbers[u] = arrays::word_at(record, from + 4 * u) as u16;
-    }
-    numbers
 }
 
 // Is the chart in the body of a chart record the one that is drawn?
 fn judge_record(record: &[u8], n: usize, drawn: &Points) -> Result<(), Refusal> {
-    let xs = coordinates_in(record, 4);
-    let ys = coordinates_in(record, 6);
     let found = Points {
-        w: arrays::word_at(record, 0) as u16,
-        h: arrays::word_at(record, 2) as u16,
-        xs: &xs,
-        ys: &ys,
+        w: arrays::word_at(record, 0),
+        h: arrays::word_at(record, 2),
+        xs: &arrays::words::<200>(record, 4, 4, 200),
+        ys: &arrays::words::<200>(record, 6, 4, 200),
     };
     if charts::same_chart(n, &found, drawn) {
         Ok(())
@@ -136,46 +142,47 @@ fn judge_record(record: &[u8], n: usize, drawn: &Points) -> Result<(), Refusal> 
 fn print_record(record: &[u8], n: usize, drawn: &Points) {
     let number = match judge_record(record, n, drawn) {
         Ok(()) => 0,
-        Err(refusal) => usize::from(refusal.number()),
+        Err(refusal) => refusal.number(),
     };
-    console::show(b" record #", &[number]);
+    console::print(format_args!(" record {number}"));
 }
 
-// The chart of the labels, and whether a chart record, if the file has one at an offset, is the same.
-fn print_chart(file: &[u8], plan: &Table, labels: &[u8], chart: Option<usize>)
-    requires { plan.now.n ≤ 200 }
-{
+// The chart of the labels, and whether the body of a chart record, if the file has one, is the same.
+fn print_chart(plan: &Table, labels: &[u8], record: Option<&[u8]>) {
     match placement::chart_of(plan, labels) {
         Err(_) => {
-            io::write_all(1, b" chart none");
+            console::print(" chart none");
         }
         Ok(drawn) => {
-            let n = plan.n;
-            print_points(&drawn.points(), n);
-            if let Some(at) = chart {
-                print_record(arrays::part(file, at, 4 + 4 * n), n, &drawn.points());
+            print_points(&drawn.points(), plan.n);
+            if let Some(record) = record {
+                print_record(record, plan.n, &drawn.points());
             }
         }
     }
 }
 
-// The place of the label rules for the labels at an offset, and the chart where they are kept.
-fn print_labels(file: &[u8], plan: &Table, at: usize, chart: Option<usize>)
-    requires { plan.now.n ≤ 200 }
-{
-    let n = plan.n;
-    let labels = arrays::part(file, at, (6 * n).saturating_sub(14));
-    let ten = conditions::rules_place(plan, labels);
-    console::show(b" 10:#", &[ten]);
-    if n <= ten {
-        print_chart(file, plan, labels, chart);
+// The place of the label rules, and the chart where they are kept.
+fn print_labels(plan: &Table, labels: &[u8], record: Option<&[u8]>) {
+    let ten = conditions::check(plan, labels);
+    console::print(format_args!(" 10:{}", place_of(ten, plan.n)));
+    if ten.is_ok() {
+        print_chart(plan, labels, record);
     }
 }
 
+// The label bytes of a file, from an offset on.
+fn labels_of<'a>(file: &'a [u8], layout: &Layout, at: usize) -> &'a [u8] {
+    arrays::part(file, at, 6 * layout.n - 14)
+}
+
+// The body of the chart record of a file, from an offset on.
+fn record_of<'a>(file: &'a [u8], layout: &Layout, at: usize) -> &'a [u8] {
+    arrays::part(file, at, 4 + 4 * layout.n)
+}
+
 // The rules 8 and 9, and on a plan that keeps them the scan, the plan written and the labels, if the file has any.
-fn print_flat(file: &[u8], layout: &Layout, rings: &Rings)
-    requires { rings.now.n ≤ 200 }
-{
+fn print_flat(file: &[u8], layout: &Layout, rings: &Rings) {
     if !print_flat_rules(rings) {
         return;
     }
@@ -188,8 +195,12 @@ fn print_flat(file: &[u8], layout: &Layout, rings: &Rings)
     print_written(file, &plan);
     match layout.parts {
         Parts::Plan => {}
-        Parts::Labels { labels } => print_labels(file, &plan, labels, None),
-        Parts::Chart { labels, chart } => print_labels(file, &plan, labels, Some(chart)),
+        Parts::Labels { labels } => print_labels(&plan, labels_of(file, layout, labels), None),
+        Parts::Chart { labels, chart } => print_labels(
+            &plan,
+            labels_of(file, layout, labels),
+            Some(record_of(file, layout, chart)),
+        ),
     }
 }
 
@@ -220,31 +231,24 @@ fn print_layout(layout: &Layout) {
         Parts::Labels { labels } => (labels, 0),
         Parts::Chart { labels, chart } => (labels, chart),
     };
-    console::show(b"n # labels # chart #", &[layout.n, labels, chart]);
+    console::print(format_args!("n {} labels {labels} chart {chart}", layout.n,));
 }
 
 // A file: the refusal, or what stands in it.
 fn print_file(file: &[u8]) {
     match framing::frame_file(file) {
         Err(refusal) => {
-            let number = usize::from(refusal.number());
-            console::show(b"refused # at #", &[number, refusal.place()]);
+            console::print(refusal);
         }
         Ok(layout) => {
             print_layout(&layout);
             print_plan(file, &layout);
         }
     }
-    io::write_all(1, b"\n");
+    console::print("\n");
 }
 
 // Runs the files of standard input, one after another.
 fn main() {
-    let mut space = io::large_buffer();
-    let got = io::read_full(0, &mut space);
-    let mut rest = arrays::part(&space, 0, got);
-    while let Some((file, behind)) = console::next_file(rest) {
-        print_file(file);
-        rest = behind;
-    }
+    console::run_files(&mut io::large_buffer(), |_, file| print_file(file));
 }

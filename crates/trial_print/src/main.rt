@@ -15,7 +15,7 @@ fn print_into(input: &[u8], space: &mut [u8]) -> usize
         io::write_all(1, &space[..size]);
     }
     let untouched = space.iter().filter(|byte| **byte == 170).count();
-    console::show(b"bytes #, untouched #\n", &[size, untouched]);
+    console::println(format_args!("bytes {size}, untouched {untouched}"));
     size
 }
 
@@ -39,11 +39,5 @@ fn print_input(input: &[u8]) {
 
 // Runs the inputs of standard input, one after another.
 fn main() {
-    let mut space = io::large_buffer();
-    let got = io::read_full(0, &mut space);
-    let mut rest = arrays::part(&space, 0, got);
-    while let Some((input, behind)) = console::next_file(rest) {
-        print_input(input);
-        rest = behind;
-    }
+    console::run_files(&mut io::large_buffer(), |_, input| print_input(input));
 }

@@ -16,8 +16,13 @@
 // stdin and stdout beside this crate are made by the reference in rust/, by its examples calls_items and run_calls.
 #![tactic(auto)]
 
+ghost use Rattle.std.specs.Prelude.{◌≡◌, Some};
+ghost use Rattle.std.specs.Fmt.{padded};
+ghost use Rattle.trial_reports.specs.Names.{kind_name};
+
 use refusal::Refusal;
 use sheet::Sheet;
+use std::fmt;
 
 // The kinds of items.
 #[derive(Clone, Copy)]
@@ -43,29 +48,37 @@ impl Kind {
     }
 
     // The name that its line begins with.
-    fn name(self) -> &'static [u8] {
+    fn name(self) -> &'static str
+        ensures { result.now ≡ kind_name self }
+    {
         match self {
-            Kind::Write => b"write      ",
-            Kind::OpenWrite => b"open_write ",
-            Kind::Ring => b"ring       ",
-            Kind::Scan => b"scan       ",
-            Kind::Same => b"same       ",
+            Kind::Write => "write",
+            Kind::OpenWrite => "open_write",
+            Kind::Ring => "ring",
+            Kind::Scan => "scan",
+            Kind::Same => "same",
         }
     }
 }
 
-// Writes a refusal: its number and its place.
-fn show_refusal(refusal: Refusal) {
-    let number = usize::from(refusal.number());
-    console::show(b"refused # at #", &[number, refusal.place()]);
+// A kind as it is written: its name.
+impl fmt::Display for Kind {
+    ghost output = { λ kind. Some (kind_name kind) };
+
+    ghost styled_output = { λ kind spec. Some (padded spec (kind_name kind)) };
+
+    fn fmt<W: fmt::Write>(&self, f: &mut fmt::Formatter<W>) -> fmt::Result {
+        f.pad(self.name())
+    }
 }
 
 // Writes how many bytes there are, and their checksum.
 fn show_bytes(bytes: &[u8]) {
-    console::show(
-        b"; # bytes, checksum #",
-        &[bytes.len(), comparison::checksum(bytes)],
-    );
+    console::print(format_args!(
+        "; {} bytes, checksum {}",
+        bytes.len(),
+        comparison::checksum(bytes),
+    ));
 }
 
 // The sheet that a fresh one becomes when a file is opened.
@@ -76,37 +89,27 @@ fn opened(file: &[u8]) -> Sheet {
 // Same.
 fn run_same(one: &Sheet, other: &Sheet) {
     match reports::same(one, other) {
-        Ok(true) => {
-            io::write_all(1, b"yes");
-        }
-        Ok(false) => {
-            io::write_all(1, b"no");
-        }
-        Err(refusal) => show_refusal(refusal),
-    }
+        Ok(true) => console::print("yes"),
+        Ok(false) => console::print("no"),
+        Err(refusal) => console::print(refusal),
+    };
 }
 
 // Scan.
 fn run_scan(sheet: &Sheet) {
     match reports::scan(sheet) {
-        Ok(Some((a, b, c))) => {
-            console::show(b"#,#,#", &[a, b, c]);
-        }
-        Ok(None) => {
-            io::write_all(1, b"none");
-        }
-        Err(refusal) => show_refusal(refusal),
-    }
+        Ok(Some((a, b, c))) => console::print(format_args!("{a},{b},{c}")),
+        Ok(None) => console::print("none"),
+        Err(refusal) => console::print(refusal),
+    };
 }
 
 // Ring: the answer, and the part that is handed back.
 fn run_ring(file: &[u8], context: usize) {
     match files::ring_answer(file, context) {
-        Ok(part) => {
-            console::show(b"at #, length #", &[part.at, part.size]);
-        }
-        Err(refusal) => show_refusal(refusal),
-    }
+        Ok(part) => console::print(format_args!("at {}, length {}", part.at, part.size)),
+        Err(refusal) => console::print(refusal),
+    };
     show_bytes(files::ring(file, context));
 }
 
@@ -117,11 +120,9 @@ fn run_write<F: FnOnce(&mut [u8]) -> Result<usize, Refusal>>(size: usize, write:
     let mut space = [170u8; 65536];
     let out = &mut space[..size % 65536];
     match write(out) {
-        Ok(k) => {
-            console::show(b"length #", &[k]);
-        }
-        Err(refusal) => show_refusal(refusal),
-    }
+        Ok(k) => console::print(format_args!("length {k}")),
+        Err(refusal) => console::print(refusal),
+    };
     show_bytes(out);
 }
 
@@ -146,9 +147,10 @@ fn run_call(kind: Kind, number: usize, file: &[u8]) {
 
 // The line of an item.
 fn run_item(kind: Kind, argument: &[u8]) {
-    io::write_all(1, kind.name());
-    run_call(kind, arrays::word_at(argument, 0), behind(argument, 2));
-    io::write_all(1, b"\n");
+    console::print(format_args!("{kind:<11}"));
+    let number = usize::from(arrays::word_at(argument, 0));
+    run_call(kind, number, behind(argument, 2));
+    console::print("\n");
 }
 
 // Runs the items of standard input, one after another, and says how many there were.
@@ -161,5 +163,5 @@ fn main() {
             true
         }
     });
-    console::show(b"# items\n", &[done]);
+    console::println(format_args!("{done} items"));
 }

@@ -13,16 +13,14 @@ fn run_script(script: &[u8]) {
     let sheet = ran.sheet;
     let mut space = io::large_buffer();
     let _ = reports::write(&sheet, &mut space);
-    console::show(
-        b"script of # ends at #; stage #, n #, checksum #\n",
-        &[
-            script.len(),
-            ran.at,
-            sheet::rank_of(sheet.stage),
-            usize::from(sheet.n),
-            comparison::checksum(&space),
-        ],
-    );
+    console::println(format_args!(
+        "script of {} ends at {}; stage {}, n {}, checksum {}",
+        script.len(),
+        ran.at,
+        sheet::rank_of(sheet.stage),
+        sheet.n,
+        comparison::checksum(&space),
+    ));
 }
 
 // Runs the items of standard input, one after another, and says how many there were.
@@ -35,5 +33,5 @@ fn main() {
         run_script(script);
         true
     });
-    console::show(b"# items\n", &[done]);
+    console::println(format_args!("{done} items"));
 }

@@ -1,5 +1,5 @@
 -- What is right in the checklist, and how checks are counted.
-use Rattle.std.specs.Prelude.{ℕ, ◌+◌, ◌*◌, ◌%◌, ◌^◌, Bool, true, false, cond, ◌&&◌, List, ◌==◌, Option, Some, None, Ok, Err}
+use Rattle.std.specs.Prelude.{ℕ, ◌+◌, ◌*◌, ◌%◌, ◌^◌, Bool, true, false, cond, ◌&&◌, ◌==◌, Option, Some, None, Ok, Err}
 use Rattle.std.specs.declared.result.Result.{Result}
 use Rattle.model.specs.Scan.{Triple, enclosing}
 use Rattle.refusal.specs.declared.Refusal.{Refusal}
@@ -13,16 +13,19 @@ use Rattle.survey.specs.declared.Areas.{Areas}
 use Rattle.survey.specs.Surveys.{surveyed}
 use Rattle.comparison.specs.Bytes.{agreeing}
 use Rattle.verdicts.specs.declared.Tally.{Tally}
+use Rattle.verdicts.specs.declared.Shown.{Shown}
+use Rattle.verdicts.specs.declared.Drawn.{Drawn}
 use Rattle.verdicts.specs.declared.Turned.{Turned}
+use Rattle.verdicts.specs.declared.Filed.{Filed}
 
 -- a tally with one more check, each count in a word of 64 bits
 abbrev pub tallied : Tally → Bool → Tally
 tallied t right = record { checks = (t.checks + 1) % 2 ^ 64; wrong = (t.wrong + cond right 0 1) % 2 ^ 64 }
 
 -- what is written of an answer: 0 at 0 where it is accepted, else the refusal's number and place
-abbrev pub shown_as : {A : Type 0} → Result A Refusal → ℕ × ℕ
-shown_as (Ok a) = (0, 0)
-shown_as (Err r) = (number_of r, place_of r)
+abbrev pub shown_as : {A : Type 0} → Result A Refusal → Shown
+shown_as (Ok a) = record { number = 0; place = 0 }
+shown_as (Err r) = record { number = number_of r; place = place_of r }
 
 -- a call is refused 13 at 0
 abbrev pub is_early : {A : Type 0} → Result A Refusal → Bool
@@ -55,6 +58,15 @@ abbrev pub file_tally : Tally → Result Sheet Refusal → Result Bool Refusal �
 file_tally t (Ok s) c f = tallied (opened_tally t s c) (triple s f)
 file_tally t (Err r) c f = t
 
+-- the sheet that chart leaves: the one that it answers, or the one before where it is refused
+abbrev pub left_of : Result Sheet Refusal → Sheet → Sheet
+left_of (Ok s) before = s
+left_of (Err r) before = before
+
+-- the same of what is seen of a drawing
+abbrev pub left_by : Drawn → Sheet
+left_by d = left_of d.charted.now d.before.now
+
 -- how chart must have been refused where it leaves a stage, if at all
 abbrev pub due_at : stage.Stage → Option Refusal
 due_at Stage.Empty = Some Refusal.TooEarly
@@ -74,8 +86,8 @@ answered (Err r) None = false
 answered (Err r) (Some q) = number_of r == number_of q && place_of r == place_of q
 
 -- drawn: chart has answered what is due
-abbrev pub drawn_tally : Tally → Result Sheet Refusal → Sheet → Tally
-drawn_tally t o s = tallied t (answered o (chart_due s))
+abbrev pub drawn_tally : Tally → Drawn → Tally
+drawn_tally t d = tallied t (answered d.charted.now (chart_due (left_by d)))
 
 -- all inner faces are positive, and they sum to the doubled area of the rectangle
 abbrev pub filled : Areas → ℕ → Bool
@@ -86,8 +98,8 @@ abbrev pub areas_tally : Tally → Sheet → Tally
 areas_tally t s = tallied t (filled (surveyed (held_plan s) (points s.xs s.ys)) (2 * s.w * s.h))
 
 -- a chart: drawn, and areas where the sheet is CHARTED
-abbrev pub chart_tally : Tally → Result Sheet Refusal → Sheet → Tally
-chart_tally t o s = cond (is_charted (stage_read s)) (areas_tally (drawn_tally t o s) s) (drawn_tally t o s)
+abbrev pub chart_tally : Tally → Drawn → Tally
+chart_tally t d = cond (is_charted (stage_read (left_by d))) (areas_tally (drawn_tally t d) (left_by d)) (drawn_tally t d)
 
 -- afresh: same says yes
 abbrev pub afresh : Result Bool Refusal → Bool
@@ -96,7 +108,7 @@ afresh (Err r) = false
 
 -- turned, and afresh: a turn, if there is one, leaves the sheet undrawn, and the new chart is the one drawn anew
 abbrev pub turn_tally : Tally → Option Turned → Tally
-turn_tally t (Some s) = tallied (tallied t (undrawn s.left.now s.left_same)) (afresh s.new_same)
+turn_tally t (Some s) = tallied (tallied t (undrawn s.turn.now.left s.left_same)) (afresh s.new_same)
 turn_tally t None = tallied t true
 
 -- the length of a file; 0 where it is refused
@@ -105,5 +117,5 @@ length_of (Ok k) = k
 length_of (Err r) = 0
 
 -- written: the two files are as long as each other, and every byte is equal
-abbrev pub written : List ℕ → Result ℕ Refusal → List ℕ → Result ℕ Refusal → Bool
-written a k b l = length_of k == length_of l && agreeing a b (length_of k) == length_of k
+abbrev pub written : Filed → Filed → Bool
+written a b = length_of a.answer == length_of b.answer && agreeing a.buffer.now b.buffer.now (length_of a.answer) == length_of a.answer

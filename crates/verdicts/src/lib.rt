@@ -3,11 +3,12 @@
 // An answer is written as the number of a refusal and its place: 0 at 0 is accepted, or yes, and 1 at 0 is no.
 #![tactic(auto)]
 
-ghost use Rattle.std.specs.Prelude.{◌≡◌};
-ghost use Rattle.verdicts.specs.Verdicts.{shown_as, tallied, is_early, undrawn, opened_tally, triple, file_tally, chart_due, answered, drawn_tally, areas_tally, chart_tally, turn_tally, afresh, written};
+ghost use Rattle.std.specs.Prelude.{◌≡◌, ◌++◌, codes, decimal, Some};
+ghost use Rattle.verdicts.specs.Verdicts.{shown_as, tallied, is_early, undrawn, opened_tally, triple, file_tally, left_by, chart_due, answered, drawn_tally, areas_tally, chart_tally, turn_tally, afresh, written};
 
 use refusal::Refusal;
 use sheet::{Sheet, Stage};
+use std::fmt;
 
 // How many checks there were, and how many of them were wrong.
 #[derive(Clone, Copy)]
@@ -16,17 +17,47 @@ pub struct Tally {
     pub wrong: usize,
 }
 
-// A turn of one edge, and what is seen of it: the edge from u to v and the direction, the sheet before it, the sheet that it leaves with what same says of that, and the new chart of that sheet with what same says of it and of the one drawn anew.
+// A file with its number, and what is seen of it: what open answers, and what same and scan say of the sheet.
 #[derive(Clone, Copy)]
-pub struct Turned<'a> {
+pub struct Opened<'a> {
+    pub number: usize,
+    pub answer: &'a Result<Sheet, Refusal>,
+    pub same: Result<bool, Refusal>,
+    pub scan: Result<Option<(usize, usize, usize)>, Refusal>,
+}
+
+// A sheet swept and charted, and what is seen of it: what sweep answers, the sheet before chart, and what chart answers.
+#[derive(Clone, Copy)]
+pub struct Drawn<'a> {
+    pub swept: &'a Result<Sheet, Refusal>,
+    pub before: &'a Sheet,
+    pub charted: &'a Result<Sheet, Refusal>,
+}
+
+// A turn of the edge from u to v in a direction, and the sheet that it leaves.
+#[derive(Clone, Copy)]
+pub struct Turn {
     pub u: u16,
     pub v: u16,
     pub direction: u8,
+    pub left: Sheet,
+}
+
+// A turn of one edge, and what is seen of it: the turn, the sheet before it, what same says of the sheet that it leaves, and the new chart of that sheet with what same says of it and of the one drawn anew.
+#[derive(Clone, Copy)]
+pub struct Turned<'a> {
+    pub turn: &'a Turn,
     pub old: &'a Sheet,
-    pub left: &'a Sheet,
     pub left_same: Result<bool, Refusal>,
     pub new: &'a Sheet,
     pub new_same: Result<bool, Refusal>,
+}
+
+// A sheet written as a file: the buffer, and what write answers.
+#[derive(Clone, Copy)]
+pub struct Filed<'a> {
+    pub buffer: &'a [u8],
+    pub answer: Result<usize, Refusal>,
 }
 
 impl Tally {
@@ -34,37 +65,57 @@ impl Tally {
     fn judge(self, right: bool) -> Tally
         ensures { result ≡ tallied self right }
     {
-        let (end, wrong): (&[u8], usize) = if right {
-            (b": ok\n", 0)
-        } else {
-            (b": WRONG\n", 1)
-        };
-        io::write_all(1, end);
+        console::println(if right { ": ok" } else { ": WRONG" });
         Tally {
             checks: self.checks.wrapping_add(1),
-            wrong: self.wrong.wrapping_add(wrong),
+            wrong: self.wrong.wrapping_add(usize::from(!right)),
         }
     }
 }
 
-// The number and the place of an answer, as they are written.
-fn answer_of<A>(answer: &Result<A, Refusal>) -> (usize, usize)
+// An answer as it is written: a number and a place.
+#[derive(Clone, Copy)]
+struct Shown {
+    number: u8,
+    place: usize,
+}
+
+impl fmt::Display for Shown {
+    ghost output = { λ s. Some (decimal s.number ++ codes " at " ++ decimal s.place) };
+
+    fn fmt<W: fmt::Write>(&self, f: &mut fmt::Formatter<W>) -> fmt::Result {
+        let Shown { number, place } = *self;
+        write!(f, "{number} at {place}")
+    }
+}
+
+// How an answer is written.
+fn answer_of<A>(answer: &Result<A, Refusal>) -> Shown
     ensures { result ≡ shown_as answer.now }
 {
     match answer {
-        Ok(_) => (0, 0),
-        Err(refusal) => (usize::from(refusal.number()), refusal.place()),
+        Ok(_) => Shown {
+            number: 0,
+            place: 0,
+        },
+        Err(refusal) => Shown {
+            number: refusal.number(),
+            place: refusal.place(),
+        },
     }
 }
 
 // Writes what same answers.
 fn show_same(same: Result<bool, Refusal>) {
-    let (number, place) = if same == Ok(false) {
-        (1, 0)
+    let shown = if same == Ok(false) {
+        Shown {
+            number: 1,
+            place: 0,
+        }
     } else {
         answer_of(&same)
     };
-    console::show(b", same # at #", &[number, place]);
+    console::print(format_args!(", same {shown}"));
 }
 
 // Is an answer the refusal of a stage too early?
@@ -74,16 +125,16 @@ fn is_early<A: Copy>(answer: &Result<A, Refusal>) -> bool
     answer.err() == Some(Refusal::TooEarly)
 }
 
-// Has a sheet no chart? It has no width and no height, and same is refused 13 at 0. Writes its stage, width and height, and what same answers.
+// Has a sheet no chart? It has no width and no height, and same is refused 13 at 0. It writes the sheet's stage, width and height, and what same answers.
 fn is_undrawn(sheet: &Sheet, same: Result<bool, Refusal>) -> bool
     ensures { result ≡ undrawn sheet.now same }
 {
-    let size = [usize::from(sheet.w), usize::from(sheet.h)];
-    if sheet::stage_of(sheet) == Stage::Labelled {
-        console::show(b"LABELLED #x#, not drawn yet", &size);
+    let stage = if sheet::stage_of(sheet) == Stage::Labelled {
+        "LABELLED"
     } else {
-        console::show(b"OPEN #x#, not drawn yet", &size);
-    }
+        "OPEN"
+    };
+    console::print(format_args!("{stage} {}x{}, not drawn yet", sheet.w, sheet.h,));
     show_same(same);
     sheet.w == 0 && sheet.h == 0 && is_early(&same)
 }
@@ -95,112 +146,114 @@ fn check_opened(tally: Tally, sheet: &Sheet, same: Result<bool, Refusal>) -> Tal
     if sheet::stage_of(sheet) == Stage::Charted {
         return tally;
     }
-    io::write_all(1, b"  opened: ");
+    console::print("  opened: ");
     tally.judge(is_undrawn(sheet, same))
 }
 
-// Are the three contexts of a scan neighbours of each other and no face, if there are any?
+// Are the three contexts of a scan neighbours of each other and no face, if there are any? It writes them, or that there are none; of a refused scan it writes nothing.
 fn is_triple(sheet: &Sheet, scan: Result<Option<(usize, usize, usize)>, Refusal>) -> bool
     ensures { result ≡ triple sheet.now scan }
 {
     match scan {
         Ok(Some((a, b, c))) => {
-            console::show(b"  scan: #,#,#", &[a, b, c]);
+            console::print(format_args!("  scan: {a},{b},{c}"));
             survey::encloses(sheet, a, b, c)
         }
         Ok(None) => {
-            io::write_all(1, b"  scan: none");
+            console::print("  scan: none");
             true
         }
         Err(_) => false,
     }
 }
 
-// The line of a file with this number, n and what open answers; where it is accepted, the checks of what same and scan say of the sheet.
-pub fn tell_file(
-    tally: Tally,
-    number: usize,
-    opened: &Result<Sheet, Refusal>,
-    same: Result<bool, Refusal>,
-    scan: Result<Option<(usize, usize, usize)>, Refusal>,
-) -> Tally
-    ensures { result ≡ file_tally tally opened.now same scan }
+// The line of a file: its number, n and what open answers; where it is accepted, the checks of what same and scan say of the sheet.
+pub fn tell_file(tally: Tally, opened: &Opened) -> Tally
+    ensures { result ≡ file_tally tally opened.now.answer.now opened.now.same opened.now.scan }
 {
-    let (answer, place) = answer_of(opened);
-    let n = match opened {
-        Ok(sheet) => usize::from(sheet.n),
+    let n = match opened.answer {
+        Ok(sheet) => sheet.n,
         Err(_) => 0,
     };
-    console::show(b"plan #: n #, open # at #\n", &[number, n, answer, place]);
-    match opened {
-        Ok(sheet) => check_opened(tally, sheet, same).judge(is_triple(sheet, scan)),
+    console::println(format_args!(
+        "plan {}: n {n}, open {}",
+        opened.number,
+        answer_of(opened.answer),
+    ));
+    match opened.answer {
+        Ok(sheet) => check_opened(tally, sheet, opened.same).judge(is_triple(sheet, opened.scan)),
         Err(_) => tally,
     }
 }
 
-// Has chart answered what is due where it leaves this sheet? Writes the sheet's stage, width and height, and what they mean.
+// Has chart answered what is due where it leaves this sheet? It writes the sheet's stage, width and height, and what they mean.
 fn is_due(charted: &Result<Sheet, Refusal>, left: &Sheet) -> bool
     ensures { result ≡ answered charted.now (chart_due left.now) }
 {
-    let size = [usize::from(left.w), usize::from(left.h)];
+    let (w, h) = (left.w, left.h);
     match sheet::stage_of(left) {
         Stage::Charted => {
-            console::show(b"  drawn: CHARTED #x#, drawn", &size);
+            console::print(format_args!("  drawn: CHARTED {w}x{h}, drawn"));
             charted.is_ok()
         }
         Stage::Labelled => {
-            console::show(b"  drawn: LABELLED #x#, cannot be drawn", &size);
+            console::print(format_args!("  drawn: LABELLED {w}x{h}, cannot be drawn"));
             charted.err() == Some(Refusal::NoPlacement)
         }
         Stage::Empty | Stage::Open => {
-            console::show(b"  drawn: OPEN #x#, no labels", &size);
+            console::print(format_args!("  drawn: OPEN {w}x{h}, no labels"));
             is_early(charted)
         }
     }
 }
 
-// The check of sweep and chart, which leave this sheet.
-fn check_drawn(
-    tally: Tally,
-    swept: &Result<Sheet, Refusal>,
-    charted: &Result<Sheet, Refusal>,
-    left: &Sheet,
-) -> Tally
-    ensures { result ≡ drawn_tally tally charted.now left.now }
-{
-    let right = is_due(charted, left);
-    let (sweep, sweep_place) = answer_of(swept);
-    let (chart, chart_place) = answer_of(charted);
-    console::show(
-        b", sweep # at #, chart # at #",
-        &[sweep, sweep_place, chart, chart_place],
-    );
-    tally.judge(right)
-}
-
-// The check of the areas: every inner face is positive, and they sum to the rectangle.
+// The check of the areas: every inner face is positive, and they sum to the rectangle. As the least of no faces it writes 2 to the 32, which no area reaches: a coordinate of a chart is at most 200.
 fn check_areas(tally: Tally, sheet: &Sheet) -> Tally
     ensures { result ≡ areas_tally tally sheet.now }
 {
     let areas = survey::areas_of(sheet);
     let whole = 2 * usize::from(sheet.w) * usize::from(sheet.h);
-    console::show(
-        b"  areas: faces #, positive #, least #, sum #, 2wh #",
-        &[areas.faces, areas.positive, areas.least, areas.sum, whole],
-    );
+    console::print(format_args!(
+        "  areas: faces {}, positive {}, least {}, sum {}, 2wh {whole}",
+        areas.faces,
+        areas.positive,
+        areas.least.unwrap_or(4294967296),
+        areas.sum,
+    ));
     tally.judge(areas.positive == areas.faces && areas.sum == whole)
 }
 
-// The checks of sweep and chart, which leave this sheet, and of the areas where it has a chart.
-pub fn tell_chart(
-    tally: Tally,
-    swept: &Result<Sheet, Refusal>,
-    charted: &Result<Sheet, Refusal>,
-    left: &Sheet,
-) -> Tally
-    ensures { result ≡ chart_tally tally charted.now left.now }
+impl<'a> Drawn<'a> {
+    // The sheet that chart leaves: the one that it answers, or the one before where it is refused.
+    fn left(&self) -> &Sheet
+        ensures { result.now ≡ left_by self.now }
+    {
+        match self.charted {
+            Ok(sheet) => sheet,
+            Err(_) => self.before,
+        }
+    }
+
+    // The check of sweep and chart.
+    fn check(&self, tally: Tally) -> Tally
+        ensures { result ≡ drawn_tally tally self.now }
+    {
+        let right = is_due(self.charted, self.left());
+        console::print(format_args!(
+            ", sweep {}, chart {}",
+            answer_of(self.swept),
+            answer_of(self.charted),
+        ));
+        tally.judge(right)
+    }
+}
+
+// The checks of sweep and chart, and of the areas where they leave a chart.
+pub fn tell_chart(tally: Tally, drawn: &Drawn) -> Tally
+    ensures { result ≡ chart_tally tally drawn.now }
 {
-    let after = check_drawn(tally, swept, charted, left);
+    let after = drawn.check(tally);
+    let left = drawn.left();
     if sheet::stage_of(left) == Stage::Charted {
         check_areas(after, left)
     } else {
@@ -211,32 +264,23 @@ pub fn tell_chart(
 impl<'a> Turned<'a> {
     // The check that the turn leaves no chart.
     fn check_left(&self, tally: Tally) -> Tally
-        ensures { result ≡ tallied tally (undrawn self.now.left.now self.now.left_same) }
+        ensures { result ≡ tallied tally (undrawn self.now.turn.now.left self.now.left_same) }
     {
-        console::show(
-            b"  turned: edge #,# direction #, ",
-            &[
-                usize::from(self.u),
-                usize::from(self.v),
-                usize::from(self.direction),
-            ],
-        );
-        tally.judge(is_undrawn(self.left, self.left_same))
+        console::print(format_args!(
+            "  turned: edge {},{} direction {}, ",
+            self.turn.u, self.turn.v, self.turn.direction,
+        ));
+        tally.judge(is_undrawn(&self.turn.left, self.left_same))
     }
 
     // The check that the chart drawn after the turn, in place of an old one, is the one that is drawn anew.
     fn check_afresh(&self, tally: Tally) -> Tally
         ensures { result ≡ tallied tally (afresh self.now.new_same) }
     {
-        console::show(
-            b"  afresh: before #x#, after #x#",
-            &[
-                usize::from(self.old.w),
-                usize::from(self.old.h),
-                usize::from(self.new.w),
-                usize::from(self.new.h),
-            ],
-        );
+        console::print(format_args!(
+            "  afresh: before {}x{}, after {}x{}",
+            self.old.w, self.old.h, self.new.w, self.new.h,
+        ));
         show_same(self.new_same);
         tally.judge(self.new_same == Ok(true))
     }
@@ -249,28 +293,19 @@ pub fn tell_turn(tally: Tally, turned: Option<Turned>) -> Tally
     match turned {
         Some(turned) => turned.check_afresh(turned.check_left(tally)),
         None => {
-            io::write_all(1, b"  turned: no edge turns alone");
+            console::print("  turned: no edge turns alone");
             tally.judge(true)
         }
     }
 }
 
-// The check that two files are the same, byte for byte, where write has answered this.
-pub fn tell_files(
-    tally: Tally,
-    one: &[u8],
-    first: Result<usize, Refusal>,
-    other: &[u8],
-    second: Result<usize, Refusal>,
-) -> Tally
-    ensures { result ≡ tallied tally (written one.now first other.now second) }
+// The check that two files are the same, byte for byte.
+pub fn tell_files(tally: Tally, one: &Filed, other: &Filed) -> Tally
+    ensures { result ≡ tallied tally (written one.now other.now) }
 {
-    let size = first.unwrap_or(0);
-    let size_other = second.unwrap_or(0);
-    let equal = comparison::agreeing(one, other, size);
-    console::show(
-        b"  written: bytes # and #, equal #",
-        &[size, size_other, equal],
-    );
+    let size = one.answer.unwrap_or(0);
+    let size_other = other.answer.unwrap_or(0);
+    let equal = comparison::agreeing(one.buffer, other.buffer, size);
+    console::print(format_args!("  written: bytes {size} and {size_other}, equal {equal}"));
     tally.judge(size == size_other && equal == size)
 }

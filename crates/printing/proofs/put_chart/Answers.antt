@@ -11,4 +11,4 @@ unfolding size_line line letters
 returns c =
     let s = c.args.sheet.now in
     let p = c.points_of.ensures in
-    prints_as (prints_join (prints_wide _ _ c.put-to.ensures (omega arith, (omega arith, tt))) c.put_points.ensures) (λ i. size_line (c.from.ensures i) (c.from-2.ensures i) ++ point_lines (p.xs i) (p.ys i) (c.from-3.ensures i)) (omega arith)
+    prints_as (prints_join (prints_wide _ _ c.put.ensures (omega arith, (omega arith, tt))) c.put_points.ensures) (λ i. size_line (c.from.ensures i) (c.from-2.ensures i) ++ point_lines (p.xs i) (p.ys i) (c.from-3.ensures i)) (omega arith)

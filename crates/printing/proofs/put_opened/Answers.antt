@@ -10,4 +10,4 @@ use Rattle.printing.proofs.put_opened.Goals as goal
 
 pub returns : goal.returns
 unfolding plan_line line letters
-returns c = prints_as (prints_join (prints_wide _ _ c.put-to.ensures (omega arith, tt)) c.put_scanned.ensures) (ap (λ (n : ℕ). plan_line n ++ scan_text (reads_as c.args.sheet.now)) c.from.ensures ∙ plan_printed c.args.sheet.now c.requires) (omega arith)
+returns c = prints_as (prints_join (prints_wide _ _ c.put.ensures (omega arith, tt)) c.put_scanned.ensures) (ap (λ (n : ℕ). plan_line n ++ scan_text (reads_as c.args.sheet.now)) c.from.ensures ∙ plan_printed c.args.sheet.now c.requires) (omega arith)

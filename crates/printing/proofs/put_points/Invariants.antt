@@ -5,4 +5,4 @@ use Rattle.printing.specs.Prints.{Prints}
 use Rattle.printing.proofs.put_points.Given as goal
 
 abbrev pub invariant-loop-u : goal.invariant-loop-u
-invariant-loop-u l = Prints l.initial.out l.at (point_lines l.points.xs.now l.points.ys.now l.u) l.out l.to (18 * l.u)
+invariant-loop-u l = Prints l.initial.to (point_lines l.points.xs.now l.points.ys.now l.u) l.to (18 * l.u)

@@ -20,10 +20,10 @@ pub returns-in-Ok-None : goal.returns-in-Ok-None
 unfolding told scanned_as plans.scanned_as triangle_line filled stands mark letters
 returns-in-Ok-None c =
     let is = c.in-Ok-None.is ∙ ap Ok c.in-Ok-None.field-0-is in
-    prints_as (prints_join (prints_wide (letters "triangle none\n") [] c.put-to.ensures tt) c.put_swept.ensures) (scan-answered (reads_as c.args.sheet.now) (accepted none) (sym (ap scanned_as is) ∙ c.scan.ensures)) (omega arith)
+    prints_as (prints_join (prints_wide (letters "triangle none\n") [] c.put.ensures tt) c.put_swept.ensures) (scan-answered (reads_as c.args.sheet.now) (accepted none) (sym (ap scanned_as is) ∙ c.scan.ensures)) (omega arith)
 
 pub returns-in-Ok-Some : goal.returns-in-Ok-Some
 unfolding told scanned_as plans.scanned_as
 returns-in-Ok-Some c =
     let is = c.in-Ok-Some.is ∙ ap Ok c.in-Ok-Some.field-0-is in
-    prints_as (prints_join c.put_triangle-to.ensures c.put_swept-in-Ok-Some.ensures) (scan-answered (reads_as c.args.sheet.now) (accepted (some _)) (sym (ap scanned_as is) ∙ c.scan.ensures)) (omega arith)
+    prints_as (prints_join c.put_triangle.ensures c.put_swept-in-Ok-Some.ensures) (scan-answered (reads_as c.args.sheet.now) (accepted (some _)) (sym (ap scanned_as is) ∙ c.scan.ensures)) (omega arith)

@@ -5,7 +5,7 @@ use lib.ListN.{take}
 use Rattle.forms.specs.Forms.{filled}
 use Rattle.forms.specs.Puts.{Put}
 use Rattle.forms.proofs.Forms.{marks}
-use Rattle.forms.proofs.put.Given as goal
+use Rattle.forms.proofs.Writer.put.Given as goal
 
 abbrev pub invariant-loop-sign : goal.invariant-loop-sign
-invariant-loop-sign l = (l.k ≤ l.sign-index) × Put l.initial.out l.at (filled (take l.sign-index l.form) l.numbers) l.out l.to × (l.k ≡ marks (take l.sign-index l.form))
+invariant-loop-sign l = (l.k ≤ l.sign-index) × Put l.initial.self (filled (take l.sign-index l.form) l.numbers) l.self × (l.k ≡ marks (take l.sign-index l.form))
