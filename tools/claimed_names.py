@@ -15,7 +15,7 @@ CRATES = ROOT / "crates"
 NAMES = sorted(it.name for it in CRATES.iterdir())
 NAME = r"[A-Za-zℕ_][\w'ℕ-]*"
 # Words of Rattle and of its library, and files and texts that the page names.
-KIT = set("min set get_or requires List Result io rt name".split())
+KIT = set("min set get_or requires List Result io rt name itoa".split())
 
 
 def declared(path):
