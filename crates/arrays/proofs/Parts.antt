@@ -7,6 +7,8 @@ use native.Mathlib.Omega.{arith}
 use lib.ListN.{length, take, drop, length-take, length-drop}
 use lib.Dec.{leb}
 use borrow.Author.Tests.{leb-true, leb-false, le-leb, lt-leb}
+use Rattle.std.specs.List.{slice_range}
+use Rattle.std.proofs.lemmas.List.{take_rest}
 use Rattle.lists.specs.Ranges.{from}
 use Rattle.lists.specs.Spans.{padded}
 use Rattle.lists.proofs.Spans.{past_word}
@@ -16,6 +18,10 @@ use Rattle.arrays.specs.Parts.{part_at, word_of, words_every}
 pub part_fits : (s : List ℕ) (at k : ℕ) → at + k ≤ length s → take k (drop at s) ≡ part_at s at k
 unfolding part_at
 part_fits s at k h = rw (le-leb (at + k) (length s) h)
+
+-- the front of all that stands from an index on
+pub part_of_rest : (s : List ℕ) (at k : ℕ) {r : List ℕ} → r ≡ slice_range s at (length s) → length r + at ≡ length s → k ≤ length r → take k r ≡ part_at s at k
+part_of_rest s at k {r} e l h = ap (take k) (e ∙ take_rest s at) ∙ part_fits s at k (omega arith)
 
 pub part_past : (s : List ℕ) (at k : ℕ) → length s < at + k → [] ≡ part_at s at k
 unfolding part_at

@@ -68,7 +68,7 @@ impl Number for u16 {
 pub fn at<T: Number>(a: &[T], i: usize) -> T
     ensures { result ≡ get_or a.now i T.nothing }
 {
-    if i < a.len() { a[i] } else { T::zero() }
+    a.get(i).copied().unwrap_or(T::zero())
 }
 
 // The number at i.
@@ -83,11 +83,7 @@ pub fn num<T: Number>(a: &[T], i: usize) -> usize
 pub fn word_at(a: &[u8], i: usize) -> u16
     ensures { result ≡ get_or a.now i 0 + 256 * get_or a.now (i + 1) 0 }
 {
-    if i < a.len() {
-        u16::from_le_bytes([a[i], at(a, i + 1)])
-    } else {
-        0
-    }
+    u16::from_le_bytes([at(a, i), at(a, i.saturating_add(1))])
 }
 
 // The first k numbers of two bytes from an index on, one every so many bytes, and zeros behind them; of more than there is room for, the first N.
@@ -111,14 +107,12 @@ pub fn put<T: Number>(a: &mut [T], at: usize, x: T)
 }
 
 // The part of an array from an index on, of a size; empty where it does not fit.
+#[tactic(auto, using(crate::proofs::Parts::part_of_rest, crate::proofs::Parts::part_past))]
 pub fn part<'a>(a: &'a [u8], at: usize, size: usize) -> &'a [u8]
     ensures { result.now ≡ part_at a.now at size }
 {
-    if a.len() < at {
-        return &a[0..0];
+    match a.get(at..) {
+        Some(rest) if size <= rest.len() => &rest[..size],
+        _ => &[],
     }
-    if a.len() - at < size {
-        return &a[0..0];
-    }
-    &a[at..at + size]
 }

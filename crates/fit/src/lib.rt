@@ -14,12 +14,11 @@ pub fn total_of(sizes: &[u8], n: usize) -> usize
     ensures value { result ≡ start_of sizes.now (min n 200) }
     ensures upper_bound { result < 2 ^ 16 }
 {
-    let m = n.min(200);
-    let mut sum = 0;
-    for u in 0..m {
-        sum += arrays::num(sizes, u);
-    }
-    sum
+    sizes
+        .iter()
+        .take(n.min(200))
+        .map(|size| usize::from(*size))
+        .sum()
 }
 
 // Do the rings fit the arrays: at most 200 of them, with at most 1186 entries?
@@ -37,15 +36,10 @@ fn any_strange(entries: &[u16], k: usize, n: usize) -> bool
 }
 
 // Does the plan fit?
+#[tactic(auto, using(crate::proofs::Fits::fit_out, crate::proofs::Fits::fit_in))]
 pub fn is_fit(plan: &Table) -> bool
     ensures { result ≡ fit (table_of plan.now) }
 {
-    if 200 < plan.n {
-        return false;
-    }
-    let total = total_of(plan.sizes, plan.n);
-    if 1186 < total {
-        return false;
-    }
-    !any_strange(plan.entries, total, plan.n)
+    is_in_bounds(plan.sizes, plan.n)
+        && !any_strange(plan.entries, total_of(plan.sizes, plan.n), plan.n)
 }

@@ -8,13 +8,27 @@ use native.Mathlib.Numerals.{add-one}
 use lib.ListN.{get_or}
 use lib.Dec.{eqb, ltb}
 use borrow.Author.Tests.{ltb-false}
-use Rattle.std.specs.Prelude.{Some, None}
-use Rattle.std.specs.List.{list_any, range_with_len, position_or_len}
+use denote.Param.Members.{Mut}
+use Rattle.std.specs.Prelude.{Option, Some, None, MatchOption}
+use Rattle.std.specs.declared.ops.Range.{Range}
+use Rattle.std.specs.Iterator.{YieldsThen}
+use Rattle.std.specs.Fn.{Called}
+use Rattle.std.proofs.iter.Yields.{nat_range_steps}
+use Rattle.std.proofs.lemmas.Iterator.{YieldsList-from_range}
+use Rattle.std.proofs.lemmas.Iterator.Search.{any_from_yields_List}
+use Rattle.std.specs.List.{FoldsTo, list_any, range_with_len, position_or_len}
 use Rattle.std.specs.Option.{unwrap_or}
 use Rattle.lists.specs.Tests.{any, member, repeats}
 use Rattle.lists.specs.Parts.{index_of}
-use Rattle.lists.specs.Folds.{some_of}
+use Rattle.lists.specs.Folds.{some, some_of}
 use Rattle.lists.specs.Spans.{stretch, span}
+
+-- what `any` gives of the numbers from a up to e, where the closure is a test that leaves what it captures as it is
+pub any_in_range : {F : Type 0} {g : Mut F (ℕ × Unit {0}) Bool} (test : ℕ → Bool) (a e : ℕ) {u : Range ℕ} {f : F} {r : Bool}
+    → (xs : List ℕ) × (o : Option ℕ) × (j : F) × YieldsThen nat_range_steps (record { start = a; end = e }) xs o u × FoldsTo (λ p x q. Called g p (x, tt) false q) f xs j × MatchOption o (r ≡ false) (λ x. (r ≡ true) × ((h : F) × Called g j (x, tt) true h))
+    → ((x : ℕ) (b : Bool) (q : F) → Called g f (x, tt) b q → (q ≡ f) × (b ≡ test x))
+    → r ≡ list_any test (range_with_len a (e - a))
+any_in_range test a e {u} {f} {r} ran told = any_from_yields_List test u f r ran (YieldsList-from_range a e (e - a) refl refl) told
 
 -- some of the k numbers from a on passes
 pub any_some : (q : ℕ → Bool) (a k : ℕ) → list_any q (range_with_len a k) ≡ some_of q a k
@@ -25,6 +39,13 @@ any_some q a (suc k) = go (q a) (any_some q (a + 1) k ∙ ap (λ (b : ℕ). some
     go : (b : Bool) → list_any q (range_with_len (a + 1) k) ≡ some_of q (suc a) k → (b || list_any q (range_with_len (a + 1) k)) ≡ cond b true (some_of q (suc a) k)
     go true e = refl
     go false e = e
+
+-- what `any` gives of the numbers from a up to e: whether some of them passes
+pub some_in_range : {F : Type 0} {g : Mut F (ℕ × Unit {0}) Bool} (test : ℕ → Bool) (a e : ℕ) {u : Range ℕ} {f : F} {r : Bool}
+    → (xs : List ℕ) × (o : Option ℕ) × (j : F) × YieldsThen nat_range_steps (record { start = a; end = e }) xs o u × FoldsTo (λ p x q. Called g p (x, tt) false q) f xs j × MatchOption o (r ≡ false) (λ x. (r ≡ true) × ((h : F) × Called g j (x, tt) true h))
+    → ((x : ℕ) (b : Bool) (q : F) → Called g f (x, tt) b q → (q ≡ f) × (b ≡ test x))
+    → r ≡ some test a e
+some_in_range test a e ran told = any_in_range test a e ran told ∙ any_some test a (e - a)
 
 module _ (l : List ℕ) where
   -- some of the k entries from a on passes

@@ -19,6 +19,10 @@ pub span_more : (l : List ℕ) (i e : ℕ) → i < e → span l i e ≡ get_or l
 unfolding stretch
 span_more l i e h = let s : e - i ≡ suc (e - (i + 1)) = omega arith in rw (s, add-one)
 
+-- the same by what a range says of its next number
+pub span_next : (l : List ℕ) {i e j d x : ℕ} → (d ≡ e) × ((0 < e - i) × (x ≡ i) × (j ≡ i + 1)) → span l i e ≡ get_or l x 0 ∷ span l j d
+span_next l {i} {e} (q, (h, p, s)) = span_more l i e (omega arith) ∙ (λ t. get_or l (sym p t) 0 ∷ span l (sym s t) (sym q t))
+
 pub span_end : (l : List ℕ) (i e : ℕ) → e ≤ i → span l i e ≡ []
 unfolding stretch
 span_end l i e h = let z : e - i ≡ 0 = omega arith in rw z

@@ -3,6 +3,7 @@
 
 ghost use Rattle.std.specs.Prelude.{◌≡◌, ◌<◌, ◌^◌};
 ghost use Rattle.rings.specs.Tables.{plan_of};
+ghost use Rattle.places.specs.Places.{places_of, noted, filled, index_by, adjacent_by};
 
 use rings::{Ringed, Rings};
 
@@ -12,8 +13,6 @@ pub struct Located<'a> {
     pub rings: Rings<'a>,
     pub places: &'a [u8],
 }
-
-ghost use Rattle.places.specs.Places.{noted, filled, index_by, adjacent_by};
 
 // A number noted for the entry v of u's ring, where none is noted yet; rings and entries from 200 on are passed over.
 pub fn note(table: &mut [u8], u: usize, v: usize, x: u8)
@@ -36,6 +35,15 @@ pub fn fill<R: Ringed>(table: &mut [u8], rings: &R)
             note(table, u, rings.neighbour_at(u, i), i as u8 + 1);
         }
     }
+}
+
+// The table of positions of the rings' plan.
+pub fn table<R: Ringed>(rings: &R) -> [u8; 40000]
+    ensures { result ≡ places_of (R.plan rings.now) }
+{
+    let mut table = [0u8; 40000];
+    fill(&mut table, rings);
+    table
 }
 
 impl Located<'_> {

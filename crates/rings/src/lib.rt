@@ -1,9 +1,11 @@
 // Rings in flat arrays: where they begin, their sizes and their neighbours by place, each equal to a definition of the model on the plan that the arrays hold. Rings wherever they stand (Ringed), and the cell of a pair in a table of 200 rows of 200, are here too.
 #![tactic(auto)]
 
-ghost use Rattle.std.specs.Prelude.{◌≡◌, ◌<◌, ◌^◌, get_or, length};
-ghost use Rattle.model.specs.Plan.{Plan, count, neighbour, ring};
+ghost use Rattle.std.specs.Prelude.{◌≡◌, ◌+◌, ◌<◌, ◌^◌, get_or, length};
+ghost use Rattle.model.specs.Plan.{Plan, count, dart_count, neighbour, ring};
 ghost use Rattle.rings.specs.Tables.{size_of, starts_of, plan_of, cell};
+
+use std::ops::Range;
 
 // The border contexts.
 pub const NORTH: u16 = 0;
@@ -56,6 +58,14 @@ pub fn neighbour_of(entry: usize) -> usize
     entry
 }
 
+// How many darts a plan of n contexts has.
+pub fn dart_count(n: usize) -> usize
+    requires { n < 2 ^ 16 }
+    ensures { result ≡ dart_count n }
+{
+    (6 * n).saturating_sub(14)
+}
+
 // The size of u's ring, in a plan of n contexts.
 pub fn size_of(sizes: &[u8], n: usize, u: usize) -> usize
     ensures value { result ≡ size_of sizes.now n u }
@@ -98,6 +108,15 @@ impl Rings<'_> {
         ensures upper_bound { result < 2 ^ 8 }
     {
         size_of(self.sizes, self.n, u)
+    }
+
+    // Where the entries of u's ring stand among those of all rings.
+    pub fn span(&self, u: usize) -> Range<usize>
+        ensures start { result.start ≡ get_or self.now.starts.now u 0 }
+        ensures end { result.end ≡ get_or self.now.starts.now u 0 + size_of self.now.sizes.now self.now.n u }
+    {
+        let start = arrays::num(self.starts, u);
+        start..start + self.size_of(u)
     }
 
     // The i-th entry of u's ring, as it stands; 0 past its end.

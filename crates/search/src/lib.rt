@@ -1,32 +1,22 @@
 // Entries searched in rings: where one stands, whether it does, and the one after it.
 #![tactic(auto)]
 
-ghost use Rattle.std.specs.Prelude.{◌≡◌, map, ◌<◌, ◌≤◌, ◌^◌};
+ghost use Rattle.std.specs.Prelude.{◌≡◌, ◌<◌, ◌^◌};
 ghost use Rattle.lists.specs.Parts.{index_of};
-ghost use Rattle.lists.specs.Spans.{span};
-ghost use Rattle.model.specs.Plan.{neighbour, next, ring, adjacent};
+ghost use Rattle.model.specs.Plan.{next, ring, adjacent};
 ghost use Rattle.rings.specs.Tables.{plan_of};
 
 use rings::Rings;
-
-// Where v stands among the neighbours that the entries from a up to e name, counted from a; e - a if it does not.
-fn find(entries: &[u16], a: usize, e: usize, v: usize) -> usize
-    requires { a ≤ e }
-    ensures { result ≡ index_of v (map neighbour (span entries.now a e)) }
-{
-    (a..e)
-        .position(|i| v == rings::neighbour_of(arrays::num(entries, i)))
-        .unwrap_or(e - a)
-}
 
 // Where v stands in u's ring; the ring's size if it does not.
 pub fn index_of(rings: &Rings, u: usize, v: usize) -> usize
     ensures value { result ≡ index_of v (ring (plan_of rings.now) u) }
     ensures upper_bound { result < 2 ^ 8 }
 {
-    let a = arrays::num(rings.starts, u);
-    let e = a + rings.size_of(u);
-    find(rings.entries, a, e, v)
+    rings
+        .span(u)
+        .position(|i| v == rings::neighbour_of(arrays::num(rings.entries, i)))
+        .unwrap_or(rings.size_of(u))
 }
 
 // Is v in u's ring?

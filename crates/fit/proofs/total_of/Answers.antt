@@ -1,15 +1,27 @@
 -- total_of meets its contract.
-use Prim.Native.Nat.{◌+◌}
+use Prim.Native.Nat.{ℕ, ◌+◌, ◌≤◌, min}
+use mathlib.Core.Path.{◌∙◌}
 use native.Mathlib.Omega.{arith}
-use Rattle.rings.proofs.Rows.{start_first, start-next}
+use lib.ListN.{length, take}
+use Rattle.std.proofs.Common.{rules, ◌^◌, length-take}
+use Rattle.std.proofs.lemmas.Iterator.{YieldsList-from_slice, YieldsList-from_take, YieldsList-from_map}
+use Rattle.std.proofs.lemmas.Iterator.Adapters.{fits_from_length, at_most_from_yields_List, total_from_yields_List}
+use Rattle.fit.proofs.Fits.{summed, start-low}
 use Rattle.fit.proofs.total_of.Goals as goal
 
-pub loop-u-init : goal.loop-u-init
-loop-u-init c = (omega arith, let l = c.min-m.ensures in omega arith, omega arith, start_first c.args.sizes.now)
+pub sum-requires-clause-fits : goal.sum-requires-clause-fits
+sum-requires-clause-fits c =
+    let m = c.min.result in
+    let few : length (take m c.args.sizes.now) ≤ 200 = omega (arith, length-take m c.args.sizes.now, c.min.ensures) in
+    fits_from_length _ _ 200 (2 ^ 64) (at_most_from_yields_List (YieldsList-from_take m (YieldsList-from_slice c.args.sizes.now cc) cc) few) c.map.ensures.closure (omega arith) (λ x r q k. search rules)
 
-pub loop-u-preserved : goal.loop-u-preserved
-loop-u-preserved c =
-    let l = c.loop-u in
-    let h = l.invariant.1 in
-    let k = l.invariant.2 in
-    (omega arith, h, omega arith, start-next c.args.sizes.now l.u (l.u + 1) c.num-sum.result l.sum (omega arith) l.invariant.3 c.num-sum.ensures.value)
+pub returns-clause-value : goal.returns-clause-value
+returns-clause-value c =
+    let m = c.min.result in
+    total_from_yields_List (λ (a x : ℕ). a + x) 0 c.sum.result c.sum.ensures.ran (YieldsList-from_map _ (λ (x : ℕ). x) (YieldsList-from_take m (YieldsList-from_slice c.args.sizes.now cc) cc) c.map.ensures.closure (λ x r q k. search rules)) ∙ summed c.args.sizes.now c.args.n c.min.ensures
+
+pub returns-clause-upper_bound : goal.returns-clause-upper_bound
+returns-clause-upper_bound c =
+    let e = returns-clause-value c in
+    let low = start-low c.args.sizes.now (λ i. (c.type_inv.sizes i).fits) (min c.args.n 200) in
+    omega arith
