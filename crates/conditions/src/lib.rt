@@ -51,7 +51,7 @@ impl<'a> Labelled<'a> {
         if l >= 4 {
             return true;
         }
-        self.label_of(v, u) != (l + 2) % 4
+        self.label_of(v, u) != labels::turned(l, 2)
     }
 
     // Is the dart from u to v, of a border context, an inner dart without the label due?
@@ -91,10 +91,7 @@ impl<'a> Labelled<'a> {
     pub fn check(&self) -> Result<(), Refusal>
         ensures { told result ≡ rule 10 self.now.plan.n (breaks_by self.now.places.now self.now.starts.now (rows self.now.starts.now self.now.plan.sizes.now self.now.plan.entries.now self.now.plan.n) self.now.labels.now) }
     {
-        match (0..self.plan.n).find(|u| self.is_broken_at(*u)) {
-            Some(u) => Err(Refusal::BadLabels(u)),
-            None => Ok(()),
-        }
+        refusal::none_of(self.plan.n, |u| self.is_broken_at(u), Refusal::BadLabels)
     }
 }
 

@@ -88,8 +88,5 @@ fn bad_face(rings: &Rings, u: usize) -> bool
 pub fn rule9(rings: &Rings) -> Result<(), Refusal>
     ensures { told result ≡ rule 9 rings.now.n (bad_face (plan_of rings.now)) }
 {
-    match (0..rings.n).find(|u| bad_face(rings, *u)) {
-        Some(u) => Err(Refusal::BadFace(u)),
-        None => Ok(()),
-    }
+    refusal::none_of(rings.n, |u| bad_face(rings, u), Refusal::BadFace)
 }

@@ -7,6 +7,7 @@ ghost use Rattle.rings.specs.Tables.{plan_of};
 ghost use Rattle.followers.specs.Followers.{mark, marked, note_at, note_ring, note_rings, told, closes_by};
 
 use rings::Rings;
+use std::ops::Range;
 
 // One more than a context, in a byte; 255 for every context from 254 on.
 fn mark_of(v: usize) -> u8
@@ -34,11 +35,10 @@ fn note_ring(table: &mut [u8], rings: &Rings, u: usize, clear: bool) -> bool
     ensures table_after { table.new ≡ (note_ring u (get_or (ring (plan_of rings.now) u) 0 0) (ring (plan_of rings.now) u) (table.old, clear)).0 }
     ensures value { result ≡ (note_ring u (get_or (ring (plan_of rings.now) u) 0 0) (ring (plan_of rings.now) u) (table.old, clear)).1 }
 {
-    let a = arrays::num(rings.starts, u);
-    let e = a + rings.size_of(u);
+    let Range { start, end } = rings.span(u);
     let mut still = clear;
-    let mut after = rings::neighbour_of(arrays::num(rings.entries, a));
-    for i in (a..e).rev() {
+    let mut after = rings::neighbour_of(arrays::num(rings.entries, start));
+    for i in (start..end).rev() {
         let v = rings::neighbour_of(arrays::num(rings.entries, i));
         still = note(table, u, v, mark_of(after), still);
         after = v;

@@ -261,19 +261,18 @@ module _ {r : List ℕ} {i last weight : ℕ} (inv : Weighs r i last weight) whe
       let s = inv.same ∙ ap (λ (m : List ℕ). weight + change_sum last m) cut in
       omega arith
 
-  pub weighs_on : {label w i' : ℕ} → i' ≡ i + 1 → i < length r → label ≡ get_or r i 0 → w ≡ change_weight last label → weight + w ≤ 4 → Weighs r i' label (weight + w)
-  weighs_on {label} {w} {i'} e h q p k =
-      record { light = k; same = weighs_more h q p ∙ ap (λ (j : ℕ). weight + w + change_sum label (drop j r)) (sym e) }
+  pub weighs_on : {label w : ℕ} → w ≡ change_weight last label → label ≡ get_or r i 0 → i < length r → weight + w ≤ 4 → Weighs r (i + 1) label (weight + w)
+  weighs_on p q h k = record { light = k; same = weighs_more h q p }
 
-  pub weighs_heavy : {label w : ℕ} → i < length r → label ≡ get_or r i 0 → w ≡ change_weight last label → 4 < weight + w → false ≡ four_runs r
-  weighs_heavy h q p k = let s = weighs_more h q p in sym (runs_exactly r ∙ ne_eqb (round_sum r) 4 (λ z. omega arith))
+  pub weighs_heavy : {label w : ℕ} {s : List ℕ} → w ≡ change_weight last label → r ≡ s → label ≡ get_or r i 0 → i < length r → 4 < weight + w → false ≡ four_runs s
+  weighs_heavy p is q h k = let s = weighs_more h q p in sym (runs_exactly r ∙ ne_eqb (round_sum r) 4 (λ z. omega arith)) ∙ ap four_runs is
 
-  pub weighs_end : length r ≤ i → eqb weight 4 ≡ four_runs r
+  pub weighs_end : {s : List ℕ} → r ≡ s → length r ≤ i → eqb weight 4 ≡ four_runs s
   unfolding change_sum
-  weighs_end h =
+  weighs_end is h =
       let gone : drop i r ≡ [] = drop_of_length-le r {i = i} h in
       let s : round_sum r ≡ weight = inv.same ∙ ap (λ (m : List ℕ). weight + change_sum last m) gone ∙ omega arith in
-      ap (λ (k : ℕ). eqb k 4) (sym s) ∙ sym (runs_exactly r)
+      ap (λ (k : ℕ). eqb k 4) (sym s) ∙ sym (runs_exactly r) ∙ ap four_runs is
 
 -- ---- the labels up to the last
 slice_end : (l : List ℕ) (a e end : ℕ) → end ≡ min e (length l) → slice a end l ≡ slice a e l

@@ -4,7 +4,7 @@
 
 ghost use Rattle.std.specs.Prelude.{◌≡◌, ◌&&◌, get_or};
 ghost use Rattle.model.specs.Plan.{border};
-ghost use Rattle.model.specs.Labels.{unlabelled, due};
+ghost use Rattle.model.specs.Labels.{unlabelled, turned, due};
 
 pub mod runs;
 
@@ -31,6 +31,13 @@ pub fn label_at(labels: &[u8], i: usize) -> u8
     ensures { result ≡ get_or labels.now i unlabelled }
 {
     labels.get(i).copied().unwrap_or(NONE)
+}
+
+// The label turned clockwise by some quarters.
+pub fn turned(label: u8, quarters: u8) -> u8
+    ensures { result ≡ turned label quarters }
+{
+    (label % 4 + quarters % 4) % 4
 }
 
 // The label due on the inner darts that leave a context: North's are down, East's left, South's up, West's right; no one label is due at an inner context.

@@ -20,6 +20,7 @@ fn change_weight(a: u8, b: u8) -> u8
 }
 
 // Are the labels from a up to e four runs, up, right, down, left, going round? They are if their changes, the one from the last label to the first among them, weigh 4.
+#[tactic(auto, using(crate::proofs::Rounds::runs_none, crate::proofs::Rounds::round_is, crate::proofs::Rounds::weighs_start, crate::proofs::Rounds::weighs_end))]
 pub fn four_runs(labels: &[u8], a: usize, e: usize) -> bool
     ensures { result ≡ four_runs (slice a e labels.now) }
 {

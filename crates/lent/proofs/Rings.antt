@@ -70,3 +70,6 @@ module _ (starts sizes file : List ℕ) (n : ℕ) where
   -- ---- a ring gone through from 0 to its size is the ring
   pub ring_whole : (u e : ℕ) → e ≡ size_of sizes n u → span (ring (lent starts sizes file n) u) 0 e ≡ ring (lent starts sizes file n) u
   ring_whole u e q = span_whole (ring (lent starts sizes file n) u) e (q ∙ sym (lent-size u))
+
+-- for the look-ups
+pub ruleset look_ups = (count-lent, lent-size, lent_at, lent-past)

@@ -42,14 +42,10 @@ impl Located<'_> {
 pub fn rule6(rings: &LentRings) -> Result<(), Refusal>
     ensures { told result ≡ rule 6 rings.now.n (unreturned (lent_of rings.now)) }
 {
-    let mut places = [0u8; 40000];
-    places::fill(&mut places, rings);
+    let places = places::table(rings);
     let located = Located {
         rings: *rings,
         places: &places,
     };
-    match (0..rings.n).find(|u| located.unreturned(*u)) {
-        Some(u) => Err(Refusal::OneSidedEntry(u)),
-        None => Ok(()),
-    }
+    refusal::none_of(rings.n, |u| located.unreturned(u), Refusal::OneSidedEntry)
 }

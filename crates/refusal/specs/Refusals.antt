@@ -1,7 +1,7 @@
 -- The refusals: 01's number and place for each case, and what a result tells.
-use Rattle.std.specs.Prelude.{ℕ, Ok, Err}
+use Rattle.std.specs.Prelude.{◌≡◌, ℕ, ◌^◌, ◌<◌, Bool, Ok, Err}
 use Rattle.std.specs.declared.result.Result.{Result}
-use Rattle.model.specs.Outcome.{Outcome, accepted, refused}
+use Rattle.model.specs.Outcome.{Outcome, accepted, refused, rule}
 use Rattle.refusal.specs.declared.Refusal.{Refusal}
 use Rattle.refusal.specs.declared.Refusal.TheVariants as Refusal
 
@@ -49,3 +49,11 @@ place_of (Refusal.NoSuchContext at) = at
 abbrev pub told : {A : Type 0} → Result A Refusal → Outcome A
 told (Ok a) = accepted a
 told (Err r) = refused (number_of r) (place_of r)
+
+-- a rule, for a test and a refusal of which this is said at each number: whatever number k the refusals have, a result tells what the model's rule k says of the test
+abbrev pub NoneOf : (ℕ → Bool → Type 0) → (ℕ → Refusal → Type 0) → ℕ → Result (Unit {0}) Refusal → Type 0
+NoneOf tests refusals n result =
+    (k : ℕ) (bad : ℕ → Bool)
+    → ((u : ℕ) (t : Bool) → u < 2 ^ 64 → tests u t → t ≡ bad u)
+    → ((u : ℕ) (r : Refusal) → u < 2 ^ 64 → refusals u r → (number_of r ≡ k) × (place_of r ≡ u))
+    → told result ≡ rule k n bad

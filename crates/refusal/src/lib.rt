@@ -2,7 +2,7 @@
 #![tactic(auto)]
 
 ghost use Rattle.std.specs.Prelude.{◌≡◌, ◌++◌, codes, decimal, Some};
-ghost use Rattle.refusal.specs.Refusals.{number_of, place_of};
+ghost use Rattle.refusal.specs.Refusals.{number_of, place_of, NoneOf};
 
 use std::fmt;
 
@@ -94,6 +94,22 @@ impl Refusal {
             Refusal::ShortBuffer(at) => at,
             Refusal::NoSuchContext(at) => at,
         }
+    }
+}
+
+// No number below n passes a test; or the refusal of the lowest that does.
+pub fn none_of<T: Fn(usize) -> bool, R: FnOnce(usize) -> Refusal>(
+    n: usize,
+    test: T,
+    refuse: R,
+) -> Result<(), Refusal>
+    requires tests { T.IsAlwaysCallable test }
+    requires refusals { R.IsAlwaysCallable refuse }
+    ensures { NoneOf (T.post test) (R.post refuse) n result }
+{
+    match (0..n).find(|u| test(*u)) {
+        Some(u) => Err(refuse(u)),
+        None => Ok(()),
     }
 }
 

@@ -50,18 +50,12 @@ fn bad_repeat(rings: &LentRings, u: usize) -> bool
 pub fn rule4(rings: &LentRings) -> Result<(), Refusal>
     ensures { told result ≡ rule 4 rings.now.n (bad_entry (lent_of rings.now)) }
 {
-    match (0..rings.n).find(|u| bad_entry(rings, *u)) {
-        Some(u) => Err(Refusal::BadEntry(u)),
-        None => Ok(()),
-    }
+    refusal::none_of(rings.n, |u| bad_entry(rings, u), Refusal::BadEntry)
 }
 
 // 5: no ring repeats an entry; refused at the lowest context whose ring does.
 pub fn rule5(rings: &LentRings) -> Result<(), Refusal>
     ensures { told result ≡ rule 5 rings.now.n (bad_repeat (lent_of rings.now)) }
 {
-    match (0..rings.n).find(|u| bad_repeat(rings, *u)) {
-        Some(u) => Err(Refusal::RepeatedEntry(u)),
-        None => Ok(()),
-    }
+    refusal::none_of(rings.n, |u| bad_repeat(rings, u), Refusal::RepeatedEntry)
 }

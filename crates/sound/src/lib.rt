@@ -28,9 +28,7 @@ fn is_doubtful(table: &[u8], u: usize, v: usize) -> bool
 fn is_doubted(table: &[u8], rings: &Rings, u: usize) -> bool
     ensures { result ≡ doubted table.now (plan_of rings.now) u }
 {
-    let a = arrays::num(rings.starts, u);
-    let e = a + rings.size_of(u);
-    (a..e).any(|i| is_doubtful(table, u, rings::neighbour_of(arrays::num(rings.entries, i))))
+    rings.span(u).any(|i| is_doubtful(table, u, rings::neighbour_of(arrays::num(rings.entries, i))))
 }
 
 // By a table of followers, is some dart in doubt?

@@ -18,7 +18,9 @@ use Rattle.lists.proofs.Ranges.{first_found}
 use Rattle.model.specs.Plan.{Plan, count, ring, adjacent, next, step, outer, closes, walk, on_inner_face}
 use Rattle.model.specs.Scan.{Triple, after, triples, inner_face, enclosing, first_enclosing, scan}
 use Rattle.faces.proofs.FaceTests.{closes_last, closes_never}
-use Rattle.triples.specs.Scanned.{apart_by, face_by, harmless, third_for, second_for, first_for}
+use Rattle.rings.proofs.Rows.{count-rows}
+use Rattle.triples.specs.Scanned.{scanned_as, apart_by, face_by, harmless, below, third_for, second_for, first_for}
+use Rattle.triples.proofs.Flags.{below-says, below-over, below-test}
 use Rattle.followers.specs.Followers.{tabled, followers_of, marked, told, closes_by}
 use Rattle.followers.proofs.Notes.{named, closes-none}
 use Rattle.followers.proofs.Tells.{told_none, told-next, told-closes, closes_byte}
@@ -147,6 +149,10 @@ enclosing-says p a b c e =
     let (y, near) = and_yes (adjacent p a b && adjacent p a c) (adjacent p b c) x in
     ((and_yes (adjacent p a b) (adjacent p a c) y).0, near)
 
+-- so b lists whatever encloses with a and it
+pub enclosing_near : (p : Plan) (a b c : ℕ) → enclosing p (a, b, c) ≡ true → adjacent p b c ≡ true
+enclosing_near p a b c e = (enclosing-says p a b c e).1
+
 first-empty : (f : ℕ → Bool) (a : ℕ) → first_from f a 0 ≡ a
 unfolding first_from
 first-empty f a = refl
@@ -267,3 +273,40 @@ module _ (p : Plan) where
         let e₁ : second_for p (count p) (first_for p (count p)) ≡ b = (λ i. second_for p (size i) (e₀ i)) ∙ sym second in
         let e₂ : third_for p (count p) (first_for p (count p)) (second_for p (count p) (first_for p (count p))) ≡ c = (λ i. third_for p (size i) (e₀ i) (e₁ i)) ∙ sym third in
         sym (by_first ∙ rw (lt-ltb (first_for p (count p)) (count p) (omega arith)) (λ i. some (triple (e₀ i) (e₁ i) (e₂ i))))
+
+-- ---- for the code: what a step of the search finds says of the whole
+module _ (p : Plan) (n : ℕ) (size : count p ≡ n) where
+  -- no first context
+  pub scanned_none : {o : std.Option Triple} → o ≡ None → None ≡ below n (first_for p n) → scanned_as o ≡ scan p
+  unfolding scanned_as
+  scanned_none e over = ap scanned_as e ∙ scan-none p n _ size refl (below-over over)
+
+  module _ (a : ℕ) (there : Some a ≡ below n (first_for p n)) where
+    -- a first context has a second
+    pub second_there : {o : std.Option Triple} → o ≡ None → None ≡ below n (second_for p n a) → scanned_as o ≡ scan p
+    second_there e over =
+        let (first, low) = below-says there in
+        let second = second_below p n a size first low in
+        let past = below-over over in
+        absurd (omega arith)
+
+    module _ (b : ℕ) (next : Some b ≡ below n (second_for p n a)) where
+      -- and these have a third
+      pub third_there : {o : std.Option Triple} → o ≡ None → None ≡ below n (third_for p n a b) → scanned_as o ≡ scan p
+      third_there e over =
+          let (first, low) = below-says there in
+          let (second, near) = below-says next in
+          let third = third_below p n a size first b second near in
+          let past = below-over over in
+          absurd (omega arith)
+
+      -- all three
+      pub scanned_some : (c : ℕ) → Some c ≡ below n (third_for p n a b) → scanned_as (Some (a, b, c)) ≡ scan p
+      unfolding scanned_as
+      scanned_some c last =
+          let (first, low) = below-says there in
+          scan-some p n a size first b c (below-says next).0 (below-says last).0 low
+
+pub ruleset scanned = (scanned_none, second_there, third_there, scanned_some, count-rows)
+
+pub ruleset second = (third_near, below-test)

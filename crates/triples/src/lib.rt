@@ -18,15 +18,15 @@ struct Followed<'a, 'b> {
 }
 
 // Is the walk a, b, c an inner face?
-#[tactic(auto, using(crate::proofs::Scans::face_tests))]
+#[tactic(auto, using(crate::proofs::Scans::face_tests), unfolding(model::specs::Plan::step))]
 fn is_inner_face(rings: &Rings, a: usize, b: usize, c: usize) -> bool
     ensures { result ≡ inner_face (plan_of rings.now) a b c }
 {
-    search::next_of(rings, b, a) == c
+    faces::third_of(rings, a, b) == c
         && !faces::is_outer(a, b)
         && search::is_adjacent(rings, a, b)
-        && search::next_of(rings, c, b) == a
-        && search::next_of(rings, a, c) == b
+        && faces::third_of(rings, b, c) == a
+        && faces::third_of(rings, c, a) == b
 }
 
 // Are a, b, c mutual neighbours that are no inner face, walked either way?
@@ -69,6 +69,7 @@ impl Followed<'_, '_> {
     }
 
     // Are a, b, c mutual neighbours that are no inner face, walked either way? The table passes over nearly all that are not.
+    #[tactic(auto, using(crate::proofs::Scans::harmless_so))]
     fn encloses(&self, a: usize, b: usize, c: usize) -> bool
         ensures { result ≡ enclosing (plan_of self.now.rings) (a, b, c) }
     {
@@ -76,6 +77,7 @@ impl Followed<'_, '_> {
     }
 
     // The lowest entry of u's ring that lies above u and that a test accepts.
+    #[tactic(auto, using(crate::proofs::Nearest::nearest_start))]
     fn lowest_above<F: Fn(usize) -> bool>(&self, u: usize, accepts: F) -> Option<usize>
         requires { F.IsAlwaysCallable accepts }
         ensures { LowestAbove (F.post accepts) (plan_of self.now.rings) self.now.rings.n u result }
@@ -98,6 +100,7 @@ impl Followed<'_, '_> {
     }
 
     // The lowest c above b for which a, b, c enclose. Such a c stands in b's ring.
+    #[tactic(auto, using(crate::proofs::Scans::enclosing_near), unfolding(crate::specs::Scanned::third_for))]
     fn third_for(&self, a: usize, b: usize) -> Option<usize>
         ensures { result ≡ below self.now.rings.n (third_for (plan_of self.now.rings) self.now.rings.n a b) }
     {
@@ -105,6 +108,7 @@ impl Followed<'_, '_> {
     }
 
     // The lowest b above a for which a, b and some c enclose. Such a b stands in a's ring.
+    #[tactic(auto, using(crate::proofs::Scans::second), unfolding(crate::specs::Scanned::second_for))]
     fn second_for(&self, a: usize) -> Option<usize>
         ensures { result ≡ below self.now.rings.n (second_for (plan_of self.now.rings) self.now.rings.n a) }
     {
@@ -119,6 +123,7 @@ impl Followed<'_, '_> {
     }
 
     // The triple of the lowest first context, then the lowest second, then the lowest third.
+    #[tactic(auto, using(crate::proofs::Scans::scanned))]
     fn scan(&self) -> Option<(usize, usize, usize)>
         ensures { scanned_as result ≡ scan (plan_of self.now.rings) }
     {

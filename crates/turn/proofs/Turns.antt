@@ -5,7 +5,7 @@ use mathlib.Core.List.{List, [], ◌∷◌, ◌++◌}
 use mathlib.Core.Bool.{Bool, true, false, cond, not, ◌&&◌, ◌||◌}
 use native.Mathlib.Omega.{arith}
 use lib.ListN.{length, get_or, set, take}
-use lib.Seq.{set_out, take-suc, take_all}
+use lib.Seq.{take-suc, take_all}
 use lib.Dec.{eqb}
 use Rattle.std.specs.Simd.{first_chunks}
 use Rattle.std.proofs.Common.{Some, None}
@@ -15,7 +15,6 @@ use Rattle.lists.specs.Ranges.{lowest}
 use Rattle.lists.specs.Parts.{index_of, pairs}
 use Rattle.lists.proofs.Bools.{or_no}
 use Rattle.lists.proofs.Loops.{Looks, looks_start, looks_hit, looks_on, looks_end}
-use Rattle.lists.proofs.Spans.{get_or-inside}
 use Rattle.model.specs.Outcome.{accepted, refused, ◌>>◌, require}
 use Rattle.model.specs.Plan.{Plan, Dart, ring, adjacent, border, inner_edge, entry_count}
 use Rattle.model.specs.Labels.{unlabelled, start, label_of, turned}
@@ -55,19 +54,6 @@ module _ (starts sizes es : List ℕ) (n : ℕ) (same : starts ≡ starts_of siz
     pub place_missing : k ≤ i → None ≡ place_of (table sizes es n) u v
     unfolding place_of
     place_missing h = sym (rw (dart_test starts sizes es n same small u v from-s at size ∙ le-ltb i k h))
-
--- ---- a label turned at a place
--- past the last label nothing changes
-pub turned-off : (q i : ℕ) (ls : List ℕ) → length ls ≤ i → ls ≡ turn_at q i ls
-unfolding turn_at
-turned-off q i ls h = sym (set_out ls i (turned (get_or ls i unlabelled) q) h)
-
--- the code turns what is left of a label by four
-pub turned_on : (q i : ℕ) (ls : List ℕ) → i < length ls → set ls i ((get_or ls i 0 % 4 + q) % 4) ≡ turn_at q i ls
-unfolding turn_at
-turned_on q i ls h =
-    let x : (get_or ls i 0 % 4 + q) % 4 ≡ (get_or ls i 0 + q) % 4 = omega arith in
-    ap (set ls i) (x ∙ ap (λ (l : ℕ). (l + q) % 4) (get_or-inside ls i 0 unlabelled h))
 
 -- ---- a dart that may not be turned
 -- both its ends are border contexts

@@ -26,13 +26,12 @@ fn quarters_of(direction: u8) -> u8
 }
 
 // The label at i turned clockwise by q quarters; nothing where i is past the last.
+#[tactic(auto, unfolding(crate::specs::Run::turn_at))]
 fn turn_at(labels: &mut [u8], i: usize, q: u8)
-    requires { q < 4 }
     ensures { labels.new ≡ turn_at q i labels.old }
 {
-    if i < labels.len() {
-        labels[i] = (labels[i] % 4 + q) % 4;
-    }
+    let turned = labels::turned(labels::label_at(labels, i), q);
+    arrays::put(labels, i, turned);
 }
 
 // The rings of a plan that fits the arrays, with the starts of its rings and its own table of positions: by them the label of each dart is found where the model has it.

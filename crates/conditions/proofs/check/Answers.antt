@@ -15,6 +15,6 @@ returns c =
     let a = c.args in
     let m = c.min.ensures in
     let r = c.rings.ensures in
-    let filled = c.fill.ensures ∙ filled-zeros _ refl ∙ (λ i. places_of (rows (r.starts i) (r.sizes i) (r.entries i) (r.n i))) in
+    let filled = (c.fill.ensures ∙ filled-zeros _ refl) ∙ (λ i. places_of (rows (r.starts i) (r.sizes i) (r.entries i) (r.n i))) in
     let own = rules_own c.starts_of-starts.result a.plan.now.sizes.now a.plan.now.entries.now c.min.result c.starts_of-starts.ensures (omega arith) filled a.labels.now in
     c.check.ensures ∙ own ∙ (λ i. rule 10 (m i) (breaks (table a.plan.now.sizes.now a.plan.now.entries.now (m i)) a.labels.now))

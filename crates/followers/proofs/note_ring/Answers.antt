@@ -18,9 +18,9 @@ loop-i-preserved c =
 pub returns-clause-table_after : goal.returns-clause-table_after
 returns-clause-table_after c =
     let r = c.args.rings.now in
-    (row-end r.starts.now r.sizes.now r.entries.now r.n c.args.u c.loop-i.invariant.2 (omega arith) c.num-a.ensures.value (let k = c.size_of.ensures.value in omega arith)).0
+    (row-end r.starts.now r.sizes.now r.entries.now r.n c.args.u c.loop-i.invariant.2 (omega arith) c.span-start.ensures.start (omega arith)).0
 
 pub returns-clause-value : goal.returns-clause-value
 returns-clause-value c =
     let r = c.args.rings.now in
-    (row-end r.starts.now r.sizes.now r.entries.now r.n c.args.u c.loop-i.invariant.2 (omega arith) c.num-a.ensures.value (let k = c.size_of.ensures.value in omega arith)).1
+    (row-end r.starts.now r.sizes.now r.entries.now r.n c.args.u c.loop-i.invariant.2 (omega arith) c.span-start.ensures.start (omega arith)).1

@@ -6,4 +6,4 @@ use Rattle.followers.proofs.Notes.{Back}
 use Rattle.followers.proofs.note_ring.Given as goal
 
 abbrev pub invariant-loop-i : goal.invariant-loop-i
-invariant-loop-i l = (l.a ≤ l.i) × (l.i ≤ l.e) × Back l.u (neighbour (get_or l.rings.entries.now l.a 0)) l.rings.entries.now l.e (l.initial.table, l.clear) l.i (l.table, l.still) l.after
+invariant-loop-i l = (l.start ≤ l.i) × (l.i ≤ l.end) × Back l.u (neighbour (get_or l.rings.entries.now l.start 0)) l.rings.entries.now l.end (l.initial.table, l.clear) l.i (l.table, l.still) l.after

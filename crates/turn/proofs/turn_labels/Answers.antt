@@ -23,7 +23,7 @@ invariant_of-placed c =
     record {
       starts = r.starts ∙ c.starts_of-starts.ensures ∙ ap starts_of (sym r.sizes);
       few = let e = r.n in let h = b.0 in omega arith;
-      own = c.fill.ensures ∙ filled-zeros _ refl;
+      own = (c.fill.ensures ∙ filled-zeros _ refl);
       room = let e : start_of c.rings-rings.result.sizes.now c.rings-rings.result.n ≡ start_of t.sizes.now t.n = λ i. start_of (r.sizes i) (r.n i) in let h = b.1 in omega arith;
     }
 
@@ -62,7 +62,7 @@ returns-in_err-check c =
     let long = c.well_formed in
     let b = bounds_say t.sizes.now t.n (sym c.is_in_bounds.ensures ∙ not-false _ (ap not c.if-not-is_in_bounds.false)) in
     let passed = c.in_ok-turned.ensures ∙ (λ i. pairs_turned (table (r.sizes i) (r.entries i) (r.n i)) c.quarters_of.result (pairs c.args.items.now) c.args.labels) in
-    let filled = c.fill.ensures ∙ filled-zeros _ refl ∙ (λ i. places_of (rows (r.starts i) (r.sizes i) (r.entries i) (r.n i))) in
+    let filled = (c.fill.ensures ∙ filled-zeros _ refl) ∙ (λ i. places_of (rows (r.starts i) (r.sizes i) (r.entries i) (r.n i))) in
     let own = rules_own _ t.sizes.now t.entries.now t.n c.starts_of-starts.ensures b.0 filled c.in_ok-turned.turned in
     let p = err_from_is_err_and c.from_residual-in_err-check.result c.from_residual-in_err-check.ensures.1 in
     let a = answer_broken t.sizes.now t.entries.now t.n c.args.labels c.args.items.now c.args.direction b.0 b.1 (omega arith) c.quarters_of.result passed c.if-items-ne0.false c.if-direction-gt1.false c.quarters_of.ensures.value (c.in_err-check.ensures ∙ own) in
@@ -75,6 +75,6 @@ returns c =
     let long = c.well_formed in
     let b = bounds_say t.sizes.now t.n (sym c.is_in_bounds.ensures ∙ not-false _ (ap not c.if-not-is_in_bounds.false)) in
     let passed = c.in_ok-turned.ensures ∙ (λ i. pairs_turned (table (r.sizes i) (r.entries i) (r.n i)) c.quarters_of.result (pairs c.args.items.now) c.args.labels) in
-    let filled = c.fill.ensures ∙ filled-zeros _ refl ∙ (λ i. places_of (rows (r.starts i) (r.sizes i) (r.entries i) (r.n i))) in
+    let filled = (c.fill.ensures ∙ filled-zeros _ refl) ∙ (λ i. places_of (rows (r.starts i) (r.sizes i) (r.entries i) (r.n i))) in
     let own = rules_own _ t.sizes.now t.entries.now t.n c.starts_of-starts.ensures b.0 filled c.in_ok-turned.turned in
     answer_labelled t.sizes.now t.entries.now t.n c.args.labels c.args.items.now c.args.direction b.0 b.1 (omega arith) c.quarters_of.result passed c.if-items-ne0.false c.if-direction-gt1.false c.quarters_of.ensures.value (c.in_ok-check.ensures ∙ own)

@@ -1,14 +1,12 @@
 -- has_wrong meets its contract.
-use mathlib.Core.Path.{refl, ◌∙◌}
+use mathlib.Core.Path.{◌∙◌}
 use mathlib.Core.Bool.{Bool}
 use Prim.Native.Nat.{ℕ, ◌-◌}
 use lib.ListN.{get_or}
 use borrow.Author.Tests.{tests}
 use borrow.Author.Rules.{rules}
-use Rattle.std.proofs.lemmas.Iterator.{YieldsList-from_range}
-use Rattle.std.proofs.lemmas.Iterator.Search.{any_from_yields_List}
 use Rattle.lists.specs.Spans.{span}
-use Rattle.lists.proofs.Chains.{any_entry}
+use Rattle.lists.proofs.Chains.{any_in_range, any_entry}
 use Rattle.lists.proofs.Tests.{any-map}
 use Rattle.model.specs.Plan.{neighbour}
 use Rattle.conditions.specs.LabelBy.{wrong_dart_by}
@@ -21,6 +19,6 @@ returns c =
     let l = s.plan.entries.now in
     let wrong : ℕ → Bool = wrong_dart_by s.places.now s.starts.now s.labels.now a.u in
     let test : ℕ → Bool = λ i. wrong (neighbour (get_or l i 0)) in
-    any_from_yields_List test _ _ c.any.result c.any.ensures.ran (YieldsList-from_range a.a a.e (a.e - a.a) refl refl) (λ x b f k. search (rules, tests))
+    any_in_range test a.a a.e c.any.ensures.ran (λ x b f k. search (rules, tests))
     ∙ any_entry l (λ (x : ℕ). wrong (neighbour x)) a.a (a.e - a.a)
     ∙ any-map wrong neighbour (span l a.a a.e)

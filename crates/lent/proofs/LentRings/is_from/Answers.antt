@@ -1,16 +1,14 @@
 -- is_from meets its contract.
-use mathlib.Core.Path.{refl, ap, ◌∙◌}
+use mathlib.Core.Path.{ap, ◌∙◌}
 use mathlib.Core.Bool.{Bool}
 use Prim.Native.Nat.{ℕ, ◌-◌}
 use lib.Dec.{eqb}
 use lib.ListN.{get_or}
 use borrow.Author.Tests.{tests}
 use borrow.Author.Rules.{rules}
-use Rattle.std.proofs.lemmas.Iterator.{YieldsList-from_range}
-use Rattle.std.proofs.lemmas.Iterator.Search.{any_from_yields_List}
 use Rattle.lists.specs.Tests.{member}
 use Rattle.lists.specs.Spans.{span}
-use Rattle.lists.proofs.Chains.{any_entry}
+use Rattle.lists.proofs.Chains.{any_in_range, any_entry}
 use Rattle.model.specs.Plan.{ring}
 use Rattle.lent.specs.Plans.{lent_of}
 use Rattle.lent.proofs.LentRings.is_from.Goals as goal
@@ -21,6 +19,6 @@ returns c =
     let l = ring (lent_of a.self.now) a.u in
     let e = c.size_of.result in
     let test : ℕ → Bool = λ i. eqb a.v (get_or l i 0) in
-    any_from_yields_List test _ _ c.any.result c.any.ensures.ran (YieldsList-from_range a.a e (e - a.a) refl refl) (λ x b f k. search (rules, tests))
+    any_in_range test a.a e c.any.ensures.ran (λ x b f k. search (rules, tests))
     ∙ any_entry l (eqb a.v) a.a (e - a.a)
     ∙ ap (λ (k : ℕ). member a.v (span l a.a k)) c.size_of.ensures.value

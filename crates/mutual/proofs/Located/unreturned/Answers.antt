@@ -1,13 +1,11 @@
 -- unreturned meets its contract.
-use mathlib.Core.Path.{refl, ◌∙◌}
+use mathlib.Core.Path.{◌∙◌}
 use mathlib.Core.Bool.{Bool, not}
 use Prim.Native.Nat.{ℕ, ◌-◌}
 use lib.ListN.{get_or}
 use borrow.Author.Tests.{tests}
 use borrow.Author.Rules.{rules}
-use Rattle.std.proofs.lemmas.Iterator.{YieldsList-from_range}
-use Rattle.std.proofs.lemmas.Iterator.Search.{any_from_yields_List}
-use Rattle.lists.proofs.Chains.{any_entry}
+use Rattle.lists.proofs.Chains.{any_in_range, any_entry}
 use Rattle.model.specs.Plan.{ring, adjacent}
 use Rattle.lent.specs.Plans.{lent_of}
 use Rattle.mutual.proofs.Returns.{whole_return}
@@ -21,6 +19,6 @@ returns c =
     let e = c.size_of.result in
     let f : ℕ → Bool = λ v. not (adjacent (lent_of r) v u) in
     let test : ℕ → Bool = λ i. f (get_or l i 0) in
-    any_from_yields_List test _ _ c.any.result c.any.ensures.ran (YieldsList-from_range 0 e (e - 0) refl refl) (λ x b g k. search (rules, tests))
+    any_in_range test 0 e c.any.ensures.ran (λ x b g k. search (rules, tests))
     ∙ any_entry l f 0 (e - 0)
     ∙ whole_return r.starts.now r.sizes.now r.file.now r.n u e c.size_of.ensures.value

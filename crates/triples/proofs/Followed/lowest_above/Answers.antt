@@ -4,13 +4,10 @@ use Rattle.model.proofs.Plans.{adjacent-mem}
 use Rattle.rings.specs.Tables.{plan_of}
 use Rattle.rings.proofs.Rows.{ring-size}
 use Rattle.triples.proofs.Flags.{below-is}
-use Rattle.triples.proofs.Nearest.{ring-entry, nearest_start, nearest_off, nearest_hit, nearest_end}
+use Rattle.triples.proofs.Nearest.{ring-entry, nearest_off, nearest_hit, nearest_end}
 use native.Mathlib.Omega.{arith}
 use Rattle.triples.proofs.Followed.lowest_above.Goals as goal
 use Rattle.triples.proofs.Followed.lowest_above.Goals.{then-u-v+then-v-lowest+then-accepts, else-u-v, else-u-v-via-then-u-v+then-v-lowest+else-accepts, else-u-v-via-then-u-v+else-v-lowest, else-u-v-via-else-u-v}
-
-pub loop-i-init : goal.loop-i-init
-loop-i-init g c = λ f says. nearest_start
 
 pub loop-i-preserved : goal.loop-i-preserved
 loop-i-preserved g c = λ f says.
