@@ -75,4 +75,4 @@ near_own p own = λ i u v. adjacent-told p own u v refl i
 -- the test of a pair
 pub fits-own : (p : Plan) {t : List ℕ} → t ≡ places_of p → (clean : Bool) (v : Line) (i j : ℕ) → fits_by t p clean v i j ≡ fits p clean v i j
 unfolding fits_by fits fresh
-fits-own p own clean v i j = λ t. fits_with (near_own p own t) (listing-own p own v.at v.marks (suc i) j t) clean v i j
+fits-own p own clean v i j = λ t. fits_with (near_own p own t) (listing-own p own v.at v.marks (suc i) j refl t) clean v i j

@@ -86,9 +86,18 @@ impl<'a> Insertion<'a> {
     {
         let mut next = Line::new(self.list.marks);
         let a = self.i + 1;
-        if pairs::list::replaced(&mut next, self.front.f, self.m, a, self.j, self.list).is_none() {
+        let Ok(len) = pairs::list::replaced(
+            &mut next.at,
+            self.front.f,
+            self.m,
+            a,
+            self.j,
+            &self.list.at,
+            self.list.len,
+        ) else {
             return true;
-        }
+        };
+        next.len = len;
         chorded(&self.front.located, &next)
     }
 
@@ -112,9 +121,10 @@ pub fn fits(front: &Front, m: usize, marks: &[u8; 256], clean: bool, i: usize, j
         return false;
     }
     let mut list = Line::new(*marks);
-    if pairs::list::listed(&mut list, front, i + 1..j).is_none() {
+    let Ok(len) = pairs::list::listed(&mut list.at, &mut list.marks, front, i + 1..j) else {
         return false;
-    }
+    };
+    list.len = len;
     let insertion = Insertion {
         front: *front,
         m,

@@ -6,7 +6,7 @@ use native.Mathlib.Omega.{arith}
 use lib.ListN.{get_or}
 use Rattle.lists.specs.Parts.{steps}
 use Rattle.lists.specs.Spans.{stretch, span}
-use Rattle.lists.proofs.Spans.{span_more, span_end}
+use Rattle.lists.proofs.Spans.{span_more, span_next, span_end}
 use Rattle.model.specs.Plan.{Dart}
 use Rattle.model.specs.Sweep.{product}
 use Rattle.edges.specs.Edges.{edge_by, edges_by, fan}
@@ -43,10 +43,10 @@ module _ {t starts : List ℕ} {l : ℕ} {ds₀ : List Dart} {ls₀ : List ℕ} 
 
 -- ---- the darts of spans, one after the other
 module _ (f : List ℕ) (k e : ℕ) where
-  -- the next dart from u
-  pub fan-more : (u : ℕ) → k < e → fan u (span f k e) ≡ dart u (get_or f k 0) ∷ fan u (span f (k + 1) e)
+  -- the next dart from u, by what the range says of its next number
+  fan-next : (u : ℕ) {x j d : ℕ} → (d ≡ e) × ((0 < e - k) × (x ≡ k) × (j ≡ k + 1)) → fan u (span f k e) ≡ dart u (get_or f x 0) ∷ fan u (span f j d)
   unfolding fan
-  fan-more u h = ap (fan u) (span_more f k e h)
+  fan-next u next = ap (fan u) (span_next f next)
 
   -- no dart from u is left
   pub fan_end : (u : ℕ) → e ≤ k → fan u (span f k e) ≡ []
@@ -54,9 +54,9 @@ module _ (f : List ℕ) (k e : ℕ) where
   fan_end u h = ap (fan u) (span_end f k e h)
 
   -- the darts from the next context
-  pub product-more : (vs : List ℕ) → k < e → product (span f k e) vs ≡ fan (get_or f k 0) vs ++ product (span f (k + 1) e) vs
+  product-next : (vs : List ℕ) {x j d : ℕ} → (d ≡ e) × ((0 < e - k) × (x ≡ k) × (j ≡ k + 1)) → product (span f k e) vs ≡ fan (get_or f x 0) vs ++ product (span f j d) vs
   unfolding product fan
-  product-more vs h = ap (λ (l : List ℕ). product l vs) (span_more f k e h)
+  product-next vs next = ap (λ (l : List ℕ). product l vs) (span_next f next)
 
   -- no context is left
   pub product_end : (vs : List ℕ) → e ≤ k → product (span f k e) vs ≡ []
@@ -64,7 +64,7 @@ module _ (f : List ℕ) (k e : ℕ) where
   product_end vs h = ap (λ (l : List ℕ). product l vs) (span_end f k e h)
 
   -- the next edge along the frontier
-  pub steps-more : k + 1 < e → steps (span f k e) ≡ dart (get_or f k 0) (get_or f (k + 1) 0) ∷ steps (span f (k + 1) e)
+  steps-more : k + 1 < e → steps (span f k e) ≡ dart (get_or f k 0) (get_or f (k + 1) 0) ∷ steps (span f (k + 1) e)
   steps-more h =
       ap steps (span_more f k e (omega arith) ∙ ap {B = List ℕ} (λ l. get_or f k 0 ∷ l) (span_more f (k + 1) e h))
       ∙ ap {B = List Dart} (λ l. dart (get_or f k 0) (get_or f (k + 1) 0) ∷ steps l) (sym (span_more f (k + 1) e h))
@@ -78,3 +78,17 @@ module _ (f : List ℕ) (k e : ℕ) where
       go zero q = refl
       go (suc zero) q = refl
       go (suc (suc m)) q = absurd (omega arith)
+
+-- ---- the loops over spans
+module _ {t starts : List ℕ} {l : ℕ} {ds₀ : List Dart} {ls₀ : List ℕ} {ls ls' : List ℕ} (f : List ℕ) (k e u : ℕ) where
+  -- a turn of the loop over the darts from u, by what the range says of its next number
+  pub fan_on : {v x j d : ℕ} → Draws t starts l ds₀ ls₀ (fan u (span f k e)) ls → (d ≡ e) × ((0 < e - k) × (x ≡ k) × (j ≡ k + 1)) → v ≡ get_or f x 0 → ls' ≡ edge_by t starts l u v ls → Draws t starts l ds₀ ls₀ (fan u (span f j d)) ls'
+  fan_on {v} {x} inv next is q = draws-on inv u (get_or f x 0) (fan-next f k e u next) (q ∙ ap (λ (v : ℕ). edge_by t starts l u v ls) is)
+
+  -- a turn of the loop over the darts from several contexts
+  pub product_on : (vs : List ℕ) {x j d : ℕ} → Draws t starts l ds₀ ls₀ (product (span f k e) vs) ls → (d ≡ e) × ((0 < e - k) × (x ≡ k) × (j ≡ k + 1)) → u ≡ get_or f x 0 → ls' ≡ edges_by t starts l (fan u vs) ls → Draws t starts l ds₀ ls₀ (product (span f j d) vs) ls'
+  product_on vs {x} inv next is q = draws_part inv (fan (get_or f x 0) vs) (product-next f k e vs next) (q ∙ ap (λ (w : ℕ). edges_by t starts l (fan w vs) ls) is)
+
+  -- a turn of the loop over the edges along the frontier
+  pub steps_on : {v : ℕ} → Draws t starts l ds₀ ls₀ (steps (span f k e)) ls → k < e - 1 → u ≡ get_or f k 0 → v ≡ get_or f (k + 1) 0 → ls' ≡ edge_by t starts l u v ls → Draws t starts l ds₀ ls₀ (steps (span f (k + 1) e)) ls'
+  steps_on inv h one two q = draws-on inv (get_or f k 0) (get_or f (k + 1) 0) (steps-more f k e (omega arith)) (q ∙ λ i. edge_by t starts l (one i) (two i) ls)

@@ -28,33 +28,35 @@ fn put_on(labels: &mut [u8], located: &Located, l: u8, u: usize, v: usize)
 // Puts l on the dart from u to v, and its opposite on the reverse.
 #[tactic(auto, unfolding(crate::specs::Edges::edge_by))]
 fn edge(labels: &mut [u8], located: &Located, l: u8, u: usize, v: usize)
-    requires { l < 4 }
     ensures { labels.new ≡ edge_by located.now.places.now located.now.rings.starts.now l u v labels.old }
 {
-    put_on(labels, located, (l + 2) % 4, v, u);
+    put_on(labels, located, labels::turned(l, 2), v, u);
     put_on(labels, located, l, u, v);
 }
 
 // Puts up on the darts from u to these positions of the frontier.
+#[tactic(auto, using(crate::proofs::Draws::fan_on, crate::proofs::Draws::fan_end, crate::proofs::Draws::draws_end))]
 fn up_from(labels: &mut [u8], front: &Front, u: usize, to: Range<usize>)
     ensures { labels.new ≡ edges_by front.now.located.places.now front.now.located.rings.starts.now up (fan u (span front.now.f.now to.start to.end)) labels.old }
 {
-    for k in to.start..to.end {
+    for k in to {
         let v = arrays::num(front.f, k);
         edge(labels, &front.located, labels::UP, u, v);
     }
 }
 
 // Puts up on the darts from these positions of g to these of the frontier.
+#[tactic(auto, using(crate::proofs::Draws::product_on, crate::proofs::Draws::product_end, crate::proofs::Draws::draws_end))]
 pub fn up_between(labels: &mut [u8], g: &[u16], from: Range<usize>, front: &Front, to: Range<usize>)
     ensures { labels.new ≡ edges_by front.now.located.places.now front.now.located.rings.starts.now up (product (span g.now from.start from.end) (span front.now.f.now to.start to.end)) labels.old }
 {
-    for k in from.start..from.end {
+    for k in from {
         up_from(labels, front, arrays::num(g, k), to.start..to.end);
     }
 }
 
 // Puts right on the edges along these positions of the frontier.
+#[tactic(auto, using(crate::proofs::Draws::steps_on, crate::proofs::Draws::steps_end, crate::proofs::Draws::draws_end))]
 pub fn right_along(labels: &mut [u8], front: &Front, along: Range<usize>)
     ensures { labels.new ≡ edges_by front.now.located.places.now front.now.located.rings.starts.now right (steps (span front.now.f.now along.start along.end)) labels.old }
 {

@@ -16,6 +16,9 @@ use Rattle.lists.proofs.Members.{mem-take, mem-drop, mem-reverse}
 use Rattle.lists.proofs.Padded.{get_or-zeros, get_or-padded}
 use Rattle.model.specs.Plan.{Plan, ring, east, west}
 use Rattle.model.specs.Sweep.{top, first_state}
+use Rattle.rings.specs.declared.Rings.{Rings}
+use Rattle.rings.specs.Tables.{plan_of, size_of}
+use Rattle.rings.proofs.Rows.{ring-size}
 use Rattle.lists.specs.Folds.{each, down}
 use Rattle.frontier.specs.Front.{Small, Sane, Rep, Marks, Front}
 use Rattle.frontier.proofs.Lines.{small-append, mem-small, small-get_or, push_rep, marks-same, marks-set, fresh-rep, stretch-all}
@@ -52,12 +55,20 @@ front-marks f s =
     (marks-list (padded 512 f) 0 (length f - 0) (zeros 256) (λ (c : ℕ). false) (λ t. let e = get_or-padded 512 f t in let h = small-get_or f t s in omega arith) marks-none)
 
 -- ---- North's inner neighbours
+-- the size of North's ring
+pub north_long : (r : Rings) {u q : ℕ} → u ≡ 0 → q ≡ size_of r.sizes.now r.n u → q ≡ length (ring (plan_of r) 0)
+north_long r z e = e ∙ ap (size_of r.sizes.now r.n) z ∙ sym (ring-size r.starts.now r.sizes.now r.entries.now r.n 0)
+
 -- an inner part of a list, by what is dropped and what is taken
 slice_drop : (q : ℕ) (r : List ℕ) → slice 1 q r ≡ take (q - 1) (drop 1 r)
 slice_drop zero [] = refl
 slice_drop zero (a ∷ r) = refl
 slice_drop (suc q) [] = sym (take-nil (suc q - 1))
 slice_drop (suc q) (a ∷ r) = let z : suc q - 1 ≡ q = omega arith in ap (λ (n : ℕ). take n r) (sym z)
+
+-- North has fewer than 256 neighbours where the size of its ring is below that
+pub north_size : (r : Rings) {u q : ℕ} → u ≡ 0 → q ≡ size_of r.sizes.now r.n u → q < 256 → length (ring (plan_of r) 0) < 256
+north_size r z e h = let size = north_long r z e in omega arith
 
 module _ (p : Plan) where
   -- North's ring

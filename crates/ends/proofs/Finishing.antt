@@ -26,14 +26,14 @@ use Rattle.lists.proofs.Folds.{all_from, some_same}
 -- ---- what the code tells of a position
 module _ (l : Located) (f : List ℕ) (k : ℕ) {b : Below} {q : ℕ} (is : b ≡ below_of l f k) (long : q ≡ depth_of b) where
   -- one context is below it
-  pub done-yes : {y : ℕ} → q ≡ 1 → y ≡ get_or (reads b) 0 0 → eqb y 2 ≡ done_by l.places.now (plan_of l.rings) f k
+  pub done_yes : {y : ℕ} → q ≡ 1 → y ≡ get_or (reads b) 0 0 → eqb y 2 ≡ done_by l.places.now (plan_of l.rings) f k
   unfolding done_by
-  done-yes one read = rw (eq-eqb _ _ (sym (deep-by l f k is long) ∙ one)) (ap (λ (z : ℕ). eqb z 2) (read ∙ λ i. get_or (reads (is i)) 0 0))
+  done_yes one read = rw (eq-eqb _ _ (sym (deep-by l f k is long) ∙ one)) (ap (λ (z : ℕ). eqb z 2) (read ∙ λ i. get_or (reads (is i)) 0 0))
 
   -- none, or more
-  pub done-no : (q ≡ 1 → ⊥) → false ≡ done_by l.places.now (plan_of l.rings) f k
+  pub done_no : (q ≡ 1 → ⊥) → eqb q 1 ≡ done_by l.places.now (plan_of l.rings) f k
   unfolding done_by
-  done-no other = rw (ne_eqb _ _ (λ h. other (deep-by l f k is long ∙ h)))
+  done_no other = ne_eqb _ _ other ∙ rw (ne_eqb _ _ (λ h. other (deep-by l f k is long ∙ h)))
 
 module _ (t : List ℕ) (p : Plan) (f : List ℕ) (k : ℕ) where
   -- by the plan's own table it is told as without one

@@ -11,22 +11,28 @@ use frontier::{Front, Line};
 use rings::Rings;
 
 // West, North's inner neighbours from West's side to East's, East. There is room for them: North has at most 255 neighbours, as the size of its ring is a byte.
+#[tactic(auto, using(crate::proofs::Beginning::north_size))]
 fn front(rings: &Rings) -> Option<Line>
     ensures value { result ≡ kept (front (plan_of rings.now)) }
     ensures north { length (ring (plan_of rings.now) 0) < 2 ^ 8 }
 {
     let north = usize::from(rings::NORTH);
     let inner = rings.size_of(north).saturating_sub(2);
-    let mut line = Line::new([0u8; 256]);
-    line.push(rings::WEST)?;
+    let mut at = [0u16; 512];
+    let mut len = frontier::push(&mut at, 0, rings::WEST)?;
     for t in (0..inner).rev() {
-        line.push(rings.entry_at(north, t + 1))?;
+        len = frontier::push(&mut at, len, rings.entry_at(north, t + 1))?;
     }
-    line.push(rings::EAST)?;
-    Some(line)
+    len = frontier::push(&mut at, len, rings::EAST)?;
+    Some(Line {
+        len,
+        at,
+        marks: [0u8; 256],
+    })
 }
 
 // A mark for each context of the line.
+#[tactic(auto, using(lists::proofs::Folds::goes_end), unfolding(lists::specs::Spans::zeros, crate::specs::Ends::marked))]
 fn marked(line: &Line) -> [u8; 256]
     ensures { result ≡ marked line.now.at line.now.len }
 {
@@ -38,6 +44,7 @@ fn marked(line: &Line) -> [u8; 256]
 }
 
 // The first frontier, all its contexts marked; North has at most 255 neighbours.
+#[tactic(auto, using(frontier::proofs::Fails::kept_none, frontier::proofs::Fails::kept_no), unfolding(crate::specs::Ends::first_line))]
 pub fn first_line(rings: &Rings) -> Option<Line>
     ensures value { result ≡ kept (first_line (plan_of rings.now)) }
     ensures north { length (ring (plan_of rings.now) 0) < 2 ^ 8 }
@@ -48,6 +55,7 @@ pub fn first_line(rings: &Rings) -> Option<Line>
 }
 
 // Is South alone below position k, by a table of positions?
+#[tactic(auto, using(crate::proofs::Finishing::done_yes, crate::proofs::Finishing::done_no))]
 fn is_done(front: &Front, k: usize) -> bool
     ensures { result ≡ done_by front.now.located.places.now (plan_of front.now.located.rings) front.now.f.now k }
 {

@@ -1,15 +1,15 @@
 -- Lines that fail: what is put on a line that failed leaves it so; and what the code comes to, which stops where something fails.
-use Prim.Native.Nat.{ℕ, zero, suc, ◌+◌, ◌-◌, ◌<◌}
+use Prim.Native.Nat.{ℕ, zero, suc, ◌+◌, ◌-◌}
 use mathlib.Core.Path.{◌≡◌, refl, ap, sym, ◌∙◌}
 use mathlib.Core.List.{List}
-use mathlib.Core.Bool.{Bool, true, false, cond, true≢false, false≢true}
+use mathlib.Core.Bool.{Bool, true, false, cond}
 use Rattle.std.specs.Prelude.{Option, Some, None, is_some}
 use lib.ListN.{set}
 use lib.Dec.{ltb}
 use Rattle.lists.specs.Folds.{each, through, down}
-use Rattle.lists.proofs.Folds.{Goes, goes_on, Sinks, sinks_on}
+use Rattle.lists.proofs.Folds.{Goes, Sinks, sinks_on}
 use Rattle.frontier.specs.declared.Line as held
-use Rattle.frontier.specs.Run.{Line, line, whole, tried, kept, Comes, pushed}
+use Rattle.frontier.specs.Run.{Line, line, whole, tried, kept, pushed}
 
 -- ---- a line that failed stays failed
 -- when a context is put at its end
@@ -22,44 +22,38 @@ pushed-off v c e = go (ltb v.len 512)
     go false = refl
 
 module _ (step : ℕ → Line → Line) (stays : (i : ℕ) (v : Line) → v.ok ≡ false → (step i v).ok ≡ false) where
-  -- when something is done at each of several numbers
-  pub each-failed : (a k : ℕ) (v : Line) → v.ok ≡ false → (each step a k v).ok ≡ false
-  unfolding each
-  each-failed a zero v e = e
-  each-failed a (suc k) v e = each-failed (suc a) k (step a v) (stays a v e)
-
-  -- the same from the last on
+  -- when something is done at each of several numbers, from the last on
   pub down-failed : (k : ℕ) (v : Line) → v.ok ≡ false → (down step k v).ok ≡ false
   unfolding down
   down-failed zero v e = e
   down-failed (suc k) v e = down-failed k (step k v) (stays k v e)
 
   -- a loop in which a step fails
-  pub goes-failed : {a e i : ℕ} {v w : Line} → Goes step a e v i w → i < e → (step i w).ok ≡ false → (through step a e v).ok ≡ false
-  goes-failed {a} {e} {i} {v} {w} inv h f = ap (λ (u : Line). u.ok) (goes_on inv h refl).same ∙ each-failed (i + 1) (e - (i + 1)) (step i w) f
-
-  -- the same from the last on
   pub sinks-failed : {n k k' : ℕ} {v w : Line} → Sinks step n v k w → k ≡ suc k' → (step k' w).ok ≡ false → (down step n v).ok ≡ false
   sinks-failed {n} {k} {k'} {v} {w} inv z f = ap (λ (u : Line). u.ok) (sinks_on inv z refl).same ∙ down-failed k' (step k' w) f
 
--- ---- what the code comes to
-module _ {r : Option Unit} {v : held.Line} {w : Line} where
+module _ (step : ℕ → Line → Line) (keeps : (i : ℕ) (v : Line) → v.ok ≡ false → step i v ≡ v) where
+  -- a line that failed is kept where something is done at each of several numbers that leaves it as it is
+  pub each-kept : (a k : ℕ) (v : Line) → v.ok ≡ false → each step a k v ≡ v
+  unfolding each
+  each-kept a zero v e = refl
+  each-kept a (suc k) v e = ap (each step (suc a) k) (keeps a v e) ∙ each-kept (suc a) k v e
+
+  -- a loop that stops where a step failed
+  pub goes-kept : {a e i : ℕ} {v w : Line} → Goes step a e v i w → w.ok ≡ false → w ≡ through step a e v
+  goes-kept {e = e} {i = i} {w = w} inv f = sym (inv.same ∙ each-kept i (e - i) w f)
+
+-- ---- what the code comes to on lent arrays
+module _ {r : Option ℕ} {at marks : List ℕ} {w : Line} where
   -- what was tried did not fail
-  pub tried_yes : tried r v ≡ w → r ≡ Some tt → whole v ≡ w
-  tried_yes e q = ap (λ (b : Bool). line b v.len v.at v.marks) (sym (ap is_some q)) ∙ e
+  pub tried_yes : (len : ℕ) {k : ℕ} → tried r len at marks ≡ w → r ≡ Some k → line true k at marks ≡ w
+  tried_yes len e q = ap (λ (s : Option ℕ). tried s len at marks) (sym q) ∙ e
 
   -- it failed
-  pub tried_no : tried r v ≡ w → r ≡ None → w.ok ≡ false
-  tried_no e q = ap (λ (u : Line). u.ok) (sym e) ∙ ap is_some q
+  pub tried_no : (len : ℕ) → tried r len at marks ≡ w → r ≡ None → w.ok ≡ false
+  tried_no len e q = ap (λ (u : Line). u.ok) (sym e) ∙ ap is_some q
 
-  -- nothing failed
-  pub came : r ≡ Some tt → whole v ≡ w → Comes r v w
-  came q e = record { yes = λ _. e; no = λ n. absurd (true≢false (sym (ap is_some q) ∙ n)) }
-
-  -- something failed
-  pub fell : r ≡ None → w.ok ≡ false → Comes r v w
-  fell q e = record { yes = λ y. absurd (false≢true (sym (ap is_some q) ∙ y)); no = λ _. e }
-
+-- ---- what the code keeps
 -- a line that did not fail is kept
 pub kept_yes : {v : held.Line} {w : Line} → whole v ≡ w → Some v ≡ kept w
 unfolding kept
@@ -70,7 +64,7 @@ pub kept_no : (w : Line) {r : Option held.Line} → r ≡ None → w.ok ≡ fals
 unfolding kept
 kept_no w q e = q ∙ sym (ap (λ (b : Bool). cond b (Some (record { len = w.len; at = w.at; marks = w.marks })) None) e)
 
--- ---- and what it is of what is kept
+-- what it is of what is kept
 module _ (w : Line) where
   -- the line for the code, where it did not fail
   abbrev parts : held.Line

@@ -1,5 +1,4 @@
 pub mod Moves
 pub mod Lines
 pub mod Under
-pub mod Somes
 pub mod Fails

@@ -1,7 +1,7 @@
 -- What the code of the frontier computes, step by step: rings read onward, lines that grow.
-use Prim.Native.Nat.{ℕ, suc, ◌+◌, ◌-◌, ◌≤◌, ◌<◌, min}
+use Prim.Native.Nat.{ℕ, zero, suc, ◌+◌, ◌-◌, ◌≤◌, ◌<◌, min}
 use mathlib.Core.Path.{◌≡◌, refl, ap, sym, ◌∙◌}
-use mathlib.Core.List.{List, ◌∷◌, ◌++◌}
+use mathlib.Core.List.{List, [], ◌∷◌, ◌++◌}
 use mathlib.Core.Bool.{Bool, true, false, cond}
 use lib.Dec.{eqb}
 use native.Mathlib.Omega.{arith}
@@ -9,11 +9,13 @@ use lib.ListN.{length, get_or, take, drop, length-append, length-drop, length-ta
 use lib.Seq.{get_or-append-add, get_or-drop, get_or-take, drop-cons}
 use Rattle.std.proofs.lemmas.List.{drop_all}
 use Rattle.lists.specs.Parts.{index_of}
+use Rattle.lists.specs.Ranges.{first_from, lowest}
 use Rattle.model.specs.Plan.{Plan, ring, onward}
 use Rattle.places.specs.Places.{places_of}
 use Rattle.places.proofs.Look.{index_told}
 use Rattle.places.specs.declared.Located.{Located}
-use Rattle.rings.specs.Tables.{plan_of}
+use Rattle.rings.specs.Tables.{plan_of, size_of}
+use Rattle.rings.proofs.Rows.{ring-size}
 use Rattle.frontier.specs.declared.below.Below.{Below}
 use Rattle.frontier.specs.Run.{turned_at, below_of, reads, depth_of, turn, turn_by, depth, depth_from, gap, under}
 
@@ -48,6 +50,33 @@ turned_long x r s g h =
     let c = length-drop (suc x) r in
     let l = length-take x r in
     omega arith
+
+-- what is read of what is below a position, as the code reads it
+module _ (b : Below) {q : ℕ} (size : q ≡ size_of b.rings.sizes.now b.rings.n b.u) where
+  -- the size is that of the ring
+  whole_ring : q ≡ length (ring (plan_of b.rings) b.u)
+  whole_ring = size ∙ sym (ring-size b.rings.starts.now b.rings.sizes.now b.rings.entries.now b.rings.n b.u)
+
+  module _ {w d : ℕ} (less : w ≡ q - 1) (rest : d ≡ w - b.x) where
+    -- how many entries stand behind the place
+    behind : d ≡ q - (b.x + 1)
+    behind = omega arith
+
+    -- an entry behind the place
+    pub read_first : {t e : ℕ} → t < d → e ≡ get_or (ring (plan_of b.rings) b.u) (b.x + 1 + t) 0 → e ≡ get_or (reads b) t 0
+    read_first {t} h is = is ∙ turned-first b.x (ring (plan_of b.rings) b.u) whole_ring behind t h
+
+    -- an entry before the place
+    pub read_later : {t e : ℕ} → (t < d → ⊥) → t - d < b.x → e ≡ get_or (ring (plan_of b.rings) b.u) (t - d) 0 → e ≡ get_or (reads b) t 0
+    read_later {t} h k is = is ∙ turned-later b.x (ring (plan_of b.rings) b.u) whole_ring behind t (omega arith) k
+
+    -- past the end
+    pub read_past : {t : ℕ} → (t < d → ⊥) → (t - d < b.x → ⊥) → 0 ≡ get_or (reads b) t 0
+    read_past {t} h k = turned-past b.x (ring (plan_of b.rings) b.u) whole_ring behind t (omega arith) (omega arith)
+
+    -- how many entries are read
+    pub read_all : {e : ℕ} → e ≡ min b.x q → d + e ≡ length (reads b)
+    read_all h = turned_long b.x (ring (plan_of b.rings) b.u) whole_ring (rest ∙ ap (λ (i : ℕ). i - b.x) less) h
 
 module _ (a : ℕ) (r : List ℕ) {x : ℕ} (at : x ≡ index_of a r) where
   -- a ring read onward from an entry is read from the place of the entry
@@ -88,7 +117,24 @@ module _ (l : Located) (f : List ℕ) (k : ℕ) {b : Below} (is : b ≡ below_of
     pub deep-told : l.places.now ≡ places_of (plan_of l.rings) → q ≡ depth (plan_of l.rings) f k
     deep-told own = depth-told (plan_of l.rings) own f k refl deep-by
 
--- ---- for t in 0..e { if b == l[t] { return t; } } e
+-- ---- (0..e).find(|t| b == l[t]).unwrap_or(e)
+-- of the k numbers from suc a on, the first that passes is one more than of those from a on the first whose next passes
+first_after : (f : ℕ → Bool) (a k : ℕ) → first_from f (suc a) k ≡ suc (first_from (λ (t : ℕ). f (suc t)) a k)
+unfolding first_from
+first_after f a zero = refl
+first_after f a (suc k) = go (f (suc a)) (first_after f (suc a) k)
+  where
+    go : (b : Bool) → {x y : ℕ} → x ≡ suc y → cond b (suc a) x ≡ suc (cond b a y)
+    go true e = refl
+    go false e = e
+
+-- where b stands is the lowest place at which it does
+pub lowest-index : (b : ℕ) (l : List ℕ) → lowest (λ (t : ℕ). eqb b (get_or l t 0)) (length l) ≡ index_of b l
+unfolding first_from
+lowest-index b [] = refl
+lowest-index b (a ∷ l) = ap (cond (eqb b a) 0) (first_after (λ (t : ℕ). eqb b (get_or (a ∷ l) t 0)) 0 (length l) ∙ ap suc (lowest-index b l))
+
+-- ---- for t in 0..e { if b == l[t] { return false; } .. }
 pub record Gaps (l : List ℕ) (b t : ℕ) : Type 0 where
   pub same : index_of b l ≡ t + index_of b (drop t l)
 

@@ -1,5 +1,6 @@
 -- The frontier as the engine keeps it, on arrays: what the functions of src/ compute.
-use Rattle.std.specs.Prelude.{ℕ, suc, ◌+◌, ◌-◌, List, ◌++◌, Option, Some, None, is_some, ◌≡◌, Bool, true, false, cond, get_or, set, take, drop, ltb, eqb}
+use Rattle.std.specs.Prelude.{ℕ, suc, ◌+◌, ◌-◌, List, ◌++◌, Option, Some, None, Result, Ok, Err, is_some, is_ok, Bool, true, false, cond, get_or, set, take, drop, ltb, eqb}
+use Rattle.std.specs.Option.{unwrap_or}
 use Rattle.lists.specs.Parts.{index_of}
 use Rattle.lists.specs.Folds.{some}
 use Rattle.lists.specs.Spans.{zeros}
@@ -26,18 +27,22 @@ line ok len at marks = record { ok = ok; len = len; at = at; marks = marks }
 abbrev pub whole : held.Line → Line
 whole v = line true v.len v.at v.marks
 
--- the same after something was tried that may fail
-abbrev pub tried : Option Unit → held.Line → Line
-tried r v = line (is_some r) v.len v.at v.marks
+-- a line of len contexts on lent arrays after something was tried that may fail: it has as many as is told then, and len where it failed
+abbrev pub tried : Option ℕ → ℕ → List ℕ → List ℕ → Line
+tried r len at marks = line (is_some r) (unwrap_or r len) at marks
 
 -- a line for the code; none where it failed
 unfoldable pub kept : Line → Option held.Line
 kept v = cond v.ok (Some (record { len = v.len; at = v.at; marks = v.marks })) None
 
--- what a line comes to in the code, where several things were tried one after the other: it is this line, or both failed
-pub record Comes (r : Option Unit) (v : held.Line) (w : Line) : Type 0 where
-  pub yes : is_some r ≡ true → whole v ≡ w
-  pub no : is_some r ≡ false → w.ok ≡ false
+-- how many contexts a line has of which this is told, whether it failed or not
+abbrev pub len_of : Result ℕ ℕ → ℕ
+len_of (Ok len) = len
+len_of (Err len) = len
+
+-- the line on lent arrays of which this is told: one of so many contexts where it is Ok, and one of so many that failed where it is Err
+abbrev pub line_of : Result ℕ ℕ → List ℕ → List ℕ → Line
+line_of r at marks = line (is_ok r) (len_of r) at marks
 
 -- the line with x at its end; it fails where it is full
 unfoldable pub pushed : Line → ℕ → Line

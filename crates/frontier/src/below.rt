@@ -33,14 +33,11 @@ impl<'a> Front<'a> {
     fn after(&self, k: usize) -> u16
         ensures { result ≡ get_or self.now.f.now (suc k) 0 }
     {
-        if k < self.f.len() {
-            arrays::at(self.f, k + 1)
-        } else {
-            0
-        }
+        arrays::at(self.f, k.saturating_add(1))
     }
 
     // What is below position k.
+    #[tactic(auto, unfolding(crate::specs::Run::turn_by))]
     pub fn below(&self, k: usize) -> Below<'a>
         ensures value { result ≡ run.below_of self.now.located self.now.f.now k }
         ensures x_bound { result.x < 2 ^ 8 }
@@ -57,6 +54,7 @@ impl<'a> Front<'a> {
 
 impl<'a> Below<'a> {
     // Entry t of the ring, read from the entry after place x round to the entry before it; 0 past the end.
+    #[tactic(auto, using(crate::proofs::Moves::read_first, crate::proofs::Moves::read_later, crate::proofs::Moves::read_past))]
     pub fn at(&self, t: usize) -> u16
         ensures { result ≡ get_or (run.reads self.now) t 0 }
     {
@@ -72,6 +70,7 @@ impl<'a> Below<'a> {
     }
 
     // How many entries are read, the left frontier neighbour and those after it among them.
+    #[tactic(auto, using(crate::proofs::Moves::read_all))]
     fn reach(&self) -> usize
         ensures value { result ≡ length (run.reads self.now) }
         ensures upper_bound { result < 2 ^ 9 }
@@ -86,15 +85,11 @@ impl<'a> Below<'a> {
         ensures upper_bound { result < 2 ^ 9 }
     {
         let e = self.reach();
-        for t in 0..e {
-            if self.left == self.at(t) {
-                return t;
-            }
-        }
-        e
+        (0..e).find(|t| self.left == self.at(*t)).unwrap_or(e)
     }
 
     // Is c one of the entries that are below?
+    #[tactic(auto, using(crate::proofs::Moves::gap_end, crate::proofs::Moves::gap_hit, crate::proofs::Moves::gap_on, lists::proofs::Folds::seeks_end, lists::proofs::Folds::seeks_on))]
     pub fn has(&self, c: usize) -> bool
         ensures { result ≡ run.holds self.now c }
     {

@@ -1,7 +1,7 @@
 // The frontier of the sweep in flat arrays: the line that holds it, and what is below it.
 #![tactic(auto)]
 
-ghost use Rattle.std.specs.Prelude.{◌≡◌};
+ghost use Rattle.std.specs.Prelude.{◌≡◌, true, List, ℕ};
 ghost use Rattle.frontier.specs.Run as run;
 
 mod below;
@@ -16,8 +16,21 @@ pub struct Line {
     pub marks: [u8; 256],
 }
 
+// Puts x at the end of a line of len contexts on a lent array: how many it then has. There is none where the 512 places are full.
+#[tactic(auto, unfolding(crate::specs::Run::pushed))]
+pub fn push(at: &mut [u16], len: usize, x: u16) -> Option<usize>
+    ensures { (marks : List ℕ) → run.tried result len at.new marks ≡ run.pushed (run.line true len at.old marks) x }
+{
+    if len >= 512 {
+        return None;
+    }
+    arrays::put(at, len, x);
+    Some(len + 1)
+}
+
 impl Line {
     // A line with nothing on it, and these marks.
+    #[tactic(auto, unfolding(lists::specs::Spans::zeros, crate::specs::Run::fresh))]
     pub fn new(marks: [u8; 256]) -> Line
         ensures { run.whole result ≡ run.fresh marks }
     {
@@ -26,17 +39,5 @@ impl Line {
             at: [0u16; 512],
             marks,
         }
-    }
-
-    // Puts x at the end of the line; it fails where the 512 places are full.
-    pub fn push(&mut self, x: u16) -> Option<()>
-        ensures { run.tried result self.new ≡ run.pushed (run.whole self.old) x }
-    {
-        if self.len >= 512 {
-            return None;
-        }
-        self.at[self.len] = x;
-        self.len += 1;
-        Some(())
     }
 }

@@ -1,12 +1,11 @@
--- What is put on a list that failed leaves it so.
-use Prim.Native.Nat.{ℕ, ◌-◌}
+-- A context that is added to a list that failed leaves it so.
+use Prim.Native.Nat.{ℕ}
 use mathlib.Core.Path.{◌≡◌, refl}
-use mathlib.Core.List.{List}
 use mathlib.Core.Bool.{Bool, true, false, cond}
-use lib.ListN.{set, get_or}
+use lib.ListN.{set}
 use Rattle.frontier.specs.Run.{Line, line, pushed}
-use Rattle.frontier.proofs.Fails.{pushed-off, each-failed}
-use Rattle.pairs.specs.Run.{failed, last_is, barred, noted, added, appended}
+use Rattle.frontier.proofs.Fails.{pushed-off}
+use Rattle.pairs.specs.Run.{failed, last_is, barred, noted, added}
 
 -- when a context is added
 pub added-off : (v : Line) (c : ℕ) → v.ok ≡ false → (added v c).ok ≡ false
@@ -17,8 +16,3 @@ added-off v c e = go (last_is v.at v.len c) (barred v.marks c)
     go true t = e
     go false true = refl
     go false false = pushed-off v c e
-
--- when positions are put at its end
-pub appended-off : (v : Line) (f : List ℕ) (a e : ℕ) → v.ok ≡ false → (appended v f a e).ok ≡ false
-unfolding appended
-appended-off v f a e h = each-failed (λ (k : ℕ) w. pushed w (get_or f k 0)) (λ k w. pushed-off w (get_or f k 0)) a (e - a) v h

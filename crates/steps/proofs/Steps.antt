@@ -24,11 +24,13 @@ use Rattle.pairs.proofs.Pairs.{gathered, unchorded, next-front}
 use Rattle.ends.proofs.Finishing.{open_is, unfinished-told}
 use Rattle.steps.specs.Run.{step_labels, list_of, next_line, next_labels, finish_labels, first_labels, in_array, swept, Running}
 use Rattle.frontier.specs.declared.Line as held
-use Rattle.frontier.specs.Run.{Line, line, whole, kept}
+use Rattle.frontier.specs.Run.{Line, line, whole, kept, fresh}
 use Rattle.frontier.proofs.Fails.{kept_none}
 use Rattle.edges.specs.Edges.{Guide}
 use Rattle.ends.specs.Ends.{first_line, unfinished_by}
-use Rattle.pairs.specs.Run.{listing, replaced}
+use Rattle.pairs.specs.Run.{listing, replaced, listing_by}
+use Rattle.pairs.proofs.Moves.{listing-own}
+use Rattle.places.specs.Places.{places_of}
 use Rattle.model.proofs.LabelCounts.{edges_long, bare_long, first_long, from_long}
 use Rattle.steps.proofs.Arrays.{edges_padded}
 use Rattle.ends.proofs.Beginning.{first_front, first-front, first-at, first-len}
@@ -87,6 +89,11 @@ front_plain {s} fr e f g =
 
 -- ---- the next frontier
 module _ (p : Plan) (v : Line) (i j : ℕ) where
+  -- the list by the plan's own table, put on a new line
+  pub listed-own : {t : List ℕ} → t ≡ places_of p → {w : Line} → w ≡ fresh v.marks → listing_by t p v.at (i + 1) j (line true 0 w.at w.marks) ≡ list_of p v i j
+  unfolding fresh
+  listed-own {t} own e = ap (λ (w : Line). listing_by t p v.at (i + 1) j (line true 0 w.at w.marks)) e ∙ listing-own p own v.at v.marks (i + 1) j refl
+
   -- there is none where the list failed
   pub next-none : (list_of p v i j).ok ≡ false → (next_line p v i j).ok ≡ false
   unfolding next_line

@@ -2,7 +2,7 @@
 ghost use Rattle.std.specs.Prelude.{◌≡◌, is_some, true, false, ◌+◌, ◌<◌};
 ghost use Rattle.rings.specs.Tables.{plan_of};
 ghost use Rattle.fit.specs.Fits.{fit};
-ghost use Rattle.frontier.specs.Run.{whole, Comes};
+ghost use Rattle.frontier.specs.Run.{whole, kept};
 ghost use Rattle.edges.specs.Edges.{Guide};
 ghost use Rattle.refusal.specs.Refusals.{told};
 ghost use Rattle.steps.specs.Run as run;
@@ -33,24 +33,32 @@ impl<'a> Guided<'a> {
         edges::right_along(labels, &front, i..j + 1);
     }
 
-    // Takes the step of positions i and j of the frontier: puts its labels, and the new frontier in place of the old one, its list marked beside what was marked. It fails where there is no such list, or no room for it.
-    fn take_step(&self, labels: &mut [u8], line: &mut Line, i: usize, j: usize) -> Option<()>
+    // Takes the step of positions i and j of the frontier: puts its labels, and gives the new frontier, its list marked beside what was marked. There is none where there is no such list, or no room for it.
+    fn take_step(&self, labels: &mut [u8], line: &Line, i: usize, j: usize) -> Option<Line>
         requires i_bound { i < 512 }
         requires j_bound { j < 512 }
-        ensures line { Comes result line.new (run.next_line (plan_of self.now.located.rings) (whole line.old) i j) }
-        ensures labels { is_some result ≡ true → labels.new ≡ run.next_labels (plan_of self.now.located.rings) (whole line.old) i j labels.old }
+        ensures line { result ≡ kept (run.next_line (plan_of self.now.located.rings) (whole line.now) i j) }
+        ensures labels { is_some result ≡ true → labels.new ≡ run.next_labels (plan_of self.now.located.rings) (whole line.now) i j labels.old }
     {
         let mut list = Line::new(line.marks);
         let front = Front {
             located: self.located,
             f: &line.at,
         };
-        pairs::list::listed(&mut list, &front, i + 1..j)?;
+        list.len = pairs::list::listed(&mut list.at, &mut list.marks, &front, i + 1..j).ok()?;
         self.step_labels(labels, line, &list, i, j);
         let mut next = Line::new(list.marks);
-        pairs::list::replaced(&mut next, &line.at, line.len, i + 1, j, &list)?;
-        *line = next;
-        Some(())
+        next.len = pairs::list::replaced(
+            &mut next.at,
+            &line.at,
+            line.len,
+            i + 1,
+            j,
+            &list.at,
+            list.len,
+        )
+        .ok()?;
+        Some(next)
     }
 
     // Puts the labels of a sweep finished with this frontier: up from South, right along the frontier.
@@ -87,7 +95,8 @@ impl<'a> Guided<'a> {
             let (i, j) = choice::choose(&front, line.len, &line.marks, clean).ok_or(
                 Refusal::SweepStuck,
             )?;
-            self.take_step(&mut labels, &mut line, i, j)
+            line = self
+                .take_step(&mut labels, &line, i, j)
                 .ok_or(Refusal::SweepStuck)?;
             clean = true;
         }

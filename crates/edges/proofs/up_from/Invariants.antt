@@ -6,4 +6,4 @@ use Rattle.edges.proofs.Draws.{Draws}
 use Rattle.edges.proofs.up_from.Given as goal
 
 abbrev pub invariant-loop-k : goal.invariant-loop-k
-invariant-loop-k l = Draws l.front.located.places.now l.front.located.rings.starts.now up (fan l.u (span l.front.f.now l.fn.to.start l.fn.to.end)) l.initial.labels (fan l.u (span l.front.f.now l.k l.fn.to.end)) l.labels
+invariant-loop-k l = Draws l.front.located.places.now l.front.located.rings.starts.now up (fan l.u (span l.front.f.now l.fn.to.start l.fn.to.end)) l.initial.labels (fan l.u (span l.front.f.now l.k-iterator.start l.k-iterator.end)) l.labels

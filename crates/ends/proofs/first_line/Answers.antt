@@ -2,16 +2,10 @@
 use mathlib.Core.Path.{sym, ap, ◌∙◌}
 use mathlib.Core.Bool.{true}
 use Rattle.frontier.specs.Run as run
-use Rattle.frontier.proofs.Fails.{kept_is, kept_none, kept_yes, kept_no}
+use Rattle.frontier.proofs.Fails.{kept_is, kept_yes}
 use Rattle.rings.specs.Tables.{plan_of}
 use Rattle.ends.specs.Ends.{front, marked, first_line}
 use Rattle.ends.proofs.first_line.Goals as goal
-
-pub returns-in_err-line-clause-value : goal.returns-in_err-line-clause-value
-unfolding first_line
-returns-in_err-line-clause-value c =
-    let p = plan_of c.args.rings.now in
-    kept_no (first_line p) c.from_residual.ensures (kept_none (front p) (sym c.front.ensures.value ∙ c.in_err-line.was))
 
 pub returns-clause-value : goal.returns-clause-value
 unfolding first_line

@@ -1,88 +1,66 @@
 -- front meets its contract.
-use mathlib.Core.Path.{◌≡◌, sym, ap, ◌∙◌}
+use mathlib.Core.Path.{◌≡◌, ap, ◌∙◌}
+use mathlib.Core.Bool.{true}
 use Prim.Native.Nat.{ℕ, suc, ◌-◌, ◌+◌}
 use native.Mathlib.Omega.{arith}
 use lib.ListN.{length, get_or}
 use Rattle.lists.specs.Spans.{zeros}
 use Rattle.model.specs.Plan.{ring}
 use Rattle.rings.specs.declared.Rings.{Rings}
-use Rattle.rings.specs.Tables.{plan_of, size_of}
-use Rattle.rings.proofs.Rows.{ring-size}
+use Rattle.rings.specs.Tables.{plan_of}
 use Rattle.lists.proofs.Folds.{sinks_from, sinks_on, sinks_end}
 use Rattle.frontier.specs.Run as run
 use Rattle.frontier.proofs.Fails.{pushed-off, down-failed, sinks-failed, tried_yes, tried_no, kept_yes, kept_no}
 use Rattle.ends.specs.Ends.{front}
+use Rattle.ends.proofs.Beginning.{north_long}
 use Rattle.ends.proofs.front.Goals as goal
-
--- the size of North's ring
-size : (r : Rings) {north q : ℕ} → north ≡ 0 → q ≡ size_of r.sizes.now r.n north → q ≡ length (ring (plan_of r) 0)
-size r z e = e ∙ ap (size_of r.sizes.now r.n) z ∙ sym (ring-size r.starts.now r.sizes.now r.entries.now r.n 0)
 
 -- what is put on the line for each of North's inner neighbours
 abbrev step : Rings → ℕ → run.Line → run.Line
 step r i v = run.pushed v (get_or (ring (plan_of r) 0) (suc i) 0)
 
 pub loop-t-init : goal.loop-t-init
-unfolding zeros
+unfolding zeros run.fresh
 loop-t-init c =
-    let q = size c.args.rings.now c.from-north.ensures c.size_of.ensures.value in
-    sinks_from (c.saturating_sub-inner.ensures ∙ ap (λ (k : ℕ). k - 2) q) (tried_yes c.push.ensures c.in_ok-push.was ∙ ap (λ v. run.pushed v 3) c.new-line.ensures)
+    let q = north_long c.args.rings.now c.from-north.ensures c.size_of.ensures.value in
+    sinks_from (c.saturating_sub-inner.ensures ∙ ap (λ (k : ℕ). k - 2) q) (tried_yes 0 (c.push.ensures (zeros 256)) c.in_ok-len.was)
 
 pub loop-t-preserved : goal.loop-t-preserved
 loop-t-preserved c =
-    let t = c.loop-t.t - 1 in
-    let z : c.loop-t.t ≡ suc t = omega arith in
+    let l = c.loop-t in
+    let t = l.t - 1 in
+    let z : l.t ≡ suc t = omega arith in
     let y : t + 1 ≡ suc t = omega arith in
     let entry = c.entry_at.ensures ∙ (λ i. get_or (ring (plan_of c.args.rings.now) (c.from-north.ensures i)) (y i) 0) in
-    sinks_on c.loop-t.invariant z (tried_yes c.push-in-loop-t.ensures c.in_ok-push-2.was ∙ ap (run.pushed (run.whole c.loop-t.line)) entry)
+    sinks_on l.invariant z (tried_yes l.len (c.push-in-loop-t.ensures (zeros 256)) c.in_ok-len-2.was ∙ ap (run.pushed (run.line true l.len l.at (zeros 256))) entry)
 
-pub returns-in_err-push-clause-value : goal.returns-in_err-push-clause-value
-unfolding front zeros
-returns-in_err-push-clause-value c =
+pub returns-in_err-len-clause-value : goal.returns-in_err-len-clause-value
+unfolding front zeros run.fresh
+returns-in_err-len-clause-value c =
     let r = c.args.rings.now in
-    let first = tried_no (c.push.ensures ∙ ap (λ v. run.pushed v 3) c.new-line.ensures) c.in_err-push.was in
+    let first = tried_no 0 (c.push.ensures (zeros 256)) c.in_err-len.was in
     kept_no (front (plan_of r)) c.from_residual.ensures (pushed-off _ 1 (down-failed (step r) (λ i v. pushed-off v _) (length (ring (plan_of r) 0) - 2) _ first))
 
-pub returns-in_err-push-2-clause-value : goal.returns-in_err-push-2-clause-value
+pub returns-in_err-len-2-clause-value : goal.returns-in_err-len-2-clause-value
 unfolding front zeros
-returns-in_err-push-2-clause-value c =
+returns-in_err-len-2-clause-value c =
     let r = c.args.rings.now in
-    let t = c.loop-t.t - 1 in
+    let l = c.loop-t in
+    let t = l.t - 1 in
     let y : t + 1 ≡ suc t = omega arith in
     let entry = c.entry_at.ensures ∙ (λ i. get_or (ring (plan_of r) (c.from-north.ensures i)) (y i) 0) in
-    let inner = sinks-failed (step r) (λ i v. pushed-off v _) c.loop-t.invariant (omega arith) (tried_no (c.push-in-loop-t.ensures ∙ ap (run.pushed (run.whole c.loop-t.line)) entry) c.in_err-push-2.was) in
-    kept_no (front (plan_of r)) c.from_residual-in_err-push-2.ensures (pushed-off _ 1 inner)
+    let inner = sinks-failed (step r) (λ i v. pushed-off v _) l.invariant (omega arith) (tried_no l.len (c.push-in-loop-t.ensures (zeros 256) ∙ ap (run.pushed (run.line true l.len l.at (zeros 256))) entry) c.in_err-len-2.was) in
+    kept_no (front (plan_of r)) c.from_residual-in_err-len-2.ensures (pushed-off _ 1 inner)
 
-pub returns-in_err-push-3-clause-value : goal.returns-in_err-push-3-clause-value
+pub returns-in_err-len-3-clause-value : goal.returns-in_err-len-3-clause-value
 unfolding front zeros
-returns-in_err-push-3-clause-value c =
+returns-in_err-len-3-clause-value c =
     let r = c.args.rings.now in
-    kept_no (front (plan_of r)) c.from_residual-in_err-push-3.ensures (tried_no (c.push-2.ensures ∙ ap (λ v. run.pushed v 1) (sinks_end c.loop-t.invariant (omega arith))) c.in_err-push-3.was)
+    let l = c.loop-t in
+    kept_no (front (plan_of r)) c.from_residual-in_err-len-3.ensures (tried_no l.len (c.push-2.ensures (zeros 256) ∙ ap (λ v. run.pushed v 1) (sinks_end l.invariant (omega arith))) c.in_err-len-3.was)
 
 pub returns-clause-value : goal.returns-clause-value
 unfolding front zeros
-returns-clause-value c = kept_yes (tried_yes c.push-2.ensures c.in_ok-push-3.was ∙ ap (λ v. run.pushed v 1) (sinks_end c.loop-t.invariant (omega arith)))
-
-pub returns-in_err-push-clause-north : goal.returns-in_err-push-clause-north
-returns-in_err-push-clause-north c =
-    let q = size c.args.rings.now c.from-north.ensures c.size_of.ensures.value in
-    let most = c.size_of.ensures.upper_bound in
-    omega arith
-
-pub returns-in_err-push-2-clause-north : goal.returns-in_err-push-2-clause-north
-returns-in_err-push-2-clause-north c =
-    let q = size c.args.rings.now c.from-north.ensures c.size_of.ensures.value in
-    let most = c.size_of.ensures.upper_bound in
-    omega arith
-
-pub returns-in_err-push-3-clause-north : goal.returns-in_err-push-3-clause-north
-returns-in_err-push-3-clause-north c =
-    let q = size c.args.rings.now c.from-north.ensures c.size_of.ensures.value in
-    let most = c.size_of.ensures.upper_bound in
-    omega arith
-
-pub returns-clause-north : goal.returns-clause-north
-returns-clause-north c =
-    let q = size c.args.rings.now c.from-north.ensures c.size_of.ensures.value in
-    let most = c.size_of.ensures.upper_bound in
-    omega arith
+returns-clause-value c =
+    let l = c.loop-t in
+    kept_yes (tried_yes l.len (c.push-2.ensures (zeros 256)) c.in_ok-len-3.was ∙ ap (λ v. run.pushed v 1) (sinks_end l.invariant (omega arith)))

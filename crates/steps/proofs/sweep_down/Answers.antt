@@ -2,8 +2,8 @@
 use mathlib.Core.Path.{refl, sym, ap, ◌∙◌}
 use mathlib.Core.Bool.{not}
 use borrow.Author.Tests.{not-true, not-false}
-use Rattle.fit.specs.Fits.{fit}
 use Rattle.places.proofs.Notes.{filled-zeros}
+use Rattle.fit.specs.Fits.{fit}
 use Rattle.rings.specs.Tables.{starts_of}
 use Rattle.steps.proofs.Arrays.{as_table, guide}
 use Rattle.steps.proofs.Down.{not-down, down}

@@ -1,15 +1,12 @@
 -- chord_right meets its contract.
-use mathlib.Core.Path.{refl, ◌∙◌}
 use mathlib.Core.Bool.{Bool}
-use Prim.Native.Nat.{ℕ, ◌-◌}
+use Prim.Native.Nat.{ℕ}
 use borrow.Author.Tests.{tests}
 use borrow.Author.Rules.{rules}
-use Rattle.std.proofs.lemmas.Iterator.{YieldsList-from_range}
-use Rattle.std.proofs.lemmas.Iterator.Search.{any_from_yields_List}
 use Rattle.rings.specs.Tables.{plan_of}
 use Rattle.places.specs.Places.{adjacent_by}
 use Rattle.chords.specs.Run as run
-use Rattle.frontier.proofs.Somes.{any_some}
+use Rattle.lists.proofs.Chains.{some_in_range}
 use Rattle.chords.proofs.Insertion.chord_right.Goals as goal
 
 pub returns : goal.returns
@@ -18,4 +15,4 @@ returns c =
     let s = c.args.self.now in
     let l = s.list.now in
     let q : ℕ → Bool = run.chord_at (adjacent_by s.front.located.places.now (plan_of s.front.located.rings)) s.front.f.now s.m s.j l.at l.len in
-    any_from_yields_List q _ _ c.any.result c.any.ensures.ran (YieldsList-from_range 0 l.len (l.len - 0) refl refl) (λ x b f k. search (rules, tests)) ∙ any_some q 0 (l.len - 0)
+    some_in_range q 0 l.len c.any.ensures.ran (λ x b f k. search (rules, tests))

@@ -1,28 +1,21 @@
 -- listed meets its contract.
-use mathlib.Core.Path.{refl, ap}
+use mathlib.Core.Path.{sym, ap, ◌∙◌}
 use Prim.Native.Nat.{ℕ}
-use native.Mathlib.Omega.{arith}
-use Rattle.std.specs.Prelude.{is_some}
-use Rattle.lists.proofs.Folds.{goes_on, goes_end}
+use Rattle.std.specs.Prelude.{Result, Err, is_ok}
+use Rattle.std.proofs.lemmas.Result.{err_from_is_err_and}
 use Rattle.rings.specs.Tables.{plan_of}
-use Rattle.frontier.specs.Run as lines
-use Rattle.frontier.proofs.Fails.{goes-failed, came, fell}
+use Rattle.frontier.specs.Run.{line_of}
+use Rattle.frontier.proofs.Fails.{goes-kept}
 use Rattle.pairs.specs.Run as run
-use Rattle.pairs.proofs.Moves.{below-off}
+use Rattle.pairs.proofs.Moves.{below-off, goes_next}
 use Rattle.pairs.proofs.list.listed.Goals as goal
 
-pub loop-k-preserved : goal.loop-k-preserved
-unfolding run.below_added_by
-loop-k-preserved c = goes_on c.loop-k.invariant (omega arith) (c.add_below.ensures.yes (ap is_some c.in_ok-add_below.was))
-
-pub returns-in_err-add_below : goal.returns-in_err-add_below
+pub returns-in_err-len : goal.returns-in_err-len
 unfolding run.listing_by run.below_added_by
-returns-in_err-add_below c =
+returns-in_err-len c =
     let s = c.args.front.now in
-    let t = s.located.places.now in
-    let p = plan_of s.located.rings in
-    fell c.from_residual.ensures (goes-failed (run.below_added_by t p s.f.now) (λ (k : ℕ) (v : lines.Line). below-off t p s.f.now k v) c.loop-k.invariant (omega arith) (c.add_below.ensures.no (ap is_some c.in_err-add_below.was)))
-
-pub returns : goal.returns
-unfolding run.listing_by
-returns c = came refl (goes_end c.loop-k.invariant (omega arith))
+    let l = c.loop-k in
+    let b = c.add_below.new in
+    let (_, e, same) = err_from_is_err_and c.from_residual.result c.from_residual.ensures.1 in
+    ap (λ (r : Result ℕ ℕ). line_of r b.at b.marks) (e ∙ ap Err same ∙ sym c.in_err-len.was)
+    ∙ goes-kept (run.below_added_by s.located.places.now (plan_of s.located.rings) s.f.now) (below-off s.located.places.now (plan_of s.located.rings) s.f.now) (goes_next l.invariant.1 l.invariant.0 c.in-Some.ensures.steps c.add_below.ensures) (ap is_ok c.in_err-len.was)

@@ -1,13 +1,14 @@
 -- descend meets its contract.
 use Prim.Native.Nat.{ℕ, ◌-◌}
 use native.Mathlib.Omega.{arith}
-use mathlib.Core.Path.{◌≡◌, ap, subst, ◌∙◌}
+use mathlib.Core.Path.{◌≡◌, ap, sym, subst, ◌∙◌}
 use mathlib.Core.Bool.{false, not}
 use Rattle.std.specs.Prelude.{is_some}
 use Rattle.std.proofs.Common.{None, Some, Err}
 use Rattle.std.proofs.lemmas.Result.{err_from_is_err_and}
 use Rattle.rings.specs.Tables.{plan_of}
 use Rattle.frontier.specs.Run.{whole}
+use Rattle.frontier.proofs.Fails.{kept_none, kept_is}
 use Rattle.refusal.specs.Refusals.{told}
 use Rattle.refusal.specs.declared.Refusal.TheVariants.{SweepStuck}
 use Rattle.steps.specs.Run.{Running}
@@ -40,17 +41,17 @@ take_step-requires-clause-j_bound c =
     let some : c.choose.result ≡ Some (c.in_ok-i.i, c.in_ok-i.j) = grind arith in
     (found_inside c.args.self.now.guide c.loop.invariant c.choose.result c.choose.ensures some).1
 
-pub returns-in_err-ok_or : goal.returns-in_err-ok_or
-returns-in_err-ok_or c =
+pub returns-in_err-line : goal.returns-in_err-line
+returns-in_err-line c =
     let some : c.choose.result ≡ Some (c.in_ok-i.i, c.in_ok-i.j) = grind arith in
     let none : c.take_step.result ≡ None = grind arith in
-    absurd (running-whole c.args.self.now.guide c.loop.invariant c.choose.result c.choose.ensures some (c.take_step.ensures.line.no (ap is_some none)))
+    absurd (running-whole c.args.self.now.guide c.loop.invariant c.choose.result c.choose.ensures some (kept_none _ (sym c.take_step.ensures.line ∙ none)))
 
 pub loop-preserved : goal.loop-preserved
 loop-preserved c =
     let some : c.choose.result ≡ Some (c.in_ok-i.i, c.in_ok-i.j) = grind arith in
-    let step : c.take_step.result ≡ Some c.in_ok-ok_or.field-0 = grind arith in
-    running_on c.args.self.now.guide c.loop.invariant c.choose.result c.choose.ensures some (omega arith) c.is_unfinished.ensures (ap not c.if-not-is_unfinished.false) (c.take_step.ensures.line.yes (ap is_some step)) (c.take_step.ensures.labels (ap is_some step))
+    let step : c.take_step.result ≡ Some c.in_ok-line.line = grind arith in
+    running_on c.args.self.now.guide c.loop.invariant c.choose.result c.choose.ensures some (omega arith) c.is_unfinished.ensures (ap not c.if-not-is_unfinished.false) (sym (kept_is _ (sym c.take_step.ensures.line ∙ step))) (c.take_step.ensures.labels (ap is_some step))
 
 pub returns : goal.returns
 returns c = running_out c.args.self.now.guide c.loop.invariant (omega arith)

@@ -1,62 +1,65 @@
 -- take_step meets its contract.
-use mathlib.Core.Path.{refl, sym, ap, ◌∙◌}
-use mathlib.Core.Bool.{false≢true}
-use Prim.Native.Nat.{◌+◌}
-use Rattle.std.specs.Prelude.{is_some}
+use mathlib.Core.Path.{◌≡◌, refl, sym, ap, ◌∙◌}
+use mathlib.Core.Bool.{true, false}
+use Prim.Native.Nat.{ℕ, ◌+◌}
+use native.Mathlib.Omega.{arith}
+use Rattle.std.specs.Prelude.{Result, Ok, is_ok}
 use Rattle.rings.specs.Tables.{plan_of}
-use Rattle.frontier.specs.Run.{Line, whole}
-use Rattle.frontier.proofs.Fails.{came, fell}
-use Rattle.pairs.specs.Run.{listing_by, replaced, replaced_on}
-use Rattle.pairs.proofs.Moves.{listing-own}
-use Rattle.steps.proofs.Steps.{next-none, next-some}
+use Rattle.frontier.specs.Run.{Line, line, line_of, whole, fresh}
+use Rattle.frontier.proofs.Fails.{kept_yes, kept_no}
+use Rattle.pairs.specs.Run.{replaced, replaced_on}
+use Rattle.steps.proofs.Steps.{listed-own, next-none, next-some}
 use Rattle.steps.specs.Run as run
 use Rattle.steps.proofs.step.Guided.take_step.Goals as goal
 
-pub returns-in_err-listed-clause-line : goal.returns-in_err-listed-clause-line
-returns-in_err-listed-clause-line c =
+pub returns-in_err-list-clause-line : goal.returns-in_err-list-clause-line
+unfolding fresh
+returns-in_err-list-clause-line c =
     let a = c.args in
     let s = a.self.now in
     let p = plan_of s.located.rings in
     let v = whole a.line.now in
-    let list = ap (listing_by s.located.places.now p v.at (a.i + 1) a.j) c.new-list.ensures ∙ listing-own p s.guide.own v.at v.marks (a.i + 1) a.j in
-    fell c.from_residual.ensures (next-none p v a.i a.j (ap (λ (w : Line). w.ok) (sym list) ∙ c.listed.ensures.no (ap is_some c.in_err-listed.was)))
+    let list = listed-own p v a.i a.j s.guide.own c.new-list.ensures in
+    let off : is_ok c.listed.result ≡ false = grind arith in
+    kept_no _ c.from_residual.ensures (next-none p v a.i a.j (ap (λ (w : Line). w.ok) (sym (c.listed.ensures ∙ list)) ∙ off))
 
-pub returns-in_err-listed-clause-labels : goal.returns-in_err-listed-clause-labels
-returns-in_err-listed-clause-labels c = λ y. absurd (false≢true (sym (ap is_some c.from_residual.ensures) ∙ y))
-
-pub returns-in_err-replaced-clause-line : goal.returns-in_err-replaced-clause-line
-unfolding replaced
-returns-in_err-replaced-clause-line c =
+pub returns-in_err-next-clause-line : goal.returns-in_err-next-clause-line
+unfolding fresh replaced
+returns-in_err-next-clause-line c =
     let a = c.args in
     let s = a.self.now in
     let p = plan_of s.located.rings in
     let v = whole a.line.now in
-    let list = ap (listing_by s.located.places.now p v.at (a.i + 1) a.j) c.new-list.ensures ∙ listing-own p s.guide.own v.at v.marks (a.i + 1) a.j in
-    let g = c.listed.new.list in
-    let next = next-some p v a.i a.j (sym list ∙ sym (c.listed.ensures.yes (ap is_some c.in_ok-listed.was))) refl in
-    fell c.from_residual-in_err-replaced.ensures (ap (λ (w : Line). w.ok) next ∙ ap (λ (w : Line). (replaced_on w v.at v.len (a.i + 1) a.j g.at g.len).ok) (sym c.new-next.ensures) ∙ c.replaced.ensures.no (ap is_some c.in_err-replaced.was))
-
-pub returns-in_err-replaced-clause-labels : goal.returns-in_err-replaced-clause-labels
-returns-in_err-replaced-clause-labels c = λ y. absurd (false≢true (sym (ap is_some c.from_residual-in_err-replaced.ensures) ∙ y))
+    let list = listed-own p v a.i a.j s.guide.own c.new-list.ensures in
+    let g = line true c.in_ok-list.field-0 c.listed.new.at c.listed.new.marks in
+    let on : Ok c.in_ok-list.field-0 ≡ c.listed.result = grind arith in
+    let next = next-some p v a.i a.j {g = g} (sym (ap (λ (r : Result ℕ ℕ). line_of r c.listed.new.at c.listed.new.marks) on ∙ c.listed.ensures ∙ list)) refl in
+    let put = ap (λ (w : Line). replaced_on (line true 0 w.at w.marks) v.at v.len (a.i + 1) a.j g.at g.len) c.new-next.ensures in
+    let off : is_ok c.replaced.result ≡ false = grind arith in
+    kept_no _ c.from_residual-in_err-next.ensures (ap (λ (w : Line). w.ok) (next ∙ sym (c.replaced.ensures c.new-next.result.marks ∙ put)) ∙ off)
 
 pub returns-clause-line : goal.returns-clause-line
-unfolding replaced
+unfolding fresh replaced
 returns-clause-line c =
     let a = c.args in
     let s = a.self.now in
     let p = plan_of s.located.rings in
     let v = whole a.line.now in
-    let list = ap (listing_by s.located.places.now p v.at (a.i + 1) a.j) c.new-list.ensures ∙ listing-own p s.guide.own v.at v.marks (a.i + 1) a.j in
-    let g = c.listed.new.list in
-    let next = next-some p v a.i a.j (sym list ∙ sym (c.listed.ensures.yes (ap is_some c.in_ok-listed.was))) refl in
-    came refl (c.replaced.ensures.yes (ap is_some c.in_ok-replaced.was) ∙ ap (λ (w : Line). replaced_on w v.at v.len (a.i + 1) a.j g.at g.len) c.new-next.ensures ∙ sym next)
+    let list = listed-own p v a.i a.j s.guide.own c.new-list.ensures in
+    let g = line true c.in_ok-list.field-0 c.listed.new.at c.listed.new.marks in
+    let on : Ok c.in_ok-list.field-0 ≡ c.listed.result = grind arith in
+    let next = next-some p v a.i a.j {g = g} (sym (ap (λ (r : Result ℕ ℕ). line_of r c.listed.new.at c.listed.new.marks) on ∙ c.listed.ensures ∙ list)) refl in
+    let put = ap (λ (w : Line). replaced_on (line true 0 w.at w.marks) v.at v.len (a.i + 1) a.j g.at g.len) c.new-next.ensures in
+    let fits : Ok c.in_ok-next.field-0 ≡ c.replaced.result = grind arith in
+    kept_yes (ap (λ (r : Result ℕ ℕ). line_of r c.replaced.new.at c.new-next.result.marks) fits ∙ c.replaced.ensures c.new-next.result.marks ∙ put ∙ sym next)
 
 pub returns-clause-labels : goal.returns-clause-labels
-unfolding run.next_labels
+unfolding fresh run.next_labels
 returns-clause-labels c =
     let a = c.args in
     let s = a.self.now in
     let p = plan_of s.located.rings in
     let v = whole a.line.now in
-    let list = ap (listing_by s.located.places.now p v.at (a.i + 1) a.j) c.new-list.ensures ∙ listing-own p s.guide.own v.at v.marks (a.i + 1) a.j in
-    λ y. c.step_labels.ensures ∙ ap (λ (w : Line). run.step_labels p v.at w.at w.len a.i a.j a.labels.now) (c.listed.ensures.yes (ap is_some c.in_ok-listed.was) ∙ list)
+    let list = listed-own p v a.i a.j s.guide.own c.new-list.ensures in
+    let on : Ok c.in_ok-list.field-0 ≡ c.listed.result = grind arith in
+    λ y. c.step_labels.ensures ∙ ap (λ (w : Line). run.step_labels p v.at w.at w.len a.i a.j a.labels.now) (ap (λ (r : Result ℕ ℕ). line_of r c.listed.new.at c.listed.new.marks) on ∙ c.listed.ensures ∙ list)
