@@ -13,7 +13,7 @@ use lib.Signed.{mag}
 use borrow.Author.Tests.{ltb-true, ltb-false, lt-ltb, le-ltb, eq-eqb, ne_eqb}
 use mir.Syntax.{w64}
 use mir.Val.{SFits, to_z, of_z}
-use mir.ValLaws.{to_z_pos, to_z-of_z}
+use mir.ValLaws.{to_z-of_z}
 use Rattle.lists.specs.Spans.{stretch}
 use Rattle.lists.proofs.Spans.{get_or-stretch}
 use Rattle.model.specs.Geometry.{positive, is_zero, corner, fan, area}
@@ -38,10 +38,6 @@ view p q = go (ltb p q) refl
     go : (t : Bool) → ltb p q ≡ t → ((d : ℕ) × (p ≡ q + d)) ⊎ ((d : ℕ) × (q ≡ p + suc d))
     go true e = inr (q - suc p, (let h = ltb-true p q e in omega arith))
     go false e = inl (p - q, (let h = ltb-false p q e in omega arith))
-
-pub pos_minus : (a b : ℕ) → pos a -ℤ pos b ≡ sub_ℕ a b
-pos_minus a zero = sym (sub_pos a 0 (a + 0) (omega arith))
-pos_minus a (suc b) = refl
 
 -- ---- products and differences of differences
 sub_times : (p q r s : ℕ) → sub_ℕ p q *ℤ sub_ℕ r s ≡ sub_ℕ (p * r + q * s) (p * s + q * r)
@@ -136,43 +132,32 @@ abs_times (pos a) (negsuc b) = abs_neg (pos (a * suc b))
 abs_times (negsuc a) (pos b) = abs_neg (pos (suc a * b))
 abs_times (negsuc a) (negsuc b) = refl
 
-pub record Within (k : ℕ) (z : ℤ) : Type 0 where
-  pub within : nat_abs z ≤ k
+record Within (k : ℕ) (z : ℤ) : Type 0 where
+  within : nat_abs z ≤ k
 
 mag_abs : (z : ℤ) → mag z ≤ nat_abs z
 mag_abs (pos n) = omega arith
 mag_abs (negsuc n) = omega arith
 
-pub within-fits : {k : ℕ} {z : ℤ} → Within k z → k < 2 ^ 63 → SFits w64 z
+within-fits : {k : ℕ} {z : ℤ} → Within k z → k < 2 ^ 63 → SFits w64 z
 within-fits {k} {z} w h = let m = mag_abs z in let b = w.within in record { sfits = omega arith }
 
-pub within-read : {k : ℕ} {z : ℤ} → Within k z → k < 2 ^ 63 → to_z w64 (of_z w64 z) ≡ z
+within-read : {k : ℕ} {z : ℤ} → Within k z → k < 2 ^ 63 → to_z w64 (of_z w64 z) ≡ z
 within-read {k} {z} w h = to_z-of_z w64 z (within-fits w h)
 
 -- a difference of coordinates, a product of two, and a difference of two products
-pub within-sub : (a b : ℕ) → a < 2 ^ 16 → b < 2 ^ 16 → Within 131072 (sub_ℕ a b)
+within-sub : (a b : ℕ) → a < 2 ^ 16 → b < 2 ^ 16 → Within 131072 (sub_ℕ a b)
 within-sub a b h k = let m = abs_sub a b in record { within = omega arith }
 
-pub within_times : {y z : ℤ} → Within 131072 y → Within 131072 z → Within 17179869184 (y *ℤ z)
+within_times : {y z : ℤ} → Within 131072 y → Within 131072 z → Within 17179869184 (y *ℤ z)
 within_times {y} {z} a b = record { within = rw (abs_times y z) (mul-le-mul a.within b.within) }
 
-pub within_minus : {y z : ℤ} → Within 17179869184 y → Within 17179869184 z → Within 34359738368 (y -ℤ z)
+within_minus : {y z : ℤ} → Within 17179869184 y → Within 17179869184 z → Within 34359738368 (y -ℤ z)
 within_minus {y} {z} a b = let m = abs_plus y (neg_ℤ z) in let n = abs_neg z in let j = a.within in let k = b.within in record { within = omega arith }
 
 -- ---- what the machine computes
 abbrev read : ℤ → ℤ
 read z = to_z w64 (of_z w64 z)
-
--- a difference of two coordinates
-module _ (a b : ℕ) (h : a < 2 ^ 16) (k : b < 2 ^ 16) where
-  minus_is : to_z w64 a -ℤ to_z w64 b ≡ sub_ℕ a b
-  minus_is = (λ i. to_z_pos w64 a (omega arith) i -ℤ to_z_pos w64 b (omega arith) i) ∙ pos_minus a b
-
-  pub minus_fits : SFits w64 (to_z w64 a -ℤ to_z w64 b)
-  minus_fits = subst (SFits w64) (sym minus_is) (within-fits (within-sub a b h k) (omega arith))
-
-  pub minus_read : read (to_z w64 a -ℤ to_z w64 b) ≡ sub_ℕ a b
-  minus_read = ap read minus_is ∙ within-read (within-sub a b h k) (omega arith)
 
 -- a product of two differences
 module _ (p q : ℤ) (a b c d : ℕ) (e : p ≡ sub_ℕ a b) (f : q ≡ sub_ℕ c d) (ha : a < 2 ^ 16) (hb : b < 2 ^ 16) (hc : c < 2 ^ 16) (hd : d < 2 ^ 16) where
@@ -182,13 +167,10 @@ module _ (p q : ℤ) (a b c d : ℕ) (e : p ≡ sub_ℕ a b) (f : q ≡ sub_ℕ 
   product : Within 17179869184 (sub_ℕ a b *ℤ sub_ℕ c d)
   product = within_times {y = sub_ℕ a b} {z = sub_ℕ c d} (within-sub a b ha hb) (within-sub c d hc hd)
 
-  pub times_fits : SFits w64 (read p *ℤ read q)
-  times_fits = subst (SFits w64) (sym times_is) (within-fits product (omega arith))
-
   times_read : read (read p *ℤ read q) ≡ sub_ℕ a b *ℤ sub_ℕ c d
   times_read = ap read times_is ∙ within-read product (omega arith)
 
-pub corner-within : (ax ay bx by cx cy : ℕ) → ax < 2 ^ 16 → ay < 2 ^ 16 → bx < 2 ^ 16 → by < 2 ^ 16 → cx < 2 ^ 16 → cy < 2 ^ 16 → Within 34359738368 (corner_at ax ay bx by cx cy)
+corner-within : (ax ay bx by cx cy : ℕ) → ax < 2 ^ 16 → ay < 2 ^ 16 → bx < 2 ^ 16 → by < 2 ^ 16 → cx < 2 ^ 16 → cy < 2 ^ 16 → Within 34359738368 (corner_at ax ay bx by cx cy)
 unfolding corner_at
 corner-within ax ay bx by cx cy i j k l m n =
     within_minus {y = sub_ℕ bx ax *ℤ sub_ℕ cy ay} {z = sub_ℕ cx ax *ℤ sub_ℕ by ay}
@@ -221,6 +203,18 @@ area_on n w h xs ys a b c i j k = λ t. (sub_ℕ (at xs b j t) (at xs a i t) *�
     at l u h = sym (get_or-stretch l 0 n u h ∙ ap (λ (m : ℕ). get_or l m 0) (omega arith))
 
 -- a number that is the difference of the products is the area, and has the sign of the walk
-pub area_signed : (xs ys : List ℕ) (a b c : ℕ) {z : ℤ} → z ≡ corner_at (get_or xs a 0) (get_or ys a 0) (get_or xs b 0) (get_or ys b 0) (get_or xs c 0) (get_or ys c 0)
-    → (z ≡ area (points xs ys) (a ∷ b ∷ c ∷ [])) × ((positive z ≡ at_points counterclockwise xs ys a b c) × ((is_zero z ≡ at_points flat xs ys a b c) × (negative z ≡ at_points clockwise xs ys a b c)))
-area_signed xs ys a b c e = (e ∙ sym (area-three xs ys a b c), (ap positive e ∙ sign_positive _ _ _ _ _ _, (ap is_zero e ∙ sign_zero _ _ _ _ _ _, ap negative e ∙ sign_negative _ _ _ _ _ _)))
+module _ (xs ys : List ℕ) (a b c : ℕ) {z : ℤ} (e : z ≡ corner_at (get_or xs a 0) (get_or ys a 0) (get_or xs b 0) (get_or ys b 0) (get_or xs c 0) (get_or ys c 0)) where
+  pub area_is : z ≡ area (points xs ys) (a ∷ b ∷ c ∷ [])
+  area_is = e ∙ sym (area-three xs ys a b c)
+
+  pub positive_is : positive z ≡ at_points counterclockwise xs ys a b c
+  positive_is = ap positive e ∙ sign_positive _ _ _ _ _ _
+
+  pub zero_is : is_zero z ≡ at_points flat xs ys a b c
+  zero_is = ap is_zero e ∙ sign_zero _ _ _ _ _ _
+
+  pub negative_is : negative z ≡ at_points clockwise xs ys a b c
+  negative_is = ap negative e ∙ sign_negative _ _ _ _ _ _
+
+-- for the code, step by step
+pub ruleset steps = (corner-fits, corner-read, area_is, positive_is, zero_is, negative_is)

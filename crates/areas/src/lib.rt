@@ -4,7 +4,7 @@
 ghost use Rattle.std.specs.Prelude.{◌≡◌, [], ◌∷◌};
 ghost use Rattle.std.proofs.Math.IntN.{sub_ℕ};
 ghost use Rattle.model.specs.Geometry.{positive, is_zero, area};
-ghost use Rattle.areas.specs.Corners.{points, negative, corner_at, counterclockwise, flat, clockwise, at_points};
+ghost use Rattle.areas.specs.Corners.{points, negative, counterclockwise, flat, clockwise, at_points};
 
 use charts::Points;
 
@@ -15,25 +15,16 @@ fn difference(a: u16, b: u16) -> i64
     i64::from(a) - i64::from(b)
 }
 
-// Doubled area of the triangle a, b, c from its corners' coordinates.
-fn corner(ax: u16, ay: u16, bx: u16, by: u16, cx: u16, cy: u16) -> i64
-    ensures { result ≡ corner_at ax ay bx by cx cy }
-{
-    difference(bx, ax) * difference(cy, ay) - difference(cx, ax) * difference(by, ay)
-}
-
 // Doubled area of the face a, b, c of a chart: positive, zero or negative as its walk is counterclockwise, flat or clockwise.
+#[tactic(auto, using(crate::proofs::Areas::steps))]
 pub fn area_of(chart: &Points, a: usize, b: usize, c: usize) -> i64
     ensures value { result ≡ area (points chart.now.xs.now chart.now.ys.now) (a ∷ b ∷ c ∷ []) }
     ensures result_value { positive result ≡ at_points counterclockwise chart.now.xs.now chart.now.ys.now a b c }
     ensures result_value_2 { is_zero result ≡ at_points flat chart.now.xs.now chart.now.ys.now a b c }
     ensures result_value_3 { negative result ≡ at_points clockwise chart.now.xs.now chart.now.ys.now a b c }
 {
-    let ax = arrays::at(chart.xs, a);
-    let ay = arrays::at(chart.ys, a);
-    let bx = arrays::at(chart.xs, b);
-    let by = arrays::at(chart.ys, b);
-    let cx = arrays::at(chart.xs, c);
-    let cy = arrays::at(chart.ys, c);
-    corner(ax, ay, bx, by, cx, cy)
+    let (ax, ay) = chart.at(a);
+    let (bx, by) = chart.at(b);
+    let (cx, cy) = chart.at(c);
+    difference(bx, ax) * difference(cy, ay) - difference(cx, ax) * difference(by, ay)
 }

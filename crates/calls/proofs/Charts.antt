@@ -3,6 +3,7 @@ use Prim.Native.Nat.{ℕ, ◌≤◌, ◌<◌}
 use mathlib.Core.Path.{◌≡◌, sym, ap, ◌∙◌}
 use mathlib.Core.List.{List}
 use mathlib.Core.Bool.{Bool, true, cond}
+use native.Mathlib.Omega.{arith}
 use lib.Dec.{leb}
 use borrow.Author.Tests.{le-leb}
 use Rattle.lists.proofs.Bools.{yes_and}
@@ -14,6 +15,9 @@ use Rattle.model.specs.File as file
 use Rattle.model.specs.Calls.{labels_of, chart_call}
 use Rattle.rings.specs.Tables.{start_of, table, in_bounds}
 use Rattle.std.specs.Prelude.{Ok}
+use Rattle.std.specs.declared.result.Result.{Result}
+use Rattle.refusal.specs.declared.Refusal.{Refusal}
+use Rattle.charts.specs.Charts.{chart_on}
 use Rattle.placement.specs.declared.Drawn.{Drawn}
 use Rattle.placement.specs.Drawing.{chart_for, drawn_of}
 use Rattle.sheet.specs.declared.Sheet.{Sheet}
@@ -21,7 +25,8 @@ use Rattle.sheet.specs.declared.Stage.TheVariants.{Charted}
 use Rattle.sheet.specs.Sheets.{held_count, held_plan, held_labels, fits, reads, pack, packed}
 use Rattle.sheet.specs.Sheets.{rank, stage_read}
 use Rattle.model.proofs.Outcomes.{bind_at, bind_off}
-use Rattle.sheet.proofs.Reading.{stage_refused, stage_missed, packed-off, labels_early, labels_there, few, room}
+use Rattle.sheet.specs.Answers.{packed_as}
+use Rattle.sheet.proofs.Reading.{fitting_refused, fitting_missed, fitting_reached, packed-off, packed-at, labels_early, labels_there, fits_there, few, room}
 
 module _ (s : Sheet) where
   -- the chart that is worked out is the chart of what the struct holds
@@ -51,6 +56,22 @@ module _ (s : Sheet) where
     pub chart-call-drawn : (c : Chart) → accepted c ≡ chart (held_plan s) (held_labels s) → chart_call (reads s) ≡ accepted (file.charted (held_plan s) (held_labels s) c)
     chart-call-drawn c e = chart-call_there h ∙ bind_at (chart (held_plan s) (held_labels s)) c (λ (d : Chart). accepted (file.charted (held_plan s) (held_labels s) d)) (sym e)
 
+  -- so it is of arrays that are the struct's
+  module _ {sizes es ls : List ℕ} {n : ℕ} (h : 2 ≤ rank (stage_read s)) (a : sizes ≡ s.sizes) (b : es ≡ s.entries) (e : n ≡ s.n) (l : ls ≡ held_labels s) where
+    chart_lent : chart_for sizes es n ls ≡ chart (held_plan s) (held_labels s)
+    chart_lent = (λ i. chart_for (a i) (b i) (e i) (l i)) ∙ chart_for_lem (fits_there s (omega arith))
+
+  pub chart-call-undrawn : (k at : ℕ) {sizes es ls : List ℕ} {n : ℕ} → refused k at ≡ chart_for sizes es n ls → 2 ≤ rank (stage_read s) → sizes ≡ s.sizes → es ≡ s.entries → n ≡ s.n → ls ≡ held_labels s → chart_call (reads s) ≡ refused k at
+  chart-call-undrawn k at q h a b e l = chart-call-none h k at (q ∙ chart_lent h a b e l)
+
+  -- the chart that is drawn, and the struct that it is stored in
+  pub chart-call-stored : (t f : Sheet) (r : Result Drawn Refusal) (d : Drawn) {sizes es ls : List ℕ} {n : ℕ} → ((c : Chart) → Ok d ≡ drawn_of (accepted c) → t ≡ packed (file.charted (held_plan f) (held_labels f) c)) → f ≡ s → r ≡ Ok d
+      → accepted (chart_on n d.w d.h d.xs d.ys) ≡ chart_for sizes es n ls → r ≡ drawn_of (chart_for sizes es n ls) → 2 ≤ rank (stage_read s) → sizes ≡ f.sizes → es ≡ f.entries → n ≡ f.n → ls ≡ held_labels f → accepted t ≡ packed_as (chart_call (reads s))
+  chart-call-stored t f r d {n = n} put w is q o h a b e l =
+      let c = chart_on n d.w d.h d.xs d.ys in
+      let lent = chart_lent h (a ∙ ap (λ (v : Sheet). v.sizes) w) (b ∙ ap (λ (v : Sheet). v.entries) w) (e ∙ ap (λ (v : Sheet). v.n) w) (l ∙ ap held_labels w) in
+      ap accepted (put c (sym is ∙ o ∙ ap drawn_of (sym q)) ∙ ap (λ (v : Sheet). packed (file.charted (held_plan v) (held_labels v) c)) w) ∙ sym (packed-at (chart-call-drawn h c (q ∙ lent)))
+
   -- the struct with a chart, from the struct with labels
   pub chart-stored : (t : Sheet) (d : Drawn) (c : Chart) → t ≡ packed (file.labelled (held_plan s) (stretch s.labels 0 (held_count s))) → Ok d ≡ drawn_of (accepted c)
       → ◌≡◌ {A = Sheet} (record { stage = Charted; n = t.n; sizes = t.sizes; entries = t.entries; labels = t.labels; w = d.w; h = d.h; xs = d.xs; ys = d.ys }) (packed (file.charted (held_plan s) (held_labels s) c))
@@ -59,5 +80,5 @@ module _ (s : Sheet) where
       let p : d ≡ record { w = c.w; h = c.h; xs = padded 200 c.xs; ys = padded 200 c.ys } = cc in
       λ i. record { stage = Charted; n = (same i).n; sizes = (same i).sizes; entries = (same i).entries; labels = (same i).labels; w = (p i).w; h = (p i).h; xs = (p i).xs; ys = (p i).ys }
 
--- for the call where the stage is too early
-pub ruleset steps = (stage_refused, stage_missed, packed-off, chart-call_early)
+-- for the call itself, step by step
+pub ruleset steps = (fitting_refused, fitting_missed, fitting_reached, packed-off, chart-call_early, chart-call-undrawn)

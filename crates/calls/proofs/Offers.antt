@@ -15,7 +15,7 @@ use Rattle.sheet.specs.declared.Sheet.{Sheet}
 use Rattle.sheet.specs.Sheets.{held_plan, reads}
 use Rattle.sheet.specs.Sheets.{rank, stage_read}
 use Rattle.model.proofs.Outcomes.{bind_at, bind_off, then_at, then_off}
-use Rattle.sheet.proofs.Reading.{stage_refused, stage_missed, stage_reached, packed-off, packed-at, rules_held, few, plan_early, plan_there, count_held}
+use Rattle.sheet.proofs.Reading.{fitting_refused, fitting_missed, fitting_reached, packed-off, packed-at, rules_held, few, plan_early, plan_there, count_held}
 
 -- the steps on a plan
 module _ (p : Plan) (ls : List ℕ) where
@@ -55,4 +55,4 @@ module _ (s : Sheet) (ls : List ℕ) where
     offer_kept w = offer_there h ∙ bind_at (offered (held_plan s) ls) ls (stored (held_plan s)) (ruled ∙ then_at (label_rules (held_plan s) ls) tt (accepted ls) (sym w))
 
 -- for the call itself, step by step
-pub ruleset steps = (stage_refused, stage_missed, stage_reached, packed-off, packed-at, offer_early, offer_count, offer_kept, rules_held, few)
+pub ruleset steps = (fitting_refused, fitting_missed, fitting_reached, packed-off, packed-at, offer_early, offer_count, offer_broken, offer_kept, rules_held, few)

@@ -17,7 +17,7 @@ use Rattle.steps.specs.Run.{in_array}
 use Rattle.sweep.specs.Swept.{sweep_of}
 use Rattle.sheet.specs.declared.Sheet.{Sheet}
 use Rattle.sheet.specs.Sheets.{held_count, held_plan, fits, reads, stage_read, rank}
-use Rattle.sheet.proofs.Reading.{stage_refused, stage_missed, stage_reached, packed-off, packed-at, plan_early, plan_there, fits_there, entries-held}
+use Rattle.sheet.proofs.Reading.{fitting_refused, fitting_missed, fitting_reached, packed-off, packed-at, plan_early, plan_there, fits_there, entries-held}
 
 module _ (s : Sheet) where
   abbrev p : Plan
@@ -62,4 +62,4 @@ module _ (s : Sheet) where
             bind_at (sweep p) ls (stored p) given ∙ ap (λ (l : List ℕ). accepted (file.labelled p l)) (sym there)
 
 -- for the call itself, step by step
-pub ruleset steps = (stage_refused, stage_missed, stage_reached, packed-off, packed-at, sweep_early, sweep-refused, sweep-labelled)
+pub ruleset steps = (fitting_refused, fitting_missed, fitting_reached, packed-off, packed-at, sweep_early, sweep-refused, sweep-labelled)

@@ -17,7 +17,7 @@ use Rattle.rings.specs.Tables.{start_of, in_bounds}
 use Rattle.turn.specs.Turned.{labels_in, turn_of}
 use Rattle.sheet.specs.declared.Sheet.{Sheet}
 use Rattle.sheet.specs.Sheets.{held_count, held_plan, held_labels, reads, stage_read, rank}
-use Rattle.sheet.proofs.Reading.{stage_refused, stage_missed, stage_reached, packed-off, packed-at, labels_early, labels_there, fits_there, few, room}
+use Rattle.sheet.proofs.Reading.{fitting_refused, fitting_missed, fitting_reached, packed-off, packed-at, labels_early, labels_there, fits_there, few, room}
 
 module _ (s : Sheet) (items : List ℕ) (direction : ℕ) where
   -- the steps of the call
@@ -51,4 +51,4 @@ module _ (s : Sheet) (items : List ℕ) (direction : ℕ) where
       turn-labelled m e = turn_there ∙ bind_at worked (stretch m 0 (start_of s.sizes s.n)) (λ (ms : List ℕ). accepted (file.labelled (held_plan s) ms)) (sym (turn-fit q) ∙ sym e)
 
 -- for the call itself, step by step
-pub ruleset steps = (stage_refused, stage_missed, stage_reached, packed-off, packed-at, turn_early, turn-refused, turn-labelled)
+pub ruleset steps = (fitting_refused, fitting_missed, fitting_reached, packed-off, packed-at, turn_early, turn-refused, turn-labelled)

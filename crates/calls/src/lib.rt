@@ -4,7 +4,6 @@
 ghost use Rattle.std.specs.Prelude.{◌≡◌, ◌-◌, ◌++◌, length, take, replicate, ◌≤◌, ◌<◌, ◌^◌};
 ghost use Rattle.lists.specs.Spans.{stretch};
 ghost use Rattle.model.specs.Outcome.{accepted};
-ghost use Rattle.model.specs.Plan.{dart_count};
 ghost use Rattle.model.specs.Chart.{Chart};
 ghost use Rattle.model.specs.File.{labelled, charted};
 ghost use Rattle.model.specs.Calls.{offer_call, sweep_call, turn_call, chart_call};
@@ -73,56 +72,45 @@ fn with_chart(fitting: &Fitting, drawn: &Drawn) -> Sheet
     }
 }
 
-// How many darts a plan of n contexts has.
-fn darts_due(n: u16) -> usize
-    ensures { result ≡ dart_count n }
-{
-    (6 * usize::from(n)).saturating_sub(14)
-}
-
 // Offer (OPEN up): labels for all rings in context order, checked and stored; the chart is dropped.
-#[tactic(auto, using(crate::proofs::Offers::steps), unfolding(sheet::specs::Sheets::rank))]
+#[tactic(auto, using(crate::proofs::Offers::steps), unfolding(sheet::specs::Sheets::rank, sheet::specs::Answers::answer_of))]
 pub fn offer(sheet: Sheet, labels: &[u8]) -> Result<Sheet, Refusal>
     ensures { told result ≡ packed_as (offer_call (reads sheet) labels.now) }
 {
-    sheet::require_stage(&sheet, Stage::Open)?;
-    if labels.len() != darts_due(sheet.n) {
+    let fitting = sheet::require_fitting(&sheet, Stage::Open)?;
+    if labels.len() != rings::dart_count(usize::from(sheet.n)) {
         return Err(Refusal::OtherRecord(0));
     }
-    let fitting = Fitting { sheet: &sheet };
     conditions::check(&fitting.plan(), labels)?;
     Ok(relabelled(&fitting, labels))
 }
 
 // Sweep (OPEN up): labels worked out from North down to South, stored; the chart is dropped.
-#[tactic(auto, using(crate::proofs::Sweeps::steps), unfolding(sheet::specs::Sheets::rank))]
+#[tactic(auto, using(crate::proofs::Sweeps::steps), unfolding(sheet::specs::Sheets::rank, sheet::specs::Answers::answer_of))]
 pub fn sweep(sheet: Sheet) -> Result<Sheet, Refusal>
     ensures { told result ≡ packed_as (sweep_call (reads sheet)) }
 {
-    sheet::require_stage(&sheet, Stage::Open)?;
-    let fitting = Fitting { sheet: &sheet };
+    let fitting = sheet::require_fitting(&sheet, Stage::Open)?;
     let swept = sweep::sweep_labels(&fitting.plan())?;
     Ok(with_labels(&fitting, &swept))
 }
 
 // Turn (LABELLED up): the labels of both darts of each named edge, a quarter clockwise (direction 0) or counterclockwise (1); the chart is dropped.
-#[tactic(auto, using(crate::proofs::Turns::steps), unfolding(sheet::specs::Sheets::rank))]
+#[tactic(auto, using(crate::proofs::Turns::steps), unfolding(sheet::specs::Sheets::rank, sheet::specs::Answers::answer_of))]
 pub fn turn(sheet: Sheet, items: &[u16], direction: u8) -> Result<Sheet, Refusal>
     ensures { told result ≡ packed_as (turn_call (reads sheet) items.now direction) }
 {
-    sheet::require_stage(&sheet, Stage::Labelled)?;
-    let fitting = Fitting { sheet: &sheet };
+    let fitting = sheet::require_fitting(&sheet, Stage::Labelled)?;
     let turned = turn::turn_labels(sheet.labels, &fitting.plan(), items, direction)?;
     Ok(with_labels(&fitting, &turned))
 }
 
 // Chart (LABELLED up): the least placement that keeps the compass rules, stored.
-#[tactic(auto, using(crate::proofs::Charts::steps), unfolding(sheet::specs::Sheets::rank))]
+#[tactic(auto, using(crate::proofs::Charts::steps), unfolding(sheet::specs::Sheets::rank, sheet::specs::Answers::answer_of))]
 pub fn chart(sheet: Sheet) -> Result<Sheet, Refusal>
     ensures { told result ≡ packed_as (chart_call (reads sheet)) }
 {
-    sheet::require_stage(&sheet, Stage::Labelled)?;
-    let fitting = Fitting { sheet: &sheet };
+    let fitting = sheet::require_fitting(&sheet, Stage::Labelled)?;
     let drawn = placement::chart_of(&fitting.plan(), fitting.labels())?;
     Ok(with_chart(&fitting, &drawn))
 }

@@ -1,7 +1,7 @@
-// Charts in flat arrays: the comparison of two.
+// Charts in flat arrays: where a context stands, and the comparison of two charts.
 #![tactic(auto)]
 
-ghost use Rattle.std.specs.Prelude.{◌≡◌};
+ghost use Rattle.std.specs.Prelude.{◌≡◌, get_or};
 ghost use Rattle.lists.specs.Tests.{same_list};
 ghost use Rattle.lists.specs.Spans.{stretch};
 ghost use Rattle.model.specs.Chart.{same_chart};
@@ -14,6 +14,15 @@ pub struct Points<'a> {
     pub h: u16,
     pub xs: &'a [u16],
     pub ys: &'a [u16],
+}
+
+impl Points<'_> {
+    // The x and y of a context; what lies outside an array reads as 0.
+    pub fn at(&self, u: usize) -> (u16, u16)
+        ensures { result ≡ (get_or self.now.xs.now u 0, get_or self.now.ys.now u 0) }
+    {
+        (arrays::at(self.xs, u), arrays::at(self.ys, u))
+    }
 }
 
 // Are the first n numbers of two arrays equal? What lies outside an array reads as 0.

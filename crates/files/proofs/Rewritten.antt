@@ -1,5 +1,5 @@
 -- A file that is opened and written again is the very file.
-use Prim.Native.Nat.{ℕ}
+use Prim.Native.Nat.{ℕ, ◌<◌}
 use mathlib.Core.Path.{◌≡◌, refl, sym, ap, ◌∙◌}
 use mathlib.Core.List.{List}
 use Rattle.lists.proofs.Words.{Bytes}
@@ -13,7 +13,10 @@ use Rattle.model.proofs.FileRead.{read_fits, read-written}
 use Rattle.model.proofs.RingPart.{open_accepted}
 use Rattle.sheet.specs.declared.Sheet.{Sheet}
 use Rattle.sheet.specs.Sheets.{reads}
-use Rattle.sheet.specs.Answers.{packed_as}
+use Rattle.sheet.specs.Answers.{packed_as, length_of}
+use Rattle.writing.specs.Files.{buffer_after}
+use Rattle.files.proofs.RingParts.{bytes-at}
+use lib.ListN.{get_or}
 use Rattle.opening.specs.Opening.{lent_of}
 use Rattle.files.specs.Files.{copied, copied_back}
 use Rattle.sheet.proofs.Packed.{reads-packed}
@@ -49,3 +52,25 @@ back_late b buffer t y e = go (open_call b) refl e
         let kept = (then_accepted (lent_of s) (rules_from_8 s) tt (sym (judge-parts s) ∙ ok)).0 in
         ap (λ (r : Sheet). write_call (reads r) buffer) (same-value g) ∙ ap (λ (r : file.Sheet). write_call r buffer) (reads-packed s (sheet_held_lem s fit (sym kept))) ∙ write_fits s b buffer fit (read-written b s y is)
     go (refused k at) d g = not-both (sym g)
+
+-- ---- for the code, step by step
+module _ (b buffer : List ℕ) where
+  -- a refusal of open
+  module _ (k at : ℕ) (e : refused k at ≡ packed_as (open_call b)) where
+    pub early_length : refused k at ≡ length_of (copied_back b buffer)
+    unfolding length_of
+    early_length = ap length_of (back_early b buffer k at e)
+
+    pub early_buffer : buffer ≡ buffer_after (copied_back b buffer) buffer
+    unfolding buffer_after
+    early_buffer = ap (λ (o : Outcome (ℕ × List ℕ)). buffer_after o buffer) (back_early b buffer k at e)
+
+  -- a sheet: the answer and the buffer are as write gives them
+  module _ (t : Sheet) (h : (i : ℕ) → get_or b i 0 < 256) (e : accepted t ≡ packed_as (open_call b)) where
+    pub late_length : length_of (write_call (reads t) buffer) ≡ length_of (copied_back b buffer)
+    late_length = ap length_of (back_late b buffer t (bytes-at b h) e)
+
+    pub late_buffer : buffer_after (write_call (reads t) buffer) buffer ≡ buffer_after (copied_back b buffer) buffer
+    late_buffer = ap (λ (o : Outcome (ℕ × List ℕ)). buffer_after o buffer) (back_late b buffer t (bytes-at b h) e)
+
+pub ruleset steps = (early_length, early_buffer, late_length, late_buffer)

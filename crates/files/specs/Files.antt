@@ -1,5 +1,5 @@
 -- Asked of a file: where a ring stands in it, and the file written again.
-use Rattle.std.specs.Prelude.{ℕ, ◌+◌, ◌*◌, List, ◌++◌, length, get_or, drop, ltb, leb}
+use Rattle.std.specs.Prelude.{ℕ, List, ◌++◌, length, drop, leb}
 use Rattle.std.specs.declared.result.Result.{Result}
 use Rattle.model.specs.Outcome as model
 use Rattle.model.specs.Outcome.{require, ◌>>=◌, ◌>>◌}
@@ -7,19 +7,11 @@ use Rattle.model.specs.File as file
 use Rattle.model.specs.Calls.{open_call}
 use Rattle.refusal.specs.declared.Refusal.{Refusal}
 use Rattle.refusal.specs.Refusals.{told}
-use Rattle.rings.specs.Tables.{starts_of}
-use Rattle.sheet.specs.declared.Sheet.{Sheet}
 use Rattle.files.specs.declared.Part.{Part}
 
 -- what ring answers: the offset and the length of a part, or the refusal
 abbrev pub part_of : Result Part Refusal → model.Outcome (ℕ × ℕ)
 part_of r = told r >>= λ (p : Part). model.accepted (p.at, p.size)
-
--- the offset and the length in bytes of u's ring in the file that a struct was opened from; 17 where there is no such context
-unfoldable pub held_ring : Sheet → ℕ → model.Outcome (ℕ × ℕ)
-held_ring t u = do
-  require (ltb u t.n) 17 t.n
-  model.accepted (10 + 4 * u + 2 * get_or (starts_of t.sizes) u 0, 2 * get_or t.sizes u 0)
 
 -- a file of its own length at the front of a buffer, whose later bytes stay; 16 where the buffer is short
 abbrev pub copied : List ℕ → List ℕ → model.Outcome (ℕ × List ℕ)

@@ -6,10 +6,9 @@ ghost use Rattle.model.specs.Calls.{ring_call, ring_part};
 ghost use Rattle.refusal.specs.Refusals.{told};
 ghost use Rattle.writing.specs.Files.{buffer_after};
 ghost use Rattle.sheet.specs.Answers.{length_of};
-ghost use Rattle.files.specs.Files.{held_ring, part_of, copied_back};
+ghost use Rattle.files.specs.Files.{part_of, copied_back};
 
 use refusal::Refusal;
-use sheet::Sheet;
 
 // A part of a file: the offset where it begins, and how many bytes it has.
 #[derive(Clone, Copy)]
@@ -18,29 +17,24 @@ pub struct Part {
     pub size: usize,
 }
 
-// Where the body of a context's ring stands in the file that a sheet was opened from; 17 where there is no such context.
-fn ring_of(sheet: &Sheet, context: usize) -> Result<Part, Refusal>
-    ensures { part_of result ≡ held_ring sheet.now context }
-{
-    let n = usize::from(sheet.n);
-    if n <= context {
-        return Err(Refusal::NoSuchContext(n));
-    }
-    let starts = rings::starts_of(&sheet.sizes);
-    Ok(Part {
-        at: 10 + 4 * context + 2 * arrays::num(&starts, context),
-        size: 2 * arrays::num(&sheet.sizes, context),
-    })
-}
-
-// Ring: where a context's ring stands in a file, or the refusal.
+// Ring: where the body of a context's ring stands in a file; 17 where there is no such context.
+#[tactic(auto, using(crate::proofs::RingParts::steps))]
 pub fn ring_answer(file: &[u8], context: usize) -> Result<Part, Refusal>
     ensures { part_of result ≡ ring_call file.now context }
 {
-    ring_of(&opening::open_file(file)?, context)
+    let opened = opening::open_file(file)?;
+    let n = usize::from(opened.n);
+    if n <= context {
+        return Err(Refusal::NoSuchContext(n));
+    }
+    Ok(Part {
+        at: 10 + 4 * context + 2 * fit::total_of(&opened.sizes, context),
+        size: 2 * arrays::num(&opened.sizes, context),
+    })
 }
 
 // Ring: the part of a file that is a context's ring; an empty part on a refusal.
+#[tactic(auto, using(crate::proofs::RingParts::parts))]
 pub fn ring(file: &[u8], context: usize) -> &[u8]
     ensures { result.now ≡ ring_part file.now (ring_call file.now context) }
 {
@@ -51,6 +45,7 @@ pub fn ring(file: &[u8], context: usize) -> &[u8]
 }
 
 // Opens a file and writes it again: the buffer then begins with the file's bytes, and its later bytes stay. A refusal leaves the buffer as it is.
+#[tactic(auto, using(crate::proofs::Rewritten::steps))]
 pub fn open_write(file: &[u8], out: &mut [u8]) -> Result<usize, Refusal>
     ensures result_value { told result ≡ length_of (copied_back file.now out.old) }
     ensures out_after { out.new ≡ buffer_after (copied_back file.now out.old) out.old }

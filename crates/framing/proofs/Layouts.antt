@@ -12,7 +12,7 @@ use Rattle.lists.specs.Tests.{empty}
 use Rattle.lists.specs.Words.{word}
 use Rattle.lists.specs.Spans.{stretch}
 use Rattle.model.specs.Outcome.{Outcome, accepted, refused, ◌>>=◌}
-use Rattle.model.specs.Plan.{Plan}
+use Rattle.model.specs.Plan.{Plan, dart_count}
 use Rattle.model.specs.File.{Sheet, charted, frame, frame_rings, frame_rest, optional, chart_in, sheet_of, decode}
 use Rattle.framing.specs.declared.layout.Parts.{Parts}
 use Rattle.arrays.specs.Parts.{word_of}
@@ -44,6 +44,58 @@ module _ (file : List ℕ) where
         → (o >>= λ (bs : List (List ℕ)). accepted (b ∷ bs)) ≡ frame_rest ((kind, size) ∷ due) (cursor file at)
     unfolding frame_rest
     due_there b e o f r = rw (h, ← f, ← r)
+
+-- what stands behind the rings of n contexts, step by step: so many labels are due first
+module _ (file : List ℕ) (n at darts : ℕ) (w : darts ≡ dart_count n) (h : empty (drop at file) ≡ false) where
+  abbrev behind : ℕ
+  behind = at + 4 + darts
+
+  abbrev numbers : ℕ
+  numbers = 4 + 4 * n
+
+  abbrev last : ℕ
+  last = behind + 4 + numbers
+
+  -- no labels
+  pub labels_off : (k p : ℕ) → refused k p ≡ frame (cursor file at) 3 (eqb darts) → refused k p ≡ frame_rest (optional n) (cursor file at)
+  unfolding optional
+  labels_off k p e = due-refused file 3 darts ((4, numbers) ∷ []) at h k p e ∙ ap (λ (d : ℕ). frame_rest ((3, d) ∷ (4, numbers) ∷ []) (cursor file at)) w
+
+  module _ (e : accepted (stretch file (at + 4) darts, cursor file behind) ≡ frame (cursor file at) 3 (eqb darts)) where
+    -- labels, and what follows them
+    labels_then : (o : Outcome (List (List ℕ))) → o ≡ frame_rest ((4, numbers) ∷ []) (cursor file behind)
+        → (o >>= λ (bs : List (List ℕ)). accepted (labels_in file n (at + 4) ∷ bs)) ≡ frame_rest (optional n) (cursor file at)
+    unfolding optional
+    labels_then o r =
+        ap (λ (d : ℕ). o >>= λ (bs : List (List ℕ)). accepted (stretch file (at + 4) d ∷ bs)) (sym w)
+        ∙ due_there file 3 darts ((4, numbers) ∷ []) at h (stretch file (at + 4) darts) behind o e r
+        ∙ ap (λ (d : ℕ). frame_rest ((3, d) ∷ (4, numbers) ∷ []) (cursor file at)) w
+
+    -- the end
+    pub labels_last : empty (drop behind file) ≡ true → accepted (labels_in file n (at + 4) ∷ []) ≡ frame_rest (optional n) (cursor file at)
+    labels_last g = labels_then (accepted []) (rest_end file ((4, numbers) ∷ []) behind g)
+
+    module _ (g : empty (drop behind file) ≡ false) where
+      -- no chart
+      pub chart_off : (k p : ℕ) → refused k p ≡ frame (cursor file behind) 4 (eqb numbers) → refused k p ≡ frame_rest (optional n) (cursor file at)
+      chart_off k p b = labels_then (refused k p) (due-refused file 4 numbers [] behind g k p b)
+
+      module _ (b : accepted (stretch file (behind + 4) numbers, cursor file last) ≡ frame (cursor file behind) 4 (eqb numbers)) where
+        chart_then : (o : Outcome (List (List ℕ))) → o ≡ frame_rest [] (cursor file last)
+            → (o >>= λ (bs : List (List ℕ)). accepted (labels_in file n (at + 4) ∷ stretch file (behind + 4) numbers ∷ bs)) ≡ frame_rest (optional n) (cursor file at)
+        chart_then (accepted bs) r = labels_then (accepted (stretch file (behind + 4) numbers ∷ bs)) (due_there file 4 numbers [] behind g (stretch file (behind + 4) numbers) last (accepted bs) b r)
+        chart_then (refused k p) r = labels_then (refused k p) (due_there file 4 numbers [] behind g (stretch file (behind + 4) numbers) last (refused k p) b r)
+
+        -- a chart that is not the last record
+        pub end_off : (k p : ℕ) → refused k p ≡ frame_rest [] (cursor file last) → refused k p ≡ frame_rest (optional n) (cursor file at)
+        end_off k p r = chart_then (refused k p) r
+
+        -- one that is
+        pub chart_last : accepted [] ≡ frame_rest [] (cursor file last) → accepted (labels_in file n (at + 4) ∷ stretch file (behind + 4) numbers ∷ []) ≡ frame_rest (optional n) (cursor file at)
+        chart_last r = chart_then (accepted []) r
+
+-- for the function that frames it
+pub ruleset parts_steps = (rest_end, labels_off, labels_last, chart_off, end_off, chart_last)
 
 -- the sheet of a plan and the bodies that the offsets name
 pub sheet_bodies : (file : List ℕ) (n : ℕ) (p : Plan) (parts : Parts) → sheet_with file n p parts ≡ sheet_of p (bodies_in file n parts)

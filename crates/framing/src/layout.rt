@@ -2,6 +2,7 @@
 
 ghost use Rattle.std.specs.Prelude.{◌≡◌, ◌≤◌};
 ghost use Rattle.lists.specs.Spans.{stretch, padded};
+ghost use Rattle.model.specs.Plan.{dart_count};
 ghost use Rattle.framing.specs.Parts.{Near, Near-prop};
 
 // What follows the plan: nothing, labels, or labels and a chart. Each number is an offset: of the label bytes, and of the chart's numbers.
@@ -22,4 +23,13 @@ pub struct Layout {
     pub ghost few: { n ≤ 200 },
     pub ghost tidy: { sizes ≡ padded 200 (stretch sizes 0 n) },
     pub ghost near: { Near parts } by { Near-prop parts },
+}
+
+impl Layout {
+    // How many darts the plan has where it keeps the rules, and so how many labels follow it.
+    pub fn darts(&self) -> usize
+        ensures { result ≡ dart_count self.now.n }
+    {
+        rings::dart_count(self.n)
+    }
 }

@@ -109,6 +109,7 @@ impl<'a> Cursor<'a> {
     }
 
     // What stands behind the rings, which end here: the end, or labels; behind labels the end, or a chart; behind a chart the end.
+    #[tactic(auto, using(crate::proofs::Layouts::parts_steps))]
     fn parts(&self, n: usize) -> Result<Parts, Refusal>
         requires le_n { 5 ≤ n }
         requires n_bound { n ≤ 200 }
@@ -119,7 +120,7 @@ impl<'a> Cursor<'a> {
         if self.is_end() {
             return Ok(Parts::Plan);
         }
-        let darts = 6 * n - 14;
+        let darts = rings::dart_count(n);
         self.due(Record::Labels, darts)?;
         let labels = self.at + 4;
         let behind = Cursor {

@@ -3,10 +3,12 @@ use Prim.Native.Nat.{ℕ, ◌≤◌, ◌<◌}
 use mathlib.Core.Path.{◌≡◌, refl, sym, ap, ◌∙◌}
 use mathlib.Core.List.{List}
 use mathlib.Core.Bool.{Bool, true, false, cond}
+use mathlib.Core.Logic.{◌⊎◌, inl, inr}
 use native.Mathlib.Omega.{arith}
 use borrow.Author.Tests.{le-leb, ltb-true, ltb-false}
 use Rattle.model.specs.Outcome.{Outcome, refused, passed, require, ◌>>=◌, ◌>>◌}
 use Rattle.model.specs.Plan.{count}
+use Rattle.model.specs.Labels.{label_rules}
 use Rattle.model.specs.Chart.{Chart, chart, same_chart}
 use Rattle.model.specs.File as file
 use Rattle.rings.specs.Tables.{start_of, in_bounds}
@@ -52,6 +54,14 @@ module _ (s : Sheet) (f : fits s ≡ true) where
         ap (λ (t : Bool). require t 12 0) (q ∙ λ i. same_chart (held i) (chart_on n (pw i) (ph i) (px i) (py i)))
         ∙ ap Compare (ap (λ (v : Result Drawn Refusal). drawn_as v n) (sym w) ∙ drawn-held)
 
+  -- so by what the test of it says
+  module _ (r : Result Drawn Refusal) (p : Drawn) (k m : Points) {sizes es ls : List ℕ} {n : ℕ} {t : Bool} (is : drawn_as r n ≡ chart_for sizes es n ls) (w : r ≡ Ok p) (q : t ≡ same_chart (chart_in n k) (chart_in n m)) where
+    pub compared_same : t ≡ true → sizes ≡ s.sizes → es ≡ s.entries → n ≡ s.n → ls ≡ held_labels s → chart_in s.n k ≡ held_chart s → m.w ≡ p.w → m.h ≡ p.h → m.xs.now ≡ p.xs → m.ys.now ≡ p.ys → passed ≡ chart_rules (held_plan s) (held_labels s) (held_chart s)
+    compared_same v a b e l mine pw ph px py = ap (λ (y : Bool). require y 12 0) (sym v) ∙ compared r a b e l is p w k m mine pw ph px py q
+
+    pub compared_other : t ≡ false → sizes ≡ s.sizes → es ≡ s.entries → n ≡ s.n → ls ≡ held_labels s → chart_in s.n k ≡ held_chart s → m.w ≡ p.w → m.h ≡ p.h → m.xs.now ≡ p.xs → m.ys.now ≡ p.ys → refused 12 0 ≡ chart_rules (held_plan s) (held_labels s) (held_chart s)
+    compared_other v a b e l mine pw ph px py = ap (λ (y : Bool). require y 12 0) (sym v) ∙ compared r a b e l is p w k m mine pw ph px py q
+
 -- ---- one part of the rules before another
 pub first-refused : {A : Type 0} (a : Outcome (Unit {0})) (b : Outcome A) {k at : ℕ} → refused k at ≡ a → refused k at ≡ (a >> b)
 first-refused a b e = ap (λ (o : Outcome (Unit {0})). o >> b) e
@@ -77,6 +87,20 @@ module _ (s : Sheet) where
     -- 10 to 12 by the stage that counts
     pub from_10_at : rules_from_10 (held g s) ≡ rules_from_10 (reads s)
     from_10_at = ap (λ (t : Stage). rules_from_10 (held t s)) e ∙ ap rules_from_10 (sym (reads-stage s))
+
+    -- at EMPTY and OPEN there is nothing to judge; then what is said of the labels, and of the chart, is what the rules say
+    pub bare_at : (g ≡ Empty) ⊎ (g ≡ Open) → passed ≡ rules_from_10 (reads s)
+    unfolding held rules_from_10
+    bare_at (inl w) = ap (λ (t : Stage). rules_from_10 (held t s)) (sym w) ∙ from_10_at
+    bare_at (inr w) = ap (λ (t : Stage). rules_from_10 (held t s)) (sym w) ∙ from_10_at
+
+    pub labelled_at : {o : Outcome (Unit {0})} → o ≡ label_rules (held_plan s) (held_labels s) → g ≡ Labelled → o ≡ rules_from_10 (reads s)
+    unfolding held rules_from_10
+    labelled_at q w = q ∙ ap (λ (t : Stage). rules_from_10 (held t s)) (sym w) ∙ from_10_at
+
+    pub charted_at : {o : Outcome (Unit {0})} → o ≡ rules_from_10 (file.charted (held_plan s) (held_labels s) (held_chart s)) → g ≡ Charted → o ≡ rules_from_10 (reads s)
+    unfolding held
+    charted_at q w = q ∙ ap (λ (t : Stage). rules_from_10 (held t s)) (sym w) ∙ from_10_at
 
     -- past EMPTY the plan fits
     pub fits-at : 1 ≤ rank g → fits s ≡ true
@@ -110,3 +134,7 @@ pub ruleset parts = (first-refused, first-passed)
 pub ruleset flat_parts = (first-refused, first-passed, rings-held)
 
 pub ruleset from_8_parts = (first-refused, first-passed, none-from_8, flat_there, below, ltb-true, ltb-false)
+
+pub ruleset chart_parts = (undrawn, compared_same, compared_other)
+
+pub ruleset from_10_parts = (none-from_10, bare_at, labelled_at, charted_at, fits-at, below, ltb-true)

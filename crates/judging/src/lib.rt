@@ -32,7 +32,7 @@ fn label_part(fitting: &Fitting) -> Result<(), Refusal>
 }
 
 // 11 and 12 of a sheet whose plan fits: the chart in its arrays is the plan's chart.
-#[tactic(auto, using(crate::proofs::Rules::undrawn))]
+#[tactic(auto, using(crate::proofs::Rules::chart_parts))]
 fn chart_part(fitting: &Fitting) -> Result<(), Refusal>
     ensures { told result ≡ chart_rules (held_plan fitting.now.sheet.now) (held_labels fitting.now.sheet.now) (held_chart fitting.now.sheet.now) }
 {
@@ -55,6 +55,7 @@ fn charted_part(fitting: &Fitting) -> Result<(), Refusal>
 }
 
 // 10 to 12 of a sheet: of its labels and its chart, where it has them. One without labels is passed at once, before its plan is read.
+#[tactic(auto, using(crate::proofs::Rules::from_10_parts), unfolding(sheet::specs::Sheets::rank))]
 pub fn rules_from_10(sheet: &Sheet) -> Result<(), Refusal>
     ensures { told result ≡ rules_from_10 (reads sheet.now) }
 {

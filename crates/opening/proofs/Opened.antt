@@ -2,7 +2,7 @@
 use Prim.Native.Nat.{ℕ, zero, suc, ◌+◌, ◌*◌, ◌≤◌, min}
 use mathlib.Core.Path.{◌≡◌, refl, sym, ap, ◌∙◌}
 use mathlib.Core.List.{List, ◌∷◌, map}
-use mathlib.Core.Bool.{true}
+use mathlib.Core.Bool.{true, false}
 use native.Mathlib.Omega.{arith}
 use lib.ListN.{length, get_or, drop}
 use lib.Dec.{eqb}
@@ -33,6 +33,7 @@ use Rattle.sheet.specs.declared.Stage.TheVariants.{Open, Labelled, Charted}
 use Rattle.sheet.specs.Sheets.{reads, pack, packed}
 use Rattle.sheet.specs.Answers.{packed_as}
 use Rattle.opening.specs.Opening.{lent_rules, lent_of, due}
+use Rattle.opening.proofs.Lent.{four_refused, five_refused, six_refused, seven_judged}
 use Rattle.fit.specs.Fits.{fit}
 use Rattle.fit.proofs.Fits.{says-fit}
 use Rattle.sheet.proofs.Packed.{Held, reads-packed}
@@ -172,6 +173,34 @@ unfolding due
 due_entries starts sizes b n low few =
     let m : n ≡ min n 200 = omega arith in
     rw (le-leb 5 n low) (ap (λ (k : ℕ). eqb k (dart_count n)) (entry-count-lent starts sizes b n ∙ ap (start_of sizes) m))
+
+-- 4 to 7 one after another, where the rings begin at these starts
+module _ (b : List ℕ) (l : Layout) (starts : List ℕ) (w : starts ≡ starts_of l.sizes) where
+  abbrev p : Plan
+  p = lent starts l.sizes b l.n
+
+  pub four_off : (k u : ℕ) → refused k u ≡ rule 4 l.n (bad_entry p) → refused k u ≡ lent_of (laid b l)
+  four_off k u e = four_refused l.n p k u e ∙ lent_there b l w
+
+  module _ (e4 : passed ≡ rule 4 l.n (bad_entry p)) where
+    pub five_off : (k u : ℕ) → refused k u ≡ rule 5 l.n (bad_repeat p) → refused k u ≡ lent_of (laid b l)
+    five_off k u e = five_refused l.n p e4 k u e ∙ lent_there b l w
+
+    module _ (e5 : passed ≡ rule 5 l.n (bad_repeat p)) where
+      pub six_off : (k u : ℕ) → refused k u ≡ rule 6 l.n (unreturned p) → refused k u ≡ lent_of (laid b l)
+      six_off k u e = six_refused l.n p e4 e5 k u e ∙ lent_there b l w
+
+      module _ (e6 : passed ≡ rule 6 l.n (unreturned p)) where
+        pub seven_kept : due l.sizes l.n ≡ true → passed ≡ lent_of (laid b l)
+        seven_kept e = seven_judged l.n p e4 e5 e6 (due_entries starts l.sizes b l.n l.enough l.few ∙ e) ∙ lent_there b l w
+
+        pub seven_off : due l.sizes l.n ≡ false → refused 7 0 ≡ lent_of (laid b l)
+        seven_off e = seven_judged l.n p e4 e5 e6 (due_entries starts l.sizes b l.n l.enough l.few ∙ e) ∙ lent_there b l w
+
+-- for the functions that judge a file in parts
+pub ruleset ring_steps = (four_off, five_off, six_off, seven_kept, seven_off)
+
+pub ruleset rule_steps = (room_in, open_early, open-late, open-whole)
 
 -- ---- the sheet in a file, packed
 -- how long the rings in a file are

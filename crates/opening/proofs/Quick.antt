@@ -10,10 +10,12 @@ use borrow.Author.Tests.{leb-true, eqb-true, le-leb, eq-eqb}
 use Rattle.lists.specs.Parts.{concat}
 use Rattle.lists.specs.Spans.{stretch, padded}
 use Rattle.lists.proofs.Bools.{and_yes}
-use Rattle.model.specs.Outcome.{passed}
+use Rattle.model.specs.Outcome.{accepted, refused, passed}
 use Rattle.model.specs.Plan.{Plan, count, bad_entry, bad_repeat, unreturned, bad_border, bad_face, dart_count}
 use Rattle.model.specs.Chart.{Chart}
 use Rattle.model.specs.File as file
+use Rattle.model.specs.File.{decode}
+use Rattle.model.specs.Calls.{open_call}
 use Rattle.rings.specs.Tables.{start_of, starts_of, table}
 use Rattle.lent.proofs.Rings.{count-lent}
 use Rattle.lent.proofs.Copied.{copied-padded, entry-count-lent}
@@ -24,13 +26,14 @@ use Rattle.sheet.specs.declared.Sheet.{Sheet}
 use Rattle.sheet.specs.declared.Stage.{Stage}
 use Rattle.sheet.specs.declared.Stage.TheVariants.{Empty, Open, Labelled, Charted}
 use Rattle.sheet.specs.Sheets.{held_plan, held, fits, reads, pack, no_chart, packed}
+use Rattle.sheet.specs.Answers.{packed_as}
 use Rattle.sound.specs.Sound.{sound}
 use Rattle.sound.proofs.Sound.{four_kept, five_kept, six_kept, eight_kept, nine_kept}
 use Rattle.opening.specs.Opening.{lent_rules, lent_of, due}
 use Rattle.judging.specs.Rules.{flat_rules, flat_of, rules_from_10, rules_from_8}
 use Rattle.judging.proofs.Rules.{first-passed}
 use Rattle.opening.proofs.Lent.{rule_kept, seven_judged}
-use Rattle.opening.proofs.Opened.{sizes_lent}
+use Rattle.opening.proofs.Opened.{open-late, open-whole, sizes_lent}
 
 -- ---- the test as the code makes it
 pub due_total : (sizes : List ℕ) (n : ℕ) {t : ℕ} → 5 ≤ n → t ≡ start_of sizes (min n 200) → eqb t (6 * n - 14) ≡ due sizes n
@@ -105,3 +108,14 @@ quick_laid b l d t e s = go l.parts (ap (λ (r : Sheet). sound (held_plan r)) (s
     go Parts.Plan f = kept Open [] no_chart f
     go (Parts.Labels labels) f = kept Labelled (labels_in b l.n labels) no_chart f
     go (Parts.Chart labels chart) f = kept Charted (labels_in b l.n labels) (chart_from b l.n chart) f
+
+-- so 8 and 9 too, and 10 to 12 say what the call gives
+module _ (b : List ℕ) (l : Layout) (is : decode b ≡ accepted (laid b l)) (d : due l.sizes l.n ≡ true) (t : Sheet) (e : t ≡ packed (laid b l)) (s : sound (held_plan t) ≡ true) where
+  pub quick_late : (k at : ℕ) → refused k at ≡ rules_from_10 (reads t) → refused k at ≡ packed_as (open_call b)
+  quick_late k at q = open-late b (laid b l) is (quick_laid b l d t e s) t e k at (q ∙ quick_held t s)
+
+  pub quick_whole : passed ≡ rules_from_10 (reads t) → accepted t ≡ packed_as (open_call b)
+  quick_whole q = open-whole b (laid b l) is (quick_laid b l d t e s) t e (q ∙ quick_held t s)
+
+-- for the function that opens a file
+pub ruleset quick_steps = (due-room, quick_late, quick_whole)

@@ -39,7 +39,7 @@ impl<'a> Bounded<'a> {
         ensures { result ≡ padded 1186 (labels_in self.now.file.now self.now.layout.now.n at) }
     {
         let rest = &self.file[at.min(self.file.len())..];
-        let count = rest.len().min(6 * self.layout.n - 14);
+        let count = rest.len().min(self.layout.darts());
         let mut labels = [0u8; 1186];
         labels[..count].copy_from_slice(&rest[..count]);
         labels

@@ -3,14 +3,15 @@
 
 mod bounded;
 
-ghost use Rattle.std.specs.Prelude.{◌≡◌};
+ghost use Rattle.std.specs.Prelude.{◌≡◌, ◌≤◌};
 ghost use Rattle.model.specs.Outcome.{accepted};
 ghost use Rattle.model.specs.File.{decode};
 ghost use Rattle.model.specs.Calls.{open_call};
 ghost use Rattle.refusal.specs.Refusals.{told};
+ghost use Rattle.rings.specs.Tables.{start_of};
 ghost use Rattle.sound.specs.Sound.{sound};
 ghost use Rattle.framing.specs.Layouts.{laid};
-ghost use Rattle.sheet.specs.Sheets.{held_plan};
+ghost use Rattle.sheet.specs.Sheets.{held_plan, packed};
 ghost use Rattle.sheet.specs.Answers.{packed_as};
 ghost use Rattle.opening.specs.Opening.{lent_of, due};
 
@@ -40,10 +41,11 @@ impl<'a> Framed<'a> {
     fn is_due(&self) -> bool
         ensures { result ≡ due self.now.layout.now.sizes self.now.layout.now.n }
     {
-        fit::total_of(&self.layout.sizes, self.layout.n) == 6 * self.layout.n - 14
+        fit::total_of(&self.layout.sizes, self.layout.n) == self.layout.darts()
     }
 
     // 4 to 7 of the plan, where it stands in the file.
+    #[tactic(auto, using(crate::proofs::Opened::ring_steps))]
     fn ring_rules(&self) -> Result<(), Refusal>
         ensures { told result ≡ lent_of (laid self.now.file.now self.now.layout.now) }
     {
@@ -64,32 +66,38 @@ impl<'a> Framed<'a> {
         }
     }
 
+    // The sheet that the file holds, where all rings have no more entries than it has room for.
+    fn sheet(&self) -> Sheet
+        requires { start_of self.now.layout.now.sizes self.now.layout.now.n ≤ 1186 }
+        ensures { result ≡ packed (laid self.now.file.now self.now.layout.now) }
+    {
+        let bounded = Bounded {
+            file: self.file,
+            layout: self.layout,
+        };
+        bounded.sheet()
+    }
+
     // Opens the file: each rule is judged in its turn.
+    #[tactic(auto, using(crate::proofs::Opened::rule_steps))]
     fn opened_by_rules(&self) -> Result<Sheet, Refusal>
         requires { decode self.now.file.now ≡ accepted (laid self.now.file.now self.now.layout.now) }
         ensures { told result ≡ packed_as (open_call self.now.file.now) }
     {
         self.ring_rules()?;
-        let bounded = Bounded {
-            file: self.file,
-            layout: self.layout,
-        };
-        let sheet = bounded.sheet();
+        let sheet = self.sheet();
         judging::rules_from_8(&sheet)?;
         Ok(sheet)
     }
 
     // Opens the file: 4 to 9 are judged at once where the plan is sound.
+    #[tactic(auto, using(crate::proofs::Quick::quick_steps))]
     fn opened(&self) -> Result<Sheet, Refusal>
         requires { decode self.now.file.now ≡ accepted (laid self.now.file.now self.now.layout.now) }
         ensures { told result ≡ packed_as (open_call self.now.file.now) }
     {
         if self.is_due() {
-            let bounded = Bounded {
-                file: self.file,
-                layout: self.layout,
-            };
-            let sheet = bounded.sheet();
+            let sheet = self.sheet();
             if is_sound(&sheet) {
                 judging::rules_from_10(&sheet)?;
                 return Ok(sheet);

@@ -18,6 +18,7 @@ use sheet::{Sheet, Stage};
 use writing::{Held, Parts};
 
 // What a file of the sheet holds: the plan, and what the stage has besides. At EMPTY there is no file, and this is not used.
+#[tactic(auto, unfolding(crate::specs::FileParts::written_at))]
 fn held_of(sheet: &Sheet) -> Held
     ensures { sheet_held result ≡ written_at sheet.now.stage sheet.now }
 {

@@ -1,5 +1,5 @@
 -- What a struct reads as, by the number of its stage; and what a call answers and leaves.
-use Prim.Native.Nat.{ℕ, ◌≤◌, ◌<◌, min}
+use Prim.Native.Nat.{ℕ, ◌≤◌, ◌<◌, min, max}
 use mathlib.Core.Path.{◌≡◌, refl, sym, ap, ◌∙◌}
 use mathlib.Core.List.{List}
 use mathlib.Core.Bool.{Bool, true, false, cond}
@@ -11,7 +11,7 @@ use Rattle.lists.proofs.Stretches.{stretch-front}
 use lib.Dec.{leb, ltb}
 use borrow.Author.Tests.{leb-true, leb-false, lt-leb}
 use Rattle.std.specs.Prelude.{Ok, Err}
-use Rattle.std.specs.Ordering.{partial_lt}
+use Rattle.std.specs.Ordering.{partial_lt, ord_max}
 use Rattle.std.proofs.lemmas.Bool.Decides.{nat_tests}
 use Rattle.model.specs.Outcome.{Outcome, accepted, refused, passed, require, rule, taken, ◌>>◌}
 use Rattle.std.specs.declared.result.Result.{Result}
@@ -28,6 +28,7 @@ use Rattle.rings.specs.Tables.{start_of, starts_of, rows, table}
 use Rattle.rings.proofs.Rows.{count-rows, held_small}
 use Rattle.fit.proofs.Fits.{fit-says, total-is, all-counted}
 use Rattle.model.proofs.Outcomes.{not-both, require-passed}
+use Rattle.sheet.specs.contracts.StageOrd.TheImpl.{cmp-value}
 use Rattle.sheet.specs.contracts.StagePartialOrd.TheImpl.{partial_cmp-value}
 use Rattle.sheet.specs.declared.Sheet.{Sheet}
 use Rattle.sheet.specs.declared.Stage.{Stage}
@@ -194,32 +195,78 @@ stage_order g h = ap (λ (b : Bool). cond b (refused 13 0) passed) (below h g) �
     turned : (a b : ℕ) → cond (ltb b a) (refused 13 0) passed ≡ require (leb a b) 13 0
     turned a b = grind (arith, nat_tests)
 
-module _ (s : Sheet) (g : Stage) (r : Result (Unit {0}) Refusal) (q : told r ≡ require (leb (rank g) (rank (stage_read s))) 13 0) where
-  -- it is reached
-  pub stage_reached : (u : Unit {0}) → r ≡ Ok u → rank g ≤ rank (stage_read s)
-  stage_reached u e = leb-true (rank g) (rank (stage_read s)) (require-passed (leb (rank g) (rank (stage_read s))) 13 0 (sym q ∙ ap told e))
+-- what the answer of a test for a stage says, whatever else it gives
+module _ (s : Sheet) (k : ℕ) {A : Type 0} (r : Result A Refusal) (q : answer_of (told r) ≡ require (leb k (rank (stage_read s))) 13 0) where
+  says : {v : Result A Refusal} → r ≡ v → answer_of (told v) ≡ require (leb k (rank (stage_read s))) 13 0
+  says e = ap (λ (w : Result A Refusal). answer_of (told w)) (sym e) ∙ q
 
-  -- and the plan fits, where that stage is past EMPTY
+  -- the stage is reached
+  pub fitting_reached : (a : A) → r ≡ Ok a → k ≤ rank (stage_read s)
+  unfolding answer_of
+  fitting_reached a e = leb-true k (rank (stage_read s)) (require-passed (leb k (rank (stage_read s))) 13 0 (sym (says e)))
+
+  -- it is too early
+  pub fitting_missed : (f : Refusal) → r ≡ Err f → rank (stage_read s) < k
+  unfolding answer_of
+  fitting_missed f e = go (leb k (rank (stage_read s))) refl
+    where
+      go : (b : Bool) → leb k (rank (stage_read s)) ≡ b → rank (stage_read s) < k
+      go true t = not-both (says e ∙ ap (λ (b : Bool). require b 13 0) t)
+      go false t = leb-false k (rank (stage_read s)) t
+
+  -- and the refusal is 13, whatever the call answers else
+  pub fitting_refused : {B : Type 0} → (f : Refusal) → r ≡ Err f → told {A = B} (Err f) ≡ refused 13 0
+  unfolding answer_of
+  fitting_refused {B} f e =
+      let h = fitting_missed f e in
+      ap (λ (o : Outcome (Unit {0})). o >> other) (says e ∙ ap (λ (b : Bool). require b 13 0) (lt-leb k (rank (stage_read s)) h))
+    where
+      other : Outcome B
+      other = refused 13 0
+
+-- so of a test that gives nothing else
+module _ (s : Sheet) (g : Stage) (r : Result (Unit {0}) Refusal) (q : told r ≡ require (leb (rank g) (rank (stage_read s))) 13 0) where
+  alone : answer_of (told r) ≡ require (leb (rank g) (rank (stage_read s))) 13 0
+  unfolding answer_of
+  alone = go r ∙ q
+    where
+      go : (v : Result (Unit {0}) Refusal) → answer_of (told v) ≡ told v
+      go (Ok tt) = refl
+      go (Err f) = refl
+
+  pub stage_reached : (u : Unit {0}) → r ≡ Ok u → rank g ≤ rank (stage_read s)
+  stage_reached = fitting_reached s (rank g) r alone
+
+  pub stage_missed : (f : Refusal) → r ≡ Err f → rank (stage_read s) < rank g
+  stage_missed = fitting_missed s (rank g) r alone
+
+  pub stage_refused : {A : Type 0} → (f : Refusal) → r ≡ Err f → told {A = A} (Err f) ≡ refused 13 0
+  stage_refused = fitting_refused s (rank g) r alone
+
+  -- and past EMPTY the plan fits
   pub reached_fits : (u : Unit {0}) → r ≡ Ok u → 1 ≤ rank g → fits s ≡ true
   reached_fits u e h = let k = stage_reached u e in fits_there s (omega arith)
 
-  -- it is too early
-  pub stage_missed : (f : Refusal) → r ≡ Err f → rank (stage_read s) < rank g
-  stage_missed f e = go (leb (rank g) (rank (stage_read s))) refl
+-- the test for the later of a stage and OPEN, and that the plan fits where it passes
+module _ (s : Sheet) (g m : Stage) (e : m ≡ ord_max cmp-value.it g Open) where
+  open_up : rank m ≡ max (rank g) 1
+  unfolding rank
+  open_up = ap rank e ∙ go g
     where
-      go : (b : Bool) → leb (rank g) (rank (stage_read s)) ≡ b → rank (stage_read s) < rank g
-      go true t = not-both (sym (ap told e) ∙ q ∙ ap (λ (b : Bool). require b 13 0) t)
-      go false t = leb-false (rank g) (rank (stage_read s)) t
+      go : (h : Stage) → rank (ord_max cmp-value.it h Open) ≡ max (rank h) 1
+      go Empty = refl
+      go Open = refl
+      go Labelled = refl
+      go Charted = refl
 
-  -- and the refusal is 13, whatever the call answers else
-  pub stage_refused : {A : Type 0} → (f : Refusal) → r ≡ Err f → told {A = A} (Err f) ≡ refused 13 0
-  stage_refused {A} f e =
-      let k = stage_missed f e in
-      ap (λ (o : Outcome (Unit {0})). o >> other)
-      (sym (ap told e) ∙ q ∙ ap (λ (b : Bool). require b 13 0) (lt-leb (rank g) (rank (stage_read s)) k))
-    where
-      other : Outcome A
-      other = refused 13 0
+  pub open_test : {o : Outcome (Unit {0})} → o ≡ require (leb (rank m) (rank (stage_read s))) 13 0 → o ≡ require (leb (max (rank g) 1) (rank (stage_read s))) 13 0
+  open_test q = q ∙ ap (λ (k : ℕ). require (leb k (rank (stage_read s))) 13 0) open_up
+
+  pub open_fits : passed ≡ require (leb (rank m) (rank (stage_read s))) 13 0 → fits s ≡ true
+  open_fits q = reached_fits s m (Ok tt) q tt refl (omega (arith, open_up))
+
+-- for the function that gives a sheet that fits
+pub ruleset fitting_steps = (open_test, open_fits)
 
 -- ---- what a call gives
 -- where the model's call is refused

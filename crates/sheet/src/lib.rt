@@ -1,13 +1,14 @@
 // The sheet: plan, labels and chart in flat arrays. The calls that change it take and return it by value; all else is lent it.
 #![tactic(auto)]
 
-ghost use Rattle.std.specs.Prelude.{◌≡◌, true, min, take, leb};
+ghost use Rattle.std.specs.Prelude.{◌≡◌, true, min, max, take, leb, IfOk};
 ghost use Rattle.model.specs.Outcome.{require};
 ghost use Rattle.model.specs.File.{fresh};
 ghost use Rattle.refusal.specs.Refusals.{told};
 ghost use Rattle.rings.specs.Tables.{start_of, table_of};
 ghost use Rattle.charts.specs.Charts.{chart_in};
 ghost use Rattle.sheet.specs.Sheets.{packed, held_plan, held_labels, held_chart, fits, stage_read, rank};
+ghost use Rattle.sheet.specs.Answers.{answer_of};
 
 use charts::Points;
 use refusal::Refusal;
@@ -163,4 +164,14 @@ pub fn require_stage(sheet: &Sheet, stage: Stage) -> Result<(), Refusal>
     } else {
         Ok(())
     }
+}
+
+// A sheet whose plan fits, where it has come as far as this stage and past Empty; else the refusal of a stage too early.
+#[tactic(auto, using(crate::proofs::Reading::fitting_steps), unfolding(crate::specs::Answers::answer_of))]
+pub fn require_fitting(sheet: &Sheet, stage: Stage) -> Result<Fitting, Refusal>
+    ensures answer { answer_of (told result) ≡ require (leb (max (rank stage) 1) (rank (stage_read sheet.now))) 13 0 }
+    ensures lent { IfOk result (λ f. f.sheet.now ≡ sheet.now) }
+{
+    require_stage(sheet, stage.max(Stage::Open))?;
+    Ok(Fitting { sheet })
 }

@@ -1,33 +1,43 @@
 -- Faces counted one after another: over the entries of a ring, and over all contexts.
-use Rattle.std.proofs.Common.{◌^◌, subst, ◌≡◌, ℕ, suc, ◌+◌, ◌-◌, ◌<◌, ◌≤◌, Bool, true, false, cond, ◌&&◌, eqb, ltb, List, [], ◌∷◌, ◌++◌, map, length, get_or, ℤ, pos, negsuc, nat_abs, sym, refl, ap, ◌∙◌, add-one, arith, le-ltb, lt-ltb, eq-eqb}
+use Rattle.std.proofs.Common.{◌^◌, subst, ◌≡◌, ℕ, zero, suc, ◌+◌, ◌-◌, ◌<◌, ◌≤◌, Bool, true, false, cond, ◌&&◌, eqb, ltb, List, [], ◌∷◌, ◌++◌, map, length, get_or, ℤ, pos, negsuc, nat_abs, sym, refl, ap, ◌∙◌, add-one, arith, le-ltb, lt-ltb, eq-eqb}
 use mathlib.Core.List.{map-map}
+use denote.Param.Members.{Mut}
 use lib.Signed.{mag}
+use mir.Syntax.{w64}
+use mir.Val.{SFits, to_z, of_z}
+use mir.ValLaws.{to_z-of_z}
 use Rattle.std.specs.Prelude.{Ok, Err}
 use Rattle.std.specs.declared.result.Result.{Result}
 use Rattle.std.specs.Result.{OkIff, result_unwrap_or}
 use Rattle.std.specs.Int.{FitsUnsignedBits}
+use Rattle.std.specs.Fn.{Called}
+use Rattle.std.specs.Iterator.{Drains}
+use Rattle.std.specs.List.{FoldsTo, fold, range_with_len}
+use Rattle.std.proofs.iter.Yields.{nat_range_steps}
+use Rattle.std.proofs.lemmas.Iterator.{YieldsList-from_range}
+use Rattle.std.proofs.lemmas.Iterator.Consumers.{fold_from_yields_List}
 use Rattle.lists.specs.Ranges.{from}
 use Rattle.lists.specs.Parts.{concat}
-use Rattle.lists.specs.Spans.{span}
-use Rattle.lists.proofs.Spans.{span_more, span_end}
+use Rattle.lists.specs.Spans.{stretch}
 use Rattle.lists.proofs.Stretches.{span_whole}
 use Rattle.model.specs.Plan.{Plan, Dart, Face, count, ring, darts_from, step, walk, on_inner_face, faces_from, faces}
 use Rattle.model.specs.Chart.{Chart}
 use Rattle.model.specs.Geometry.{area}
 use Rattle.survey.specs.declared.Areas.{Areas}
 use Rattle.survey.specs.Surveys.{natural, no_area, with_area, counted, faces_on, surveyed}
+use Rattle.sheet.proofs.Reading.{rings-held}
 use Rattle.survey.proofs.Walks.{face_of}
 
 -- ---- a signed number as one without a sign, or 0
-pub natural_from : (z y : ℤ) {E : Type 0} (r : Result ℕ E) → y ≡ z → mag z < 2 ^ 63 → OkIff r (FitsUnsignedBits 64 y) (nat_abs y) → result_unwrap_or r 0 ≡ natural z
+pub natural_from : {E : Type 0} (r : Result ℕ E) (z : ℤ) → SFits w64 z → OkIff r (FitsUnsignedBits 64 (to_z w64 (of_z w64 z))) (nat_abs (to_z w64 (of_z w64 z))) → result_unwrap_or r 0 ≡ natural z
 unfolding natural
-natural_from z y r q h o = go z r h (subst (λ (x : ℤ). OkIff r (FitsUnsignedBits 64 x) (nat_abs x)) q o)
+natural_from r z h o = go r z h.sfits (subst (λ (x : ℤ). OkIff r (FitsUnsignedBits 64 x) (nat_abs x)) (to_z-of_z w64 z h) o)
   where
-    go : (z : ℤ) {E : Type 0} (r : Result ℕ E) → mag z < 2 ^ 63 → OkIff r (FitsUnsignedBits 64 z) (nat_abs z) → result_unwrap_or r 0 ≡ natural z
-    go (pos k) (Ok x) h o = o.1
-    go (pos k) (Err d) h o = absurd (o (omega arith))
-    go (negsuc k) (Ok x) h o = absurd o.0
-    go (negsuc k) (Err d) h o = refl
+    go : {E : Type 0} (r : Result ℕ E) (z : ℤ) → mag z < 2 ^ 63 → OkIff r (FitsUnsignedBits 64 z) (nat_abs z) → result_unwrap_or r 0 ≡ natural z
+    go (Ok x) (pos k) h o = o.1
+    go (Err d) (pos k) h o = absurd (o (omega arith))
+    go (Ok x) (negsuc k) h o = absurd o.0
+    go (Err d) (negsuc k) h o = refl
 
 -- ---- faces in two parts
 counted-both : (k : Chart) (l m : List Face) (s : Areas) → counted k (l ++ m) s ≡ counted k m (counted k l s)
@@ -74,37 +84,60 @@ module _ (p : Plan) (k : Chart) (u v : ℕ) (s : Areas) where
         let t : ltb u (step p (u, v)).1 ≡ true = lt-ltb u (step p (u, v)).1 (omega arith) in
         ap (λ (x : ℕ). with_area x s) (q ∙ ap (λ (x : ℕ). natural (area k (u ∷ v ∷ x ∷ []))) third) ∙ sym (rw (i, lt-ltb u v l, t))
 
--- ---- the ring of u: while i < e { s = with_dart(s, u, ring[i]); i += 1; }
-pub record Around (p : Plan) (k : Chart) (u e : ℕ) (s₀ : Areas) (i : ℕ) (s : Areas) : Type 0 where
-  pub same : counted k (faces_from p u) s₀ ≡ counted k (concat (map (faces_on p u) (span (ring p u) i e))) s
+-- ---- what `fold` gives of the numbers from 0 up to e, where the closure is a step that leaves what it captures as it is
+folds_range : {F C : Type 0} {g : Mut F (C × (ℕ × Unit {0})) C} (h : C → ℕ → C) (e : ℕ) {f : F} {init r : C}
+    → (xs : List ℕ) × (q : F) × Drains nat_range_steps (record { start = 0; end = e }) xs × FoldsTo {P = F × C} (λ a x b. Called g a.0 (a.1, (x, tt)) b.1 b.0) (f, init) xs (q, r)
+    → ((a : C) (x : ℕ) (b : C) (q : F) → Called g f (a, (x, tt)) b q → (q ≡ f) × (b ≡ h a x))
+    → r ≡ fold h init (range_with_len 0 e)
+folds_range {g = g} h e {init = init} {r = r} ran acts = fold_from_yields_List g h init r ran (YieldsList-from_range 0 e e refl (omega arith)) acts
 
-pub around_start : {p : Plan} {k : Chart} {u e : ℕ} {s : Areas} → e ≡ length (ring p u) → Around p k u e s 0 s
-unfolding faces_from darts_from faces_on
-around_start {p} {k} {u} {e} {s} q = record { same = ap (λ (l : List (List Face)). counted k (concat l) s) (map-map (λ (d : Dart). cond (on_inner_face p d && ltb u d.1 && ltb u (step p d).1) (walk p d ∷ []) []) (λ (v : ℕ). (u, v)) (ring p u)) ∙ ap (λ (l : List ℕ). counted k (concat (map (faces_on p u) l)) s) (sym (span_whole (ring p u) e q)) }
+-- ---- the ring of u: (0..size).fold(s, |all, i| with_dart(all, u, ring[i]))
+entries_from : (p : Plan) (k : Chart) (u i n : ℕ) (s : Areas) → fold (λ (a : Areas) (x : ℕ). counted k (faces_on p u (get_or (ring p u) x 0)) a) s (range_with_len i n) ≡ counted k (concat (map (faces_on p u) (stretch (ring p u) i n))) s
+unfolding counted stretch
+entries_from p k u i zero s = refl
+entries_from p k u i (suc n) s =
+    let f : List Face = faces_on p u (get_or (ring p u) i 0) in
+    entries_from p k u (i + 1) n (counted k f s)
+    ∙ ap (λ (j : ℕ). counted k (concat (map (faces_on p u) (stretch (ring p u) j n))) (counted k f s)) (add-one i)
+    ∙ sym (counted-both k f (concat (map (faces_on p u) (stretch (ring p u) (suc i) n))) s)
 
-module _ {p : Plan} {k : Chart} {u e i : ℕ} {s₀ s : Areas} (inv : Around p k u e s₀ i s) where
-  pub around_on : {s' : Areas} {v : ℕ} → i < e → v ≡ get_or (ring p u) i 0 → s' ≡ counted k (faces_on p u v) s → Around p k u e s₀ (i + 1) s'
-  around_on {s'} {v} h q r = record { same = inv.same ∙ rw (span_more (ring p u) i e h) (counted-both k (faces_on p u (get_or (ring p u) i 0)) (concat (map (faces_on p u) (span (ring p u) (i + 1) e))) s) ∙ ap (counted k (concat (map (faces_on p u) (span (ring p u) (i + 1) e)))) (sym (r ∙ ap (λ (x : ℕ). counted k (faces_on p u x) s) q)) }
+module _ (p : Plan) (k : Chart) where
+  pub around : (u : ℕ) {F : Type 0} {g : Mut F (Areas × (ℕ × Unit {0})) Areas} {e : ℕ} {f : F} {s r : Areas}
+      → (xs : List ℕ) × (q : F) × Drains nat_range_steps (record { start = 0; end = e }) xs × FoldsTo {P = F × Areas} (λ a x b. Called g a.0 (a.1, (x, tt)) b.1 b.0) (f, s) xs (q, r)
+      → e ≡ length (ring p u)
+      → ((a : Areas) (x : ℕ) (b : Areas) (q : F) → Called g f (a, (x, tt)) b q → (q ≡ f) × (b ≡ counted k (faces_on p u (get_or (ring p u) x 0)) a))
+      → r ≡ counted k (faces_from p u) s
+  unfolding faces_from darts_from faces_on
+  around u {e = e} {s = s} ran size acts =
+      let whole : e ≡ e - 0 = omega arith in
+      folds_range (λ (a : Areas) (x : ℕ). counted k (faces_on p u (get_or (ring p u) x 0)) a) e ran acts
+      ∙ entries_from p k u 0 e s
+      ∙ ap (λ (n : ℕ). counted k (concat (map (faces_on p u) (stretch (ring p u) 0 n))) s) whole
+      ∙ ap (λ (l : List ℕ). counted k (concat (map (faces_on p u) l)) s) (span_whole (ring p u) e size)
+      ∙ sym (ap (λ (l : List (List Face)). counted k (concat l) s) (map-map (λ (d : Dart). cond (on_inner_face p d && ltb u d.1 && ltb u (step p d).1) (walk p d ∷ []) []) (λ (v : ℕ). (u, v)) (ring p u)))
 
-  pub around_end : e ≤ i → s ≡ counted k (faces_from p u) s₀
-  unfolding counted
-  around_end h = sym (inv.same ∙ rw (span_end (ring p u) i e h))
+-- ---- all contexts: (0..n).fold(none, |areas, u| with_context(areas, u))
+contexts_from : (p : Plan) (k : Chart) (i n : ℕ) (s : Areas) → fold (λ (a : Areas) (u : ℕ). counted k (faces_from p u) a) s (range_with_len i n) ≡ counted k (concat (map (faces_from p) (from i n))) s
+unfolding counted
+contexts_from p k i zero s = refl
+contexts_from p k i (suc n) s =
+    contexts_from p k (i + 1) n (counted k (faces_from p i) s)
+    ∙ ap (λ (j : ℕ). counted k (concat (map (faces_from p) (from j n))) (counted k (faces_from p i) s)) (add-one i)
+    ∙ sym (counted-both k (faces_from p i) (concat (map (faces_from p) (from (suc i) n))) s)
 
--- ---- all contexts: while u < n { s = with_context(s, u); u += 1; }
-pub record Across (p : Plan) (k : Chart) (n u : ℕ) (s : Areas) : Type 0 where
-  pub same : surveyed p k ≡ counted k (concat (map (faces_from p) (from u (n - u)))) s
+module _ (p : Plan) (k : Chart) where
+  pub across : {F : Type 0} {g : Mut F (Areas × (ℕ × Unit {0})) Areas} {n : ℕ} {f : F} {s r : Areas}
+      → (xs : List ℕ) × (q : F) × Drains nat_range_steps (record { start = 0; end = n }) xs × FoldsTo {P = F × Areas} (λ a x b. Called g a.0 (a.1, (x, tt)) b.1 b.0) (f, s) xs (q, r)
+      → n ≡ count p → s ≡ no_area
+      → ((a : Areas) (u : ℕ) (b : Areas) (q : F) → Called g f (a, (u, tt)) b q → (q ≡ f) × (b ≡ counted k (faces_from p u) a))
+      → r ≡ surveyed p k
+  unfolding surveyed faces
+  across {n = n} {s = s} ran size fresh acts =
+      folds_range (λ (a : Areas) (u : ℕ). counted k (faces_from p u) a) n ran acts
+      ∙ contexts_from p k 0 n s
+      ∙ (λ i. counted k (concat (map (faces_from p) (from 0 (size i)))) (fresh i))
 
-pub across_start : {p : Plan} {k : Chart} {n : ℕ} {s : Areas} → n ≡ count p → s ≡ no_area → Across p k n 0 s
-unfolding surveyed faces
-across_start {p} {k} {n} {s} q e = let z : count p ≡ n - 0 = omega arith in record { same = λ i. counted k (concat (map (faces_from p) (from 0 (z i)))) (sym e i) }
+-- ---- for the code, step by step
+pub ruleset dart = (dart-low, third-low, no_face, one_face)
 
-module _ {p : Plan} {k : Chart} {n u : ℕ} {s : Areas} (inv : Across p k n u s) where
-  pub across_on : {s' : Areas} → u < n → s' ≡ counted k (faces_from p u) s → Across p k n (u + 1) s'
-  across_on {s'} h q =
-      let z : n - u ≡ suc (n - (u + 1)) = omega arith in
-      let rest : List Face = concat (map (faces_from p) (from (u + 1) (n - (u + 1)))) in
-      record { same = inv.same ∙ ap (λ (j : ℕ). counted k (concat (map (faces_from p) (from u j))) s) z ∙ ap (λ (j : ℕ). counted k (faces_from p u ++ concat (map (faces_from p) (from j (n - (u + 1))))) s) (sym (add-one u)) ∙ counted-both k (faces_from p u) rest s ∙ ap (counted k rest) (sym q) }
-
-  pub across_end : n ≤ u → s ≡ surveyed p k
-  unfolding counted
-  across_end h = let z : n - u ≡ 0 = omega arith in sym (inv.same ∙ rw z)
+pub ruleset rings_of = (rings-held)

@@ -54,6 +54,7 @@ fn rings_enclose(rings: &Rings, a: usize, b: usize, c: usize) -> bool
 }
 
 // Are a, b, c neighbours of each other on the sheet's plan and no inner face, walked either way?
+#[tactic(auto, using(crate::proofs::Counts::rings_of))]
 pub fn encloses(sheet: &Sheet, a: usize, b: usize, c: usize) -> bool
     ensures { result ≡ enclosing (held_plan sheet.now) (a, b, c) }
 {
@@ -63,6 +64,7 @@ pub fn encloses(sheet: &Sheet, a: usize, b: usize, c: usize) -> bool
 }
 
 // A number, or 0 where it is negative.
+#[tactic(auto, using(crate::proofs::Counts::natural_from))]
 fn natural(area: i64) -> usize
     ensures { result ≡ natural area }
 {
@@ -93,6 +95,7 @@ impl<'a> Drawn<'a> {
     }
 
     // The areas with the inner face whose walk begins with the dart from u to v, where u is its lowest context.
+    #[tactic(auto, using(crate::proofs::Counts::dart))]
     fn with_dart(&self, areas: Areas, u: usize, v: usize) -> Areas
         ensures { result ≡ counted (points self.now.points.xs.now self.now.points.ys.now) (faces_on (plan_of self.now.rings) u v) areas }
     {
@@ -113,15 +116,26 @@ impl<'a> Drawn<'a> {
     fn with_context(&self, areas: Areas, u: usize) -> Areas
         ensures { result ≡ counted (points self.now.points.xs.now self.now.points.ys.now) (faces_from (plan_of self.now.rings) u) areas }
     {
-        let mut all = areas;
-        for i in 0..self.rings.size_of(u) {
-            all = self.with_dart(all, u, self.rings.neighbour_at(u, i));
-        }
-        all
+        (0..self.rings.size_of(u)).fold(areas, |all, i| {
+            self.with_dart(all, u, self.rings.neighbour_at(u, i))
+        })
+    }
+    // The areas of all inner faces.
+    fn areas(&self) -> Areas
+        ensures { result ≡ surveyed (plan_of self.now.rings) (points self.now.points.xs.now self.now.points.ys.now) }
+    {
+        let none = Areas {
+            faces: 0,
+            positive: 0,
+            least: None,
+            sum: 0,
+        };
+        (0..self.rings.n).fold(none, |areas, u| self.with_context(areas, u))
     }
 }
 
 // The areas of the inner faces of a sheet's chart.
+#[tactic(auto, using(crate::proofs::Counts::rings_of))]
 pub fn areas_of(sheet: &Sheet) -> Areas
     ensures { result ≡ surveyed (held_plan sheet.now) (points sheet.now.xs sheet.now.ys) }
 {
@@ -131,14 +145,5 @@ pub fn areas_of(sheet: &Sheet) -> Areas
         rings: plan.rings(&starts),
         points: sheet::points_of(sheet),
     };
-    let mut areas = Areas {
-        faces: 0,
-        positive: 0,
-        least: None,
-        sum: 0,
-    };
-    for u in 0..plan.n {
-        areas = drawn.with_context(areas, u);
-    }
-    areas
+    drawn.areas()
 }

@@ -29,6 +29,9 @@ start-most s (suc n) h =
     let b = h n in
     omega arith
 
+-- for the function that counts them
+pub ruleset darts = (start-most)
+
 -- the records of rings: four bytes and two for each entry
 length-rings : (f : ℕ → List ℕ) (sizes : List ℕ) → ((u : ℕ) → length (f u) ≡ get_or sizes u 0) → (u k : ℕ)
     → 2 * start_of sizes u + length (rings_out (map f (from u k))) ≡ 4 * k + 2 * start_of sizes (u + k)

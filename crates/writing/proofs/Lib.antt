@@ -1,5 +1,3 @@
-pub mod Puts
-pub mod Emits
 pub mod Lengths
-pub mod Pieces
+pub mod Texts
 pub mod Kept

@@ -7,10 +7,11 @@ ghost use Rattle.lists.specs.Words.{bytes};
 ghost use Rattle.model.specs.File.{entry, points, chart_out, rings_out, plan_out, encode};
 ghost use Rattle.model.specs.Calls.{write_call};
 ghost use Rattle.records.specs.Records.{number_of};
+ghost use Rattle.buffer.specs.Puts.{put};
 ghost use Rattle.rings.specs.Tables.{table};
-ghost use Rattle.writing.specs.Puts.{Put};
 ghost use Rattle.writing.specs.Files.{kept, darts_held, labels_held, plan_held, chart_of, sheet_held, outcome_of, buffer_after};
 
+use buffer::Buffer;
 use charts::Points;
 use records::Record;
 use refusal::Refusal;
@@ -40,7 +41,7 @@ fn kept_of(n: usize) -> u16
 }
 
 // How many darts the rings have: at most 255 for each of 200, so that the cast loses nothing.
-#[tactic(auto, unfolding(crate::specs::Files::darts_held))]
+#[tactic(auto, using(crate::proofs::Lengths::darts), unfolding(crate::specs::Files::darts_held))]
 fn darts_of(sizes: &[u8], n: usize) -> u16
     ensures value { result ≡ darts_held sizes.now n }
     ensures upper_bound { result ≤ 51000 }
@@ -75,123 +76,103 @@ fn chart_length(drawn: &Points, n: usize) -> usize
     8 + 4 * usize::from(kept_of(n))
 }
 
-// A lent buffer, and the place behind what is put there. What the buffer has no room for is passed over.
-#[derive(Drop)]
-struct Buffer<'a> {
-    out: &'a mut [u8],
-    at: usize,
+// Puts the k numbers of a from i on, two bytes each.
+#[tactic(auto, using(crate::proofs::Texts::parts))]
+fn put_words(to: &mut Buffer, a: &[u16], i: usize, k: u8)
+    requires { i < 2 ^ 16 }
+    ensures { to.new ≡ put to.old (bytes (stretch a.now i k)) }
+{
+    for j in 0..usize::from(k) {
+        to.put_word(arrays::at(a, i + j));
+    }
 }
 
-impl<'a> Buffer<'a> {
-    // A byte.
-    fn put_byte(&mut self, x: u8)
-        ensures { Put self.old (x ∷ []) self.new }
-    {
-        if self.at < self.out.len() {
-            self.out[self.at] = x;
-            self.at += 1;
-        }
+// Puts the first k bytes of a.
+#[tactic(auto, using(crate::proofs::Texts::parts))]
+fn put_first(to: &mut Buffer, a: &[u8], k: u16)
+    ensures { to.new ≡ put to.old (stretch a.now 0 k) }
+{
+    for i in 0..usize::from(k) {
+        to.put_byte(arrays::at(a, i));
     }
+}
 
-    // A number in two bytes, little-endian.
-    #[tactic(auto, unfolding(lists::specs::Words::bytes))]
-    fn put_word(&mut self, x: u16)
-        ensures { Put self.old (bytes (x ∷ [])) self.new }
-    {
-        let [low, high] = x.to_le_bytes();
-        self.put_byte(low);
-        self.put_byte(high);
+// Puts the first k points, x before y, two bytes each.
+#[tactic(auto, using(crate::proofs::Texts::parts))]
+fn put_points(to: &mut Buffer, drawn: &Points, k: u16)
+    ensures { to.new ≡ put to.old (bytes (points (stretch drawn.now.xs.now 0 k) (stretch drawn.now.ys.now 0 k))) }
+{
+    for j in 0..usize::from(k) {
+        to.put_word(arrays::at(drawn.xs, j));
+        to.put_word(arrays::at(drawn.ys, j));
     }
+}
 
-    // The k numbers of a from i on, two bytes each.
-    fn put_words(&mut self, a: &[u16], i: usize, k: u8)
-        requires { i < 2 ^ 16 }
-        ensures { Put self.old (bytes (stretch a.now i k)) self.new }
-    {
-        for j in 0..usize::from(k) {
-            self.put_word(arrays::at(a, i + j));
-        }
-    }
+// Puts a record's head: its length, counting the kind and a body of k bytes, and its kind.
+#[tactic(auto, using(crate::proofs::Texts::records))]
+fn put_head(to: &mut Buffer, kind: Record, k: u16)
+    requires { 2 + k < 2 ^ 16 }
+    ensures { to.new ≡ put to.old (bytes ((2 + k) ∷ number_of kind ∷ [])) }
+{
+    to.put_word(2 + k);
+    to.put_word(kind.number());
+}
 
-    // The first k bytes of a.
-    fn put_bytes(&mut self, a: &[u8], k: u16)
-        ensures { Put self.old (stretch a.now 0 k) self.new }
-    {
-        for i in 0..usize::from(k) {
-            self.put_byte(arrays::at(a, i));
-        }
-    }
+// Puts the record of a ring of k entries, which begin at i.
+#[tactic(auto, using(crate::proofs::Texts::records))]
+fn put_ring(to: &mut Buffer, entries: &[u16], i: usize, k: u8)
+    requires { i < 2 ^ 16 }
+    ensures { to.new ≡ put to.old (entry 2 (bytes (stretch entries.now i k))) }
+{
+    put_head(to, Record::Ring, 2 * u16::from(k));
+    put_words(to, entries, i, k);
+}
 
-    // The first k points, x before y, two bytes each.
-    fn put_points(&mut self, drawn: &Points, k: u16)
-        ensures { Put self.old (bytes (points (stretch drawn.now.xs.now 0 k) (stretch drawn.now.ys.now 0 k))) self.new }
-    {
-        for j in 0..usize::from(k) {
-            self.put_word(arrays::at(drawn.xs, j));
-            self.put_word(arrays::at(drawn.ys, j));
-        }
+// Puts the records of the rings of the first n contexts.
+#[tactic(auto, using(crate::proofs::Texts::rings))]
+fn put_rings(to: &mut Buffer, plan: &Table, n: u16)
+    requires { n ≤ 200 }
+    ensures { to.new ≡ put to.old (rings_out (table plan.now.sizes.now plan.now.entries.now n).rings) }
+{
+    let mut i = 0;
+    for u in 0..usize::from(n) {
+        let k = arrays::at(plan.sizes, u);
+        put_ring(to, plan.entries, i, k);
+        i += usize::from(k);
     }
+}
 
-    // A record's head: its length, counting the kind and a body of k bytes, and its kind.
-    fn put_head(&mut self, kind: Record, k: u16)
-        requires { 2 + k < 2 ^ 16 }
-        ensures { Put self.old (bytes ((2 + k) ∷ number_of kind ∷ [])) self.new }
-    {
-        self.put_word(2 + k);
-        self.put_word(kind.number());
-    }
+// Puts the plan's records.
+#[tactic(auto, using(crate::proofs::Texts::records))]
+fn put_plan(to: &mut Buffer, plan: &Table)
+    ensures { to.new ≡ put to.old (plan_out (plan_held plan.now)) }
+{
+    let count = kept_of(plan.n);
+    put_head(to, Record::Contexts, 2);
+    to.put_word(count);
+    put_rings(to, plan, count);
+}
 
-    // The record of a ring of k entries, which begin at i.
-    fn put_ring(&mut self, entries: &[u16], i: usize, k: u8)
-        requires { i < 2 ^ 16 }
-        ensures { Put self.old (entry 2 (bytes (stretch entries.now i k))) self.new }
-    {
-        self.put_head(Record::Ring, 2 * u16::from(k));
-        self.put_words(entries, i, k);
-    }
+// Puts the record of the labels.
+#[tactic(auto, using(crate::proofs::Texts::records))]
+fn put_labels(to: &mut Buffer, plan: &Table, labels: &[u8])
+    ensures { to.new ≡ put to.old (entry 3 (labels_held plan.now.sizes.now labels.now plan.now.n)) }
+{
+    let k = darts_of(plan.sizes, plan.n);
+    put_head(to, Record::Labels, k);
+    put_first(to, labels, k);
+}
 
-    // The records of the rings of the first n contexts.
-    fn put_rings(&mut self, plan: &Table, n: u16)
-        requires { n ≤ 200 }
-        ensures { Put self.old (rings_out (table plan.now.sizes.now plan.now.entries.now n).rings) self.new }
-    {
-        let mut i = 0;
-        for u in 0..usize::from(n) {
-            let k = arrays::at(plan.sizes, u);
-            self.put_ring(plan.entries, i, k);
-            i += usize::from(k);
-        }
-    }
-
-    // The plan's records.
-    fn put_plan(&mut self, plan: &Table)
-        ensures { Put self.old (plan_out (plan_held plan.now)) self.new }
-    {
-        let count = kept_of(plan.n);
-        self.put_head(Record::Contexts, 2);
-        self.put_word(count);
-        self.put_rings(plan, count);
-    }
-
-    // The record of the labels.
-    fn put_labels(&mut self, plan: &Table, labels: &[u8])
-        ensures { Put self.old (entry 3 (labels_held plan.now.sizes.now labels.now plan.now.n)) self.new }
-    {
-        let k = darts_of(plan.sizes, plan.n);
-        self.put_head(Record::Labels, k);
-        self.put_bytes(labels, k);
-    }
-
-    // The record of the chart of n contexts.
-    fn put_chart(&mut self, drawn: &Points, n: usize)
-        ensures { Put self.old (entry 4 (bytes (chart_out (chart_of drawn.now n)))) self.new }
-    {
-        let k = kept_of(n);
-        self.put_head(Record::Chart, 4 + 4 * k);
-        self.put_word(drawn.w);
-        self.put_word(drawn.h);
-        self.put_points(drawn, k);
-    }
+// Puts the record of the chart of n contexts.
+#[tactic(auto, using(crate::proofs::Texts::records))]
+fn put_chart(to: &mut Buffer, drawn: &Points, n: usize)
+    ensures { to.new ≡ put to.old (entry 4 (bytes (chart_out (chart_of drawn.now n)))) }
+{
+    let k = kept_of(n);
+    put_head(to, Record::Chart, 4 + 4 * k);
+    to.put_word(drawn.w);
+    to.put_word(drawn.h);
+    put_points(to, drawn, k);
 }
 
 impl<'a> Held<'a> {
@@ -210,24 +191,25 @@ impl<'a> Held<'a> {
         }
     }
 
-    // The whole file, part after part.
+    // Puts the whole file, part after part.
+    #[tactic(auto, using(crate::proofs::Texts::files))]
     fn put(&self, to: &mut Buffer)
-        ensures { Put to.old (encode (sheet_held self.now)) to.new }
+        ensures { to.new ≡ put to.old (encode (sheet_held self.now)) }
     {
-        to.put_plan(&self.plan);
+        put_plan(to, &self.plan);
         match self.parts {
             Parts::Plan => {}
-            Parts::Labels { labels } => to.put_labels(&self.plan, labels),
+            Parts::Labels { labels } => put_labels(to, &self.plan, labels),
             Parts::Chart { labels, drawn } => {
-                to.put_labels(&self.plan, labels);
-                to.put_chart(&drawn, self.plan.n);
+                put_labels(to, &self.plan, labels);
+                put_chart(to, &drawn, self.plan.n);
             }
         }
     }
 }
 
 // The file of what is held, into the buffer: its length. A buffer that is short stays as it is, and so do the bytes after the file.
-#[tactic(auto, using(crate::proofs::Pieces::written_file))]
+#[tactic(auto, using(crate::proofs::Texts::written_file), unfolding(buffer::specs::Puts::put))]
 pub fn write_file(out: &mut [u8], held: &Held) -> Result<usize, Refusal>
     ensures out_after { outcome_of result out.new ≡ write_call (sheet_held held.now) out.old }
     ensures out_after_2 { out.new ≡ buffer_after (write_call (sheet_held held.now) out.old) out.old }

@@ -1,5 +1,7 @@
 -- labels meets its contract.
+use Prim.Native.Nat.{min}
 use mathlib.Core.List.{◌++◌}
+use mathlib.Core.Path.{ap, ◌∙◌}
 use native.Mathlib.Omega.{arith}
 use Rattle.std.proofs.lemmas.List.{drop-replicate}
 use Rattle.model.specs.Plan.{dart_count}
@@ -11,4 +13,4 @@ returns c =
     let a = c.args.self.now in
     let l = a.layout.now in
     let few = l.few in
-    labels-copied a.file.now c.args.at (dart_count l.n) 1186 (omega arith) (rest-from a.file.now c.args.at c.min.ensures) c.min-count.ensures (λ i. c.copy_from_slice.ensures.after i ++ drop-replicate c.min-count.result 1186 0 i)
+    labels-copied a.file.now c.args.at (dart_count l.n) 1186 (omega arith) (rest-from a.file.now c.args.at c.min.ensures) (c.min-count.ensures ∙ ap (min _) c.darts.ensures) (λ i. c.copy_from_slice.ensures.after i ++ drop-replicate c.min-count.result 1186 0 i)
