@@ -16,6 +16,7 @@ pub fn joined(number: u8, place: usize) -> u64
 }
 
 // A refusal as one number.
+#[tactic(auto, unfolding(crate::specs::Codes::code, crate::specs::Codes::wrapped))]
 pub fn refusal(refusal: Refusal) -> u64
     ensures { result ≡ wrapped (refused (number_of refusal) (place_of refusal)) }
 {

@@ -15,20 +15,15 @@
 #![tactic(auto)]
 
 use sheet::Sheet;
-use verdicts::{Drawn, Filed, Opened, Tally, Turn, Turned};
+use verdicts::{Compared, Drawn, Filed, Opened, Tally, Turn, Turned};
 
-// The first turn of one edge that is accepted, if there is one.
-fn first_turn(sheet: &Sheet) -> Option<Turn> {
+// The first turn of one edge that is accepted, if there is one, and the sheet that it leaves.
+fn first_turn(sheet: &Sheet) -> Option<(Turn, Sheet)> {
     for u in 0..200u16 {
         for v in 0..256u16 {
             for direction in 0..2u8 {
                 if let Ok(left) = calls::turn(*sheet, &[u, v], direction) {
-                    return Some(Turn {
-                        u,
-                        v,
-                        direction,
-                        left,
-                    });
+                    return Some((Turn { u, v, direction }, left));
                 }
             }
         }
@@ -60,17 +55,27 @@ fn check_written(tally: Tally, a: &Sheet, b: &Sheet) -> Tally {
     verdicts::tell_files(tally, &filed(a, &mut one), &filed(b, &mut other))
 }
 
-// The checks of a turn of a chart.
-fn check_turn(tally: Tally, opened: &Sheet, sheet: &Sheet, turn: &Turn) -> Tally {
-    let left = &turn.left;
+// The checks of a turn of a chart, and of the sheet that it leaves.
+fn check_turn<'a>(
+    tally: Tally,
+    opened: &Sheet,
+    sheet: &'a Sheet,
+    turn: Turn,
+    left: &'a Sheet,
+) -> Tally {
     let new = charted(left);
     let anew = drawn_anew(opened, left);
     let turned = Turned {
         turn,
         old: sheet,
-        left_same: reports::same(left, left),
-        new: &new,
-        new_same: reports::same(&new, &anew),
+        left: Compared {
+            sheet: left,
+            same: reports::same(left, left),
+        },
+        new: Compared {
+            sheet: &new,
+            same: reports::same(&new, &anew),
+        },
     };
     check_written(verdicts::tell_turn(tally, Some(turned)), &new, &anew)
 }
@@ -78,7 +83,7 @@ fn check_turn(tally: Tally, opened: &Sheet, sheet: &Sheet, turn: &Turn) -> Tally
 // The checks of the turn of a chart's first edge that turns alone.
 fn check_turns(tally: Tally, opened: &Sheet, sheet: &Sheet) -> Tally {
     match first_turn(sheet) {
-        Some(turn) => check_turn(tally, opened, sheet, &turn),
+        Some((turn, left)) => check_turn(tally, opened, sheet, turn, &left),
         None => verdicts::tell_turn(tally, None),
     }
 }

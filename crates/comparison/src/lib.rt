@@ -6,25 +6,19 @@ ghost use Rattle.comparison.specs.Bytes.{stir, checksum, agreeing};
 
 // The checksum of some bytes and one more.
 #[tactic(auto, unfolding(crate::specs::Bytes::stir))]
-fn stir(sum: usize, byte: usize) -> usize
-    requires sum_bound { sum < 2 ^ 32 }
-    requires byte_bound { byte < 2 ^ 8 }
-    ensures value { result ≡ stir sum byte }
-    ensures upper_bound { result < 2 ^ 32 }
+fn stir(sum: u32, byte: u8) -> u32
+    ensures { result ≡ stir sum byte }
 {
-    (sum * 1000003 + byte + 1) % 4294967291
+    ((u64::from(sum) * 1000003 + u64::from(byte) + 1) % 4294967291) as u32
 }
 
 // The checksum of bytes: from 0 on, each byte b makes of it checksum * 1000003 + b + 1, modulo 4294967291.
+#[tactic(auto, using(crate::proofs::Sums::summed))]
 pub fn checksum(bytes: &[u8]) -> usize
     ensures value { result ≡ checksum bytes.now }
     ensures upper_bound { result < 2 ^ 32 }
 {
-    let mut sum = 0;
-    for byte in bytes {
-        sum = stir(sum, usize::from(*byte));
-    }
-    sum
+    bytes.iter().fold(0, |sum, byte| stir(sum, *byte)) as usize
 }
 
 // How many of the first k bytes are the same in both, up to the first that differs.

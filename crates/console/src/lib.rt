@@ -4,7 +4,7 @@
 ghost use Rattle.std.specs.Prelude.{◌≡◌, ◌+◌, ◌≤◌, ◌<◌, ◌%◌, ◌^◌, [], drop, length, IfSome, IfNone};
 ghost use Rattle.std.specs.Fmt.{with_newline};
 ghost use Rattle.arrays.specs.Parts.{part_at};
-ghost use Rattle.console.specs.Reading.{Read, size_at};
+ghost use Rattle.console.specs.Reading.{size_at};
 ghost use Rattle.console.specs.Writing.{Counts};
 
 use std::fmt;
@@ -13,15 +13,11 @@ use std::fmt::Write;
 // How many items a run takes at most.
 const MOST: usize = 100000;
 
-// Reads so many bytes to the start of a space: something where they were there. What stands behind them stays, and all stays where the space is too short.
-fn read_bytes(space: &mut [u8], size: usize) -> Option<()>
-    ensures { Read size space.old space.new result }
+// Fills a space with bytes that are read: something where there were as many as it holds.
+fn read_bytes(space: &mut [u8]) -> Option<()>
+    ensures { length space.new ≡ length space.old }
 {
-    if space.len() < size {
-        return None;
-    }
-    let got = io::read_full(0, &mut space[..size]);
-    (got == size).then_some(())
+    (io::read_full(0, space) == space.len()).then_some(())
 }
 
 // An item of the input: its kind, and the length of its argument.
@@ -37,10 +33,10 @@ pub fn read_item(space: &mut [u8]) -> Option<Item>
     ensures room { length space.new ≡ length space.old }
 {
     let mut head = [0u8; 4];
-    read_bytes(&mut head, 4)?;
+    read_bytes(&mut head)?;
     let [kind, low, middle, high] = head;
     let size = usize::from_le_bytes([low, middle, high, 0, 0, 0, 0, 0]);
-    read_bytes(space, size)?;
+    read_bytes(space.get_mut(..size)?)?;
     Some(Item { kind, size })
 }
 
@@ -115,6 +111,7 @@ impl fmt::Write for Output {
 }
 
 // Writes a text to standard output; how many bytes it has. None where the text itself fails: the contract leaves open which do, and says nothing of a text whose type doesn't say what it writes.
+#[tactic(auto, using(crate::proofs::Counting::counted))]
 pub fn print<D: fmt::Display + Drop>(text: D) -> Option<usize>
     ensures { Counts (D.output text) result }
 {

@@ -1,14 +1,21 @@
 -- The steps of the code: the bytes that hand a sheet over, and the sheet that is handed back.
 use Prim.Native.Nat.{ℕ}
-use mathlib.Core.Path.{◌≡◌, refl, ap, ◌∙◌}
+use mathlib.Core.Path.{◌≡◌, refl}
 use mathlib.Core.List.{List, [], ◌∷◌}
 use native.Mathlib.Omega.{arith}
 use lib.ListN.{length}
-use Rattle.model.specs.Outcome.{Outcome, accepted, refused}
-use Rattle.model.specs.File.{Sheet, fresh}
+use Rattle.model.specs.Outcome.{accepted, refused}
+use Rattle.model.specs.File.{fresh}
 use Rattle.model.specs.Calls.{open_call, write_call}
 use Rattle.writing.specs.Files.{buffer_after}
+use Rattle.std.specs.Prelude.{Ok, Err}
+use Rattle.std.specs.declared.result.Result.{Result}
+use Rattle.refusal.specs.declared.Refusal.{Refusal}
+use Rattle.refusal.specs.Refusals.{number_of, place_of}
+use Rattle.sheet.specs.declared.Sheet.{Sheet}
+use Rattle.sheet.specs.Sheets.{reads}
 use Rattle.sheet.specs.Answers.{length_of}
+use Rattle.answers.specs.Codes.{given}
 use Rattle.exchange.specs.Exchange.{sheet_in, handed_back}
 
 -- ---- the bytes that hand a sheet over
@@ -26,12 +33,24 @@ some_in (a ∷ b) h = refl
 
 -- ---- handed back
 -- a refusal: the buffer is as it was
-pub back_off : (o : Outcome Sheet) (buffer : List ℕ) (k at : ℕ) → refused k at ≡ o → (refused k at ≡ length_of (handed_back o buffer)) × (buffer ≡ buffer_after (handed_back o buffer) buffer)
-unfolding handed_back length_of buffer_after
-back_off o buffer k at e = (ap (λ (p : Outcome Sheet). length_of (handed_back p buffer)) e, ap (λ (p : Outcome Sheet). buffer_after (handed_back p buffer) buffer) e)
+module _ (r : Result Sheet Refusal) (f : Refusal) (buffer : List ℕ) where
+  pub off_length : r ≡ Err f → refused (number_of f) (place_of f) ≡ length_of (handed_back (given r) buffer)
+  unfolding handed_back length_of given
+  off_length e = rw e
+
+  pub off_buffer : r ≡ Err f → buffer ≡ buffer_after (handed_back (given r) buffer) buffer
+  unfolding handed_back buffer_after given
+  off_buffer e = rw e
 
 -- a sheet: the answer and the buffer are as write gives them
-pub back_at : (o : Outcome Sheet) (t : Sheet) (buffer d : List ℕ) (r : Outcome ℕ) → accepted t ≡ o → r ≡ length_of (write_call t buffer) → d ≡ buffer_after (write_call t buffer) buffer
-    → (r ≡ length_of (handed_back o buffer)) × (d ≡ buffer_after (handed_back o buffer) buffer)
-unfolding handed_back
-back_at o t buffer d r e q b = (q ∙ ap (λ (p : Outcome Sheet). length_of (handed_back p buffer)) e, b ∙ ap (λ (p : Outcome Sheet). buffer_after (handed_back p buffer) buffer) e)
+module _ (r : Result Sheet Refusal) (s : Sheet) (buffer : List ℕ) where
+  pub at_length : r ≡ Ok s → length_of (write_call (reads s) buffer) ≡ length_of (handed_back (given r) buffer)
+  unfolding handed_back given
+  at_length e = rw e
+
+  pub at_buffer : r ≡ Ok s → buffer_after (write_call (reads s) buffer) buffer ≡ buffer_after (handed_back (given r) buffer) buffer
+  unfolding handed_back given
+  at_buffer e = rw e
+
+-- for the code, step by step
+pub ruleset back = (off_length, off_buffer, at_length, at_buffer)

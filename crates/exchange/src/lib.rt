@@ -27,13 +27,11 @@ pub fn hand_over(bytes: &[u8]) -> Result<Sheet, Refusal>
 pub fn code_of(answer: Result<u64, Refusal>) -> u64
     ensures { result ≡ wrapped (told answer) }
 {
-    match answer {
-        Ok(value) => value,
-        Err(refusal) => answers::refusal(refusal),
-    }
+    answer.unwrap_or_else(answers::refusal)
 }
 
 // The file of the sheet that a call leaves, written into the buffer; its length.
+#[tactic(auto, using(crate::proofs::Steps::back))]
 fn write_back(outcome: Result<Sheet, Refusal>, out: &mut [u8]) -> Result<u64, Refusal>
     ensures value { told result ≡ length_of (handed_back (given outcome) out.old) }
     ensures out_after { out.new ≡ buffer_after (handed_back (given outcome) out.old) out.old }

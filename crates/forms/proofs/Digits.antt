@@ -34,6 +34,9 @@ pub digits-decimal : (x : ℕ) → x < 2 ^ 64 → decimal x ≡ digits x
 unfolding digits
 digits-decimal x h = sym (decimal_from_appends digits_below (record { one = one_digit; more = more-digits }) (suc x) x h (let n = length-decimal-le_succ x h in omega arith))
 
+-- for the function that puts them
+pub ruleset printed = (digits-decimal)
+
 -- ---- how many digits there are
 -- ten to the k
 abbrev tens : ℕ → ℕ

@@ -1,57 +1,58 @@
 -- Filled forms: how they go on from byte to byte, how they are put, and how long they are.
-use Prim.Native.Nat.{ℕ, zero, suc, ◌+◌, ◌*◌, ◌^◌, ◌≤◌, ◌<◌}
+use Prim.Native.Nat.{ℕ, suc, ◌+◌, ◌*◌, ◌^◌, ◌≤◌, ◌<◌}
 use mathlib.Core.Path.{◌≡◌, sym, ap, ◌∙◌}
-use mathlib.Core.List.{List, [], ◌∷◌, ◌++◌, append_assoc, append-nil}
+use mathlib.Core.Logic.{◌≢◌}
+use mathlib.Core.List.{List, [], ◌∷◌, ◌++◌}
 use mathlib.Core.Bool.{Bool, true, false, cond}
 use native.Mathlib.Omega.{arith}
-use lib.ListN.{length, get_or, take, drop, length-append}
-use lib.Seq.{get_or-drop, take-length}
+use native.Mathlib.Numerals.{add-one}
+use lib.ListN.{length, get_or, drop, length-append, drop_of_length-le}
+use lib.Seq.{drop-cons}
 use lib.Dec.{eqb}
+use borrow.Author.Tests.{ne_eqb}
+use Rattle.std.proofs.Common.{Bor, Option, Some, None}
+use Rattle.std.specs.declared.slice.Iter.{Iter}
+use Rattle.std.specs.Slice.Iter.{iter_steps}
+use Rattle.std.specs.Option.{option_copied, unwrap_or}
 use Rattle.forms.specs.Words.{digits}
 use Rattle.forms.specs.Forms.{mark, stands, filled}
-use Rattle.forms.specs.declared.Writer.{Writer}
-use Rattle.forms.specs.Puts.{Put}
+use Rattle.buffer.proofs.Puts.{put-none, put_join}
 use Rattle.forms.proofs.Digits.{digits_low, digits-word, digits_wide}
-use Rattle.forms.proofs.Puts.{put_join, put_as}
 
--- how many `#` there are
-unfoldable pub marks : List ℕ → ℕ
-marks [] = 0
-marks (b ∷ form) = mark b + marks form
+-- ---- what is left of a form, byte by byte
+-- nothing
+pub filled_end : (form numbers : List ℕ) (i : ℕ) → length form ≤ i → filled (drop i form) numbers ≡ []
+unfolding filled
+filled_end form numbers i h = ap (λ (l : List ℕ). filled l numbers) (drop_of_length-le form h)
 
--- one more byte: what it stands for is the number behind those of the `#` before it
-pub filled_more : (form numbers : List ℕ) (i : ℕ) → i < length form → filled (take i form) numbers ++ stands (get_or form i 0) (get_or numbers (marks (take i form)) 0) ≡ filled (take (suc i) form) numbers
-unfolding filled marks
-filled_more [] numbers i h = absurd (omega arith)
-filled_more (b ∷ form) numbers zero h = sym (append-nil (stands b (get_or numbers 0 0)))
-filled_more (b ∷ form) numbers (suc i) h =
-    append_assoc (stands b (get_or numbers 0 0)) (filled (take i form) (drop (mark b) numbers)) (stands (get_or form i 0) (get_or numbers (mark b + marks (take i form)) 0)) ∙ ap (λ (l : List ℕ). stands b (get_or numbers 0 0) ++ l) (ap (λ (x : ℕ). filled (take i form) (drop (mark b) numbers) ++ stands (get_or form i 0) x) (sym (get_or-drop (mark b) numbers (marks (take i form)) 0)) ∙ filled_more form (drop (mark b) numbers) i (omega arith))
+module _ (form numbers : List ℕ) (i : ℕ) (h : i < length form) where
+  -- a byte, and what follows it
+  filled_on : stands (get_or form i 0) (get_or numbers 0 0) ++ filled (drop (i + 1) form) (drop (mark (get_or form i 0)) numbers) ≡ filled (drop i form) numbers
+  unfolding filled
+  filled_on = sym (rw add-one (ap (λ (l : List ℕ). filled l numbers) (drop-cons form i 0 h)))
 
--- and it may be one more `#`
-pub marks-more : (form : List ℕ) (i : ℕ) → i < length form → marks (take i form) + mark (get_or form i 0) ≡ marks (take (suc i) form)
-unfolding marks
-marks-more [] i h = absurd (omega arith)
-marks-more (b ∷ form) zero h = omega arith
-marks-more (b ∷ form) (suc i) h = let m = marks-more form i (omega arith) in omega arith
+  -- any byte but `#`
+  pub filled_byte : get_or form i 0 ≢ 35 → (get_or form i 0 ∷ []) ++ filled (drop (i + 1) form) numbers ≡ filled (drop i form) numbers
+  unfolding stands mark
+  filled_byte e = rw (ne_eqb _ _ e) at filled_on
 
--- ---- the first i bytes of a form are put, and k of them are `#`
-module _ (form numbers : List ℕ) (i k : ℕ) {w m : Writer} (p : Put w (filled (take i form) numbers) m) (q : k ≡ marks (take i form)) where
-  -- then what one more stands for
-  pub put-more : {x i' : ℕ} {n : Writer} → i < length form → x ≡ get_or numbers k 0 → i' ≡ i + 1 → Put m (stands (get_or form i 0) x) n → Put w (filled (take i' form) numbers) n
-  put-more {x} {i'} h e f r =
-      let s : suc i ≡ i' = omega arith in
-      put_as (put_join p r) (ap (λ (y : ℕ). filled (take i form) numbers ++ stands (get_or form i 0) y) (e ∙ ap (λ (j : ℕ). get_or numbers j 0) q) ∙ filled_more form numbers i h ∙ ap (λ (j : ℕ). filled (take j form) numbers) s)
+  -- a `#`: the first of the numbers
+  filled_number : get_or form i 0 ≡ 35 → digits (get_or numbers 0 0) ++ filled (drop (i + 1) form) (drop 1 numbers) ≡ filled (drop i form) numbers
+  unfolding stands mark
+  filled_number e = rw e at filled_on
 
-  -- which may be one more `#`
-  pub mark-more : {x i' k' : ℕ} → i < length form → x ≡ mark (get_or form i 0) → i' ≡ i + 1 → k' ≡ k + x → k' ≡ marks (take i' form)
-  mark-more {x} {i'} {k'} h e f g =
-      let n : suc i ≡ i' = omega arith in
-      let s : k' ≡ marks (take i form) + mark (get_or form i 0) = omega arith in
-      s ∙ marks-more form i h ∙ ap (λ (j : ℕ). marks (take j form)) n
+-- the next of the numbers, 0 behind them, and those that are left
+module _ (form : List ℕ) (i : ℕ) (h : i < length form) (e : get_or form i 0 ≡ 35) (s t : Iter ℕ) where
+  pub filled_next : (r : Option (Bor ℕ)) → iter_steps s r t → digits (unwrap_or (option_copied r) 0) ++ filled (drop (i + 1) form) t.rest.now ≡ filled (drop i form) s.rest.now
+  filled_next None (z, same) = go s.rest.now z (ap (λ (u : Iter ℕ). u.rest.now) same)
+    where
+      go : (l : List ℕ) → length l ≡ 0 → t.rest.now ≡ l → digits 0 ++ filled (drop (i + 1) form) t.rest.now ≡ filled (drop i form) l
+      go [] z q = (λ j. digits 0 ++ filled (drop (i + 1) form) (q j)) ∙ filled_number form [] i h e
+      go (x ∷ l) z q = absurd (omega arith)
+  filled_next (Some x) q = (λ j. digits (get_or (sym q j) 0 0) ++ filled (drop (i + 1) form) (drop 1 (sym q j))) ∙ filled_number form s.rest.now i h e
 
-  -- and when there are no more, the form
-  pub put_all : i ≡ length form → Put w (filled form numbers) m
-  put_all e = put_as p (ap (λ (l : List ℕ). filled l numbers) (ap (λ (j : ℕ). take j form) e ∙ take-length form))
+-- for the loop over the bytes of a form
+pub ruleset each = (put-none, put_join, filled_end, filled_byte, filled_next)
 
 -- ---- how long a filled form is
 -- each of the numbers has at most k + 1 digits

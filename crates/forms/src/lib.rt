@@ -1,80 +1,32 @@
 // Forms: texts in which each `#` stands for a number, written with the numbers in decimal into a lent buffer.
 #![tactic(auto)]
 
-ghost use Rattle.std.specs.Prelude.{◌≡◌, [], ◌∷◌, ◌≤◌, get_or};
+ghost use Rattle.std.specs.Prelude.{◌≡◌};
+ghost use Rattle.buffer.specs.Puts.{put};
 ghost use Rattle.forms.specs.Words.{digits};
-ghost use Rattle.forms.specs.Forms.{mark, stands, filled};
-ghost use Rattle.forms.specs.Puts.{Put};
+ghost use Rattle.forms.specs.Forms.{filled};
 
-// A lent buffer, and the place behind what is put there. What the buffer has no room for is passed over.
-#[derive(Drop)]
-pub struct Writer<'a> {
-    pub out: &'a mut [u8],
-    pub at: usize,
-}
+use buffer::Buffer;
 
-// 1 for the byte `#`, 0 for any other.
-#[tactic(auto, unfolding(crate::specs::Forms::mark))]
-fn mark(sign: u8) -> usize
-    ensures value { result ≡ mark sign }
-    ensures upper_bound { result ≤ 1 }
+// Puts a number in decimal.
+#[tactic(auto, using(crate::proofs::Digits::printed))]
+fn put_number(to: &mut Buffer, x: usize)
+    ensures { to.new ≡ put to.old (digits x) }
 {
-    usize::from(sign == b'#')
+    to.put_bytes(itoa::Buffer::new().format(x).as_bytes());
 }
 
-// The k-th of these numbers, from 0 on; 0 behind them.
-fn number(k: usize, numbers: &[usize]) -> usize
-    ensures { result ≡ get_or numbers.now k 0 }
+// Puts a form with these numbers in it.
+#[tactic(auto, using(crate::proofs::Forms::each))]
+pub fn put(to: &mut Buffer, form: &[u8], numbers: &[usize])
+    ensures { to.new ≡ put to.old (filled form.now numbers.now) }
 {
-    numbers.get(k).copied().unwrap_or(0)
-}
-
-impl<'a> Writer<'a> {
-    // A byte.
-    fn put_byte(&mut self, x: u8)
-        ensures { Put self.old (x ∷ []) self.new }
-    {
-        if self.at < self.out.len() {
-            self.out[self.at] = x;
-            self.at += 1;
-        }
-    }
-
-    // Bytes, one after another.
-    fn put_bytes(&mut self, bytes: &[u8])
-        ensures { Put self.old bytes.now self.new }
-    {
-        for x in bytes {
-            self.put_byte(*x);
-        }
-    }
-
-    // A number in decimal.
-    fn put_number(&mut self, x: usize)
-        ensures { Put self.old (digits x) self.new }
-    {
-        self.put_bytes(itoa::Buffer::new().format(x).as_bytes());
-    }
-
-    // What a byte of a form stands for: a number in decimal, or itself.
-    fn put_sign(&mut self, sign: u8, x: usize)
-        ensures { Put self.old (stands sign x) self.new }
-    {
-        if sign == b'#' {
-            self.put_number(x);
+    let mut numbers = numbers.iter();
+    for sign in form {
+        if *sign == b'#' {
+            put_number(to, numbers.next().copied().unwrap_or(0));
         } else {
-            self.put_byte(sign);
-        }
-    }
-
-    // A form with these numbers in it.
-    pub fn put(&mut self, form: &[u8], numbers: &[usize])
-        ensures { Put self.old (filled form.now numbers.now) self.new }
-    {
-        let mut k = 0;
-        for sign in form {
-            self.put_sign(*sign, number(k, numbers));
-            k += mark(*sign);
+            to.put_byte(*sign);
         }
     }
 }

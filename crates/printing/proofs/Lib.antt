@@ -1,3 +1,3 @@
-pub mod Prints
 pub mod Texts
+pub mod Prints
 pub mod Shown

@@ -1,13 +1,18 @@
 -- What is printed from each call on, by what the call answers and the struct that it leaves.
 use Prim.Native.Nat.{ℕ, zero, suc, ◌+◌, ◌≤◌}
 use mathlib.Core.Path.{◌≡◌, refl, sym, ap, ◌∙◌}
-use mathlib.Core.List.{List, ◌++◌}
+use mathlib.Core.List.{List, [], ◌∷◌, ◌++◌}
 use mathlib.Core.Bool.{true}
 use mathlib.Core.Option.{Option}
 use native.Mathlib.Omega.{arith}
+use native.Mathlib.Numerals.{add-one}
 use lib.ListN.{get_or}
 use Rattle.lists.proofs.Padded.{get_or-padded}
 use Rattle.lists.specs.Spans.{padded}
+use Rattle.std.proofs.Common.{length-append, Some, None}
+use Rattle.std.specs.declared.option.Option.{Option as Found}
+use Rattle.triples.specs.Scanned.{scanned_as}
+use Rattle.buffer.proofs.Puts.{put_join}
 use Rattle.model.specs.Outcome.{Outcome, accepted, refused}
 use Rattle.model.specs.Plan.{Plan, count}
 use Rattle.model.specs.Chart.{Chart, chart}
@@ -29,6 +34,9 @@ use Rattle.sheet.proofs.RoundTrips.{has-plan}
 use Rattle.judging.specs.Rules.{rules_from_8}
 use Rattle.opening.specs.Opening.{lent_of}
 use Rattle.opening.proofs.Opened.{judge-parts, sheet_held_lem}
+use Rattle.forms.specs.Words.{letters}
+use Rattle.forms.specs.Forms.{line}
+use Rattle.forms.proofs.Forms.{filled-word}
 use Rattle.printing.specs.Text.{plan_line, triangle_line, size_line, point_line, point_lines, chart_lines, refusal_line, told, chart_text, sweep_text, scan_text, plan_text, file_text}
 
 -- ---- refusals
@@ -77,10 +85,14 @@ unfolding point_lines
 points-padded xs ys k zero = refl
 points-padded xs ys k (suc u) = λ i. points-padded xs ys k u i ++ point_line u (get_or-padded k xs u i) (get_or-padded k ys u i)
 
--- one more point
-pub points-more : (xs ys : List ℕ) (u : ℕ) → point_lines xs ys u ++ point_line u (get_or xs u 0) (get_or ys u 0) ≡ point_lines xs ys (u + 1)
+-- no points, and one more
+pub points_none : (xs ys : List ℕ) → point_lines xs ys 0 ≡ []
 unfolding point_lines
-points-more xs ys u = let e : suc u ≡ u + 1 = omega arith in ap (point_lines xs ys) e
+points_none xs ys = refl
+
+pub points-more : (xs ys : List ℕ) (u : ℕ) → point_lines xs ys (u + 1) ≡ point_lines xs ys u ++ point_line u (get_or xs u 0) (get_or ys u 0)
+unfolding point_lines
+points-more xs ys u = rw add-one
 
 -- the lines of a struct's chart
 abbrev drawn_text : Sheet → List ℕ
@@ -134,19 +146,34 @@ sweep-accepted s t e = go (sweep_call (reads s)) refl e
         ap (λ (x : Sheet). chart_text (reads x)) (r ∙ ap packed (sym is)) ∙ ap chart_text (reads-packed (file.labelled p ms) (ap fit p-is ∙ fits-it, sweep_long p ms e₂) ∙ is)
 
 -- ---- scan
--- what scan answers, printed
-pub scan-answered : (s : file.Sheet) (o : Outcome (Option Triple)) → o ≡ scan_call s → told o (λ (found : Option Triple). triangle_line found ++ sweep_text s) ≡ scan_text s
-unfolding scan_text
-scan-answered s o e = ap (λ (q : Outcome (Option Triple)). told q (λ (found : Option Triple). triangle_line found ++ sweep_text s)) e
+-- a refused scan ends the text, and what is found is printed before what follows
+module _ (s : file.Sheet) where
+  pub scan-refused : {k at : ℕ} → refused k at ≡ scan_call s → refusal_line k at ≡ scan_text s
+  unfolding scan_text told
+  scan-refused e = ap (λ (o : Outcome (Option Triple)). told o (λ (found : Option Triple). triangle_line found ++ sweep_text s)) e
+
+  pub scan-accepted : (found : Option Triple) → accepted found ≡ scan_call s → triangle_line found ++ sweep_text s ≡ scan_text s
+  unfolding scan_text told
+  scan-accepted found e = ap (λ (o : Outcome (Option Triple)). told o (λ (f : Option Triple). triangle_line f ++ sweep_text s)) e
+
+-- the two lines that a scan may print
+module _ {found : Found (ℕ × ℕ × ℕ)} where
+  pub none_line : found ≡ None → triangle_line (scanned_as found) ≡ letters "triangle none\n"
+  unfolding scanned_as triangle_line
+  none_line is = ap (λ (o : Found (ℕ × ℕ × ℕ)). triangle_line (scanned_as o)) is
+
+  pub found_line : {a b c : ℕ} → found ≡ Some (a, b, c) → triangle_line (scanned_as found) ≡ line "triangle # # #\n" (a ∷ b ∷ c ∷ [])
+  unfolding scanned_as triangle_line
+  found_line is = ap (λ (o : Found (ℕ × ℕ × ℕ)). triangle_line (scanned_as o)) is
 
 -- ---- open
 -- where the struct's plan is read, its number of contexts is printed
-pub plan_printed : (s : Sheet) → plan_of (reads s) ≡ accepted (held_plan s) → plan_line s.n ++ scan_text (reads s) ≡ plan_text (reads s)
+plan_printed : (s : Sheet) → plan_of (reads s) ≡ accepted (held_plan s) → plan_line s.n ++ scan_text (reads s) ≡ plan_text (reads s)
 unfolding plan_text told
 plan_printed s e = ap (λ (n : ℕ). plan_line n ++ scan_text (reads s)) (sym (count_held s)) ∙ ap (λ (o : Outcome Plan). told o (λ (p : Plan). plan_line (count p) ++ scan_text (reads s))) (sym e)
 
 -- an accepted open leaves a struct with the file's plan
-pub open_accepted-on : (b : List ℕ) (t : Sheet) → accepted t ≡ packed_as (open_call b) → (plan_text (reads t) ≡ file_text b) × (plan_of (reads t) ≡ accepted (held_plan t))
+open_accepted-on : (b : List ℕ) (t : Sheet) → accepted t ≡ packed_as (open_call b) → (plan_text (reads t) ≡ file_text b) × (plan_of (reads t) ≡ accepted (held_plan t))
 unfolding file_text told packed_as
 open_accepted-on b t e = go (open_call b) refl e
   where
@@ -161,3 +188,17 @@ open_accepted-on b t e = go (open_call b) refl e
         let (p, plan) = has-plan s fit in
         let there = ap plan_of read ∙ plan in
         (ap plan_text read, there ∙ ap accepted (plan-read t p there).0)
+
+-- and its text goes on with them
+pub open-printed : (b : List ℕ) (t : Sheet) → accepted t ≡ packed_as (open_call b) → file_text b ≡ line "plan #\n" (t.n ∷ []) ++ scan_text (reads t)
+unfolding plan_line
+open-printed b t e = let (is, plan) = open_accepted-on b t e in sym is ∙ sym (plan_printed t plan)
+
+-- for what is printed from each call on
+pub ruleset drawn = (chart-refused, chart-accepted)
+
+pub ruleset swept = (sweep-refused, sweep-accepted)
+
+pub ruleset scanned = (put_join, length-append, scan-refused, scan-accepted)
+
+pub ruleset filed = (put_join, length-append, filled-word, open_refused, open-printed)

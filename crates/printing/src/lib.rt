@@ -1,52 +1,57 @@
 // The text of the program sheetprint: what open, scan, sweep and chart give for a plan file, as bytes in a lent buffer.
 #![tactic(auto)]
 
-ghost use Rattle.std.specs.Prelude.{◌≡◌, ◌++◌, ◌+◌, ◌*◌, ◌<◌, ◌≤◌, ◌^◌, length, take};
-ghost use Rattle.std.proofs.Math.Option.{some};
-ghost use Rattle.model.specs.Outcome.{accepted};
-ghost use Rattle.model.specs.Calls.{plan_of};
+ghost use Rattle.std.specs.Prelude.{◌≡◌, ◌++◌, ◌+◌, ◌*◌, ◌≤◌, length, take};
+ghost use Rattle.triples.specs.Scanned.{scanned_as};
 ghost use Rattle.refusal.specs.Refusals.{number_of, place_of};
-ghost use Rattle.sheet.specs.Sheets.{held_plan, reads};
-ghost use Rattle.printing.specs.Text.{size_line, point_lines, refusal_line, triangle_line, chart_text, sweep_text, scan_text, plan_text, file_text, text, written};
-ghost use Rattle.printing.specs.Prints.{Prints};
+ghost use Rattle.sheet.specs.Sheets.{reads};
+ghost use Rattle.buffer.specs.Puts.{put};
+ghost use Rattle.printing.specs.Text.{size_line, point_lines, refusal_line, triangle_line, chart_text, sweep_text, scan_text, file_text, text, written};
 
+use buffer::Buffer;
 use charts::Points;
-use forms::Writer;
 use refusal::Refusal;
 use sheet::Sheet;
 
 // The line of a refusal.
-fn put_refusal(to: &mut Writer, refusal: Refusal)
-    ensures { Prints to.old (refusal_line (number_of refusal) (place_of refusal)) to.new 72 }
+#[tactic(auto, using(crate::proofs::Prints::lines), unfolding(crate::specs::Text::refusal_line, forms::specs::Forms::line, forms::specs::Words::letters))]
+fn put_refusal(to: &mut Buffer, refusal: Refusal)
+    ensures value { to.new ≡ put to.old (refusal_line (number_of refusal) (place_of refusal)) }
+    ensures upper_bound { length (refusal_line (number_of refusal) (place_of refusal)) ≤ 72 }
 {
     let number = usize::from(refusal.number());
-    to.put(b"refused # at #\n", &[number, refusal.place()]);
+    forms::put(to, b"refused # at #\n", &[number, refusal.place()]);
 }
 
 // A line for each of the first n contexts: its number, x and y.
-fn put_points(to: &mut Writer, points: &Points, n: usize)
-    requires { n < 2 ^ 16 }
-    ensures { Prints to.old (point_lines points.now.xs.now points.now.ys.now n) to.new (18 * n) }
+#[tactic(auto, using(crate::proofs::Prints::lines), unfolding(crate::specs::Text::point_line, forms::specs::Forms::line, forms::specs::Words::letters))]
+fn put_points(to: &mut Buffer, points: &Points, n: u16)
+    ensures value { to.new ≡ put to.old (point_lines points.now.xs.now points.now.ys.now n) }
+    ensures upper_bound { length (point_lines points.now.xs.now points.now.ys.now n) ≤ 18 * n }
 {
-    for u in 0..n {
+    for u in 0..usize::from(n) {
         let x = arrays::num(points.xs, u);
         let y = arrays::num(points.ys, u);
-        to.put(b"# # #\n", &[u, x, y]);
+        forms::put(to, b"# # #\n", &[u, x, y]);
     }
 }
 
 // The lines of a sheet's chart: its size, then its points.
-fn put_chart(to: &mut Writer, sheet: &Sheet)
-    ensures { Prints to.old (size_line sheet.now.w sheet.now.h ++ point_lines sheet.now.xs sheet.now.ys sheet.now.n) to.new (66 + 18 * sheet.now.n) }
+#[tactic(auto, using(crate::proofs::Prints::lines), unfolding(crate::specs::Text::size_line, forms::specs::Forms::line, forms::specs::Words::letters))]
+fn put_chart(to: &mut Buffer, sheet: &Sheet)
+    ensures value { to.new ≡ put to.old (size_line sheet.now.w sheet.now.h ++ point_lines sheet.now.xs sheet.now.ys sheet.now.n) }
+    ensures upper_bound { length (size_line sheet.now.w sheet.now.h ++ point_lines sheet.now.xs sheet.now.ys sheet.now.n) ≤ 66 + 18 * sheet.now.n }
 {
     let size = [usize::from(sheet.w), usize::from(sheet.h)];
-    to.put(b"size # #\n", &size);
-    put_points(to, &sheet::points_of(sheet), usize::from(sheet.n));
+    forms::put(to, b"size # #\n", &size);
+    put_points(to, &sheet::points_of(sheet), sheet.n);
 }
 
 // From chart on.
-fn put_drawn(to: &mut Writer, sheet: &Sheet)
-    ensures { Prints to.old (chart_text (reads sheet.now)) to.new 3666 }
+#[tactic(auto, using(crate::proofs::Texts::drawn))]
+fn put_drawn(to: &mut Buffer, sheet: &Sheet)
+    ensures value { to.new ≡ put to.old (chart_text (reads sheet.now)) }
+    ensures upper_bound { length (chart_text (reads sheet.now)) ≤ 3666 }
 {
     match calls::chart(*sheet) {
         Err(refusal) => put_refusal(to, refusal),
@@ -55,8 +60,10 @@ fn put_drawn(to: &mut Writer, sheet: &Sheet)
 }
 
 // From sweep on, which prints nothing of its own.
-fn put_swept(to: &mut Writer, sheet: &Sheet)
-    ensures { Prints to.old (sweep_text (reads sheet.now)) to.new 3666 }
+#[tactic(auto, using(crate::proofs::Texts::swept))]
+fn put_swept(to: &mut Buffer, sheet: &Sheet)
+    ensures value { to.new ≡ put to.old (sweep_text (reads sheet.now)) }
+    ensures upper_bound { length (sweep_text (reads sheet.now)) ≤ 3666 }
 {
     match calls::sweep(*sheet) {
         Err(refusal) => put_refusal(to, refusal),
@@ -64,50 +71,50 @@ fn put_swept(to: &mut Writer, sheet: &Sheet)
     }
 }
 
-// The line of three contexts that a scan finds.
-fn put_triangle(to: &mut Writer, a: usize, b: usize, c: usize)
-    ensures { Prints to.old (triangle_line (some (a, b, c))) to.new 72 }
+// The line of what a scan finds: three contexts, or none.
+#[tactic(auto, using(crate::proofs::Prints::lines), unfolding(forms::specs::Forms::line, forms::specs::Words::letters))]
+fn put_triangle(to: &mut Buffer, found: Option<(usize, usize, usize)>)
+    ensures value { to.new ≡ put to.old (triangle_line (scanned_as found)) }
+    ensures upper_bound { length (triangle_line (scanned_as found)) ≤ 72 }
 {
-    to.put(b"triangle # # #\n", &[a, b, c]);
+    match found {
+        None => to.put_bytes(b"triangle none\n"),
+        Some((a, b, c)) => forms::put(to, b"triangle # # #\n", &[a, b, c]),
+    }
 }
 
 // From scan on.
-fn put_scanned(to: &mut Writer, sheet: &Sheet)
-    ensures { Prints to.old (scan_text (reads sheet.now)) to.new 3738 }
+#[tactic(auto, using(crate::proofs::Texts::scanned), unfolding(reports::specs::Scanned::scanned_as))]
+fn put_scanned(to: &mut Buffer, sheet: &Sheet)
+    ensures value { to.new ≡ put to.old (scan_text (reads sheet.now)) }
+    ensures upper_bound { length (scan_text (reads sheet.now)) ≤ 3738 }
 {
     match reports::scan(sheet) {
         Err(refusal) => put_refusal(to, refusal),
-        Ok(None) => {
-            to.put(b"triangle none\n", &[]);
-            put_swept(to, sheet);
-        }
-        Ok(Some((a, b, c))) => {
-            put_triangle(to, a, b, c);
+        Ok(found) => {
+            put_triangle(to, found);
             put_swept(to, sheet);
         }
     }
 }
 
-// Of an opened sheet: its plan, then from scan on.
-fn put_opened(to: &mut Writer, sheet: &Sheet)
-    requires { plan_of (reads sheet.now) ≡ accepted (held_plan sheet.now) }
-    ensures { Prints to.old (plan_text (reads sheet.now)) to.new 4096 }
-{
-    to.put(b"plan #\n", &[usize::from(sheet.n)]);
-    put_scanned(to, sheet);
-}
-
-// Of a plan file.
-fn put_file(to: &mut Writer, file: &[u8])
-    ensures { Prints to.old (file_text file.now) to.new 4096 }
+// Of a plan file: its plan, then from scan on.
+#[tactic(auto, using(crate::proofs::Texts::filed), unfolding(forms::specs::Forms::line, forms::specs::Words::letters))]
+fn put_file(to: &mut Buffer, file: &[u8])
+    ensures value { to.new ≡ put to.old (file_text file.now) }
+    ensures upper_bound { length (file_text file.now) ≤ 4096 }
 {
     match opening::open_file(file) {
         Err(refusal) => put_refusal(to, refusal),
-        Ok(sheet) => put_opened(to, &sheet),
+        Ok(sheet) => {
+            forms::put(to, b"plan #\n", &[usize::from(sheet.n)]);
+            put_scanned(to, &sheet);
+        }
     }
 }
 
 // The same at the front of a buffer that has room for it; how long it is.
+#[tactic(auto, using(crate::proofs::Prints::fronts))]
 fn print_file(out: &mut [u8], file: &[u8]) -> usize
     requires { 4096 ≤ length out.old }
     ensures length { result ≡ length (file_text file.now) }
@@ -115,12 +122,13 @@ fn print_file(out: &mut [u8], file: &[u8]) -> usize
     ensures front { take result out.new ≡ file_text file.now }
     ensures room { length out.new ≡ length out.old }
 {
-    let mut to = Writer { out, at: 0 };
+    let mut to = Buffer { out, at: 0 };
     put_file(&mut to, file);
     to.at
 }
 
 // The part of an input that is taken as the plan file: its first 8,192 bytes, or all if fewer.
+#[tactic(auto, using(crate::proofs::Prints::taken))]
 fn plan_file(input: &[u8]) -> &[u8]
     ensures { result.now ≡ take 8192 input.now }
 {
@@ -139,6 +147,7 @@ fn copy_text(out: &mut [u8], whole: &[u8])
 
 // The text for an input, at the front of a buffer whose later bytes stay, and how many bytes the text has, never more than
 // 4,096. A buffer that is too short for it stays as it is.
+#[tactic(auto, unfolding(crate::specs::Text::text))]
 pub fn print_sheet(input: &[u8], out: &mut [u8]) -> usize
     ensures value { result ≡ length (text input.now) }
     ensures upper_bound { result ≤ 4096 }

@@ -2,9 +2,8 @@
 use Prim.Native.Nat.{ℕ, ◌+◌, ◌-◌, ◌≤◌, ◌<◌}
 use mathlib.Core.Path.{◌≡◌, refl, sym, ap, ◌∙◌}
 use mathlib.Core.List.{List}
-use mathlib.Core.Bool.{Bool, true, false, cond, ◌&&◌, and-false}
-use mathlib.Core.Logic.{◌⊎◌, inl, inr}
-use mathlib.Core.Option.{Option, none, some, none-ne-some, some-injective}
+use mathlib.Core.Bool.{Bool, true, false, cond, ◌&&◌}
+use mathlib.Core.Option.{Option, none, some, none-ne-some}
 use native.Mathlib.Omega.{arith}
 use lib.ListN.{length, get_or, take, drop}
 use lib.Dec.{leb}
@@ -17,37 +16,24 @@ use Rattle.std.specs.Result.{result_unwrap_or}
 use Rattle.std.specs.declared.result.Result.{Result}
 use Rattle.model.specs.Outcome.{Outcome, accepted, refused}
 use Rattle.model.specs.File as file
-use Rattle.model.specs.CallLists.{Call, call}
+use Rattle.model.specs.CallLists.{Call}
 use Rattle.model.proofs.Outcomes.{not-both, same-value}
 use Rattle.refusal.specs.declared.Refusal.{Refusal}
 use Rattle.refusal.specs.Refusals.{told}
 use Rattle.sheet.specs.declared.Sheet.{Sheet}
-use Rattle.sheet.specs.Sheets.{reads}
 use Rattle.sheet.specs.Answers.{packed_as, after}
 use Rattle.script.specs.Scripts.{argument_size, alone, call_of, call_at}
 use Rattle.script.specs.declared.Step.{Step}
-use Rattle.script.specs.Steps.{answered, stepped}
+use Rattle.script.specs.Steps.{stepped}
 
 -- ---- what a result leaves
 -- what is there after a call that was answered so
-unwrapped : (s : Sheet) (r : Result Sheet Refusal) (o : Outcome file.Sheet) → told r ≡ packed_as o → result_unwrap_or r s ≡ after s o
+pub unwrapped : (s : Sheet) (r : Result Sheet Refusal) (o : Outcome file.Sheet) → told r ≡ packed_as o → result_unwrap_or r s ≡ after s o
 unfolding packed_as after
 unwrapped s (Ok t) (accepted u) e = same-value e
 unwrapped s (Ok t) (refused k at) e = not-both (sym e)
 unwrapped s (Err f) (accepted u) e = not-both e
 unwrapped s (Err f) (refused k at) e = refl
-
--- ---- what an item's call answers
-module _ (s : Sheet) {q : Option Call} where
-  -- an item whose call was run
-  pub item_ran : {o : Outcome Sheet} (c : Call) → q ≡ some c → o ≡ packed_as (call (reads s) c) → some o ≡ answered s q
-  unfolding answered
-  item_ran c e f = ap some f ∙ ap (answered s) (sym e)
-
-  -- a malformed item
-  pub item_malformed : q ≡ none → none ≡ answered s q
-  unfolding answered
-  item_malformed e = ap (answered s) (sym e)
 
 -- ---- kinds
 module _ (a : List ℕ) where
@@ -65,23 +51,6 @@ module _ (a : List ℕ) where
   kind_other kind h = rw (ne_eqb kind 1 (λ e. omega arith), ne_eqb kind 2 (λ e. omega arith), ne_eqb kind 3 (λ e. omega arith), ne_eqb kind 4 (λ e. omega arith), ne_eqb kind 5 (λ e. omega arith))
 
 -- ---- what an item leaves
--- nothing, where it is malformed
-pub step_none : (s : Sheet) (size : ℕ) {q : Option Call} → q ≡ none → None ≡ stepped s size q
-unfolding stepped
-step_none s size e = ap (stepped s size) (sym e)
-
--- so where its call answers nothing
-pub step-unanswered : (s : Sheet) (size : ℕ) (q : Option Call) → none ≡ answered s q → None ≡ stepped s size q
-unfolding answered stepped
-step-unanswered s size none e = refl
-step-unanswered s size (some c) e = absurd (none-ne-some _ e)
-
--- the sheet that its call leaves
-pub step-answered : (s : Sheet) (size : ℕ) (q : Option Call) (r : Result Sheet Refusal) {t : Sheet} {k : ℕ} → some (told r) ≡ answered s q → t ≡ result_unwrap_or r s → k ≡ size → Some (record { sheet = t; size = k }) ≡ stepped s size q
-unfolding answered stepped
-step-answered s size none r e f g = absurd (none-ne-some _ (sym e))
-step-answered s size (some c) r e f g = let put = f ∙ unwrapped s r (call (reads s) c) (some-injective _ _ e) in λ i. Some (record { sheet = put i; size = g i })
-
 -- an item by another name
 pub step-same : (s : Sheet) {r : maybe.Option Step} {k size : ℕ} {p q : Option Call} → r ≡ stepped s k p → k ≡ size → p ≡ q → r ≡ stepped s size q
 step-same s e g h = e ∙ λ i. stepped s (g i) (h i)
@@ -98,16 +67,6 @@ module _ (s : List ℕ) where
   pub item-short : length s < 4 → call_at s ≡ none
   unfolding call_at
   item-short h = rw (lt-leb 4 (length s) h)
-
-  -- an argument that reaches past the end
-  item-past : length s - 4 < argument_size s → call_at s ≡ none
-  unfolding call_at
-  item-past h = rw (lt-leb (argument_size s) (length s - 4) h, and-false)
-
-  -- so where the code finds no such argument
-  pub item-cut : {size : ℕ} → size ≡ argument_size s → 4 ≤ length s → (4 + size < 4) ⊎ (length s < 4 + size) → call_at s ≡ none
-  item-cut e l (inl h) = let never : ⊥ = omega arith in absurd never
-  item-cut e l (inr h) = item-past (omega arith)
 
   -- an item that is all there, with its argument as the code lends it
   pub item_whole : {kind size : ℕ} → kind ≡ get_or s 0 0 → size ≡ argument_size s → 4 ≤ length s → size ≤ length s - 4 → call_of kind (take (4 + size - 4) (drop 4 s)) ≡ call_at s
@@ -128,3 +87,6 @@ module _ (s : List ℕ) where
           let h' = leb-true 4 (length s) h in
           let l' = leb-true (argument_size s) (length s - 4) l in
           omega arith
+
+-- for an item, step by step
+pub ruleset steps = (unwrapped, kind_other)

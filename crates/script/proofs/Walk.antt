@@ -107,3 +107,6 @@ module _ {b : List ℕ} {s : Sheet} {at : ℕ} (inv : Runs b s at) where
               same = inv.same ∙ (λ i. left s (calls_from (one i) (sym part i))) ∙ ap (left s) (calls_more f w c p) ∙ λ i. left (sym u i) (calls_from f (next i));
               rest = inv.rest ∙ (λ i. rest_from (one i) (sym part i)) ∙ rest_more f w c p ∙ ap (rest_from f) next;
             }
+
+-- for the loop: its start and its step
+pub ruleset steps = (runs-start, rest_whole, runs_on)

@@ -57,6 +57,7 @@ fn kind_of(number: u8) -> Option<Kind>
 }
 
 // An item of the kind turn: malformed without a direction, with an odd byte over, or with more than 1200 numbers.
+#[tactic(auto, using(crate::proofs::Turns::numbers_front), unfolding(model::specs::CallLists::call, crate::specs::Scripts::turn_of, crate::specs::Steps::answered))]
 fn run_turn(sheet: Sheet, argument: &[u8]) -> Option<Result<Sheet, Refusal>>
     ensures { ran result ≡ answered sheet (turn_of argument.now) }
 {
@@ -70,6 +71,7 @@ fn run_turn(sheet: Sheet, argument: &[u8]) -> Option<Result<Sheet, Refusal>>
 }
 
 // An item of a kind with its argument: what its call answers; nothing where it is malformed.
+#[tactic(auto, unfolding(model::specs::CallLists::call, crate::specs::Scripts::call_of, crate::specs::Steps::answered))]
 fn run_call(sheet: Sheet, kind: Kind, argument: &[u8]) -> Option<Result<Sheet, Refusal>>
     ensures { ran result ≡ answered sheet (call_of (number_of kind) argument.now) }
 {
@@ -91,6 +93,7 @@ fn size_of(low: u8, middle: u8, high: u8) -> usize
 }
 
 // The item that the bytes begin with; nothing where it is malformed.
+#[tactic(auto, using(crate::proofs::Items::steps), unfolding(crate::specs::Scripts::call_at, crate::specs::Steps::answered, crate::specs::Steps::stepped))]
 fn run_item(sheet: Sheet, rest: &[u8]) -> Option<Step>
     ensures { result ≡ stepped sheet (4 + argument_size rest.now) (call_at rest.now) }
 {
@@ -107,6 +110,7 @@ fn run_item(sheet: Sheet, rest: &[u8]) -> Option<Step>
 }
 
 // Runs the calls of a script from a fresh sheet, refused ones included. What stands on the sheet then is what demand 3 says of this very list of calls.
+#[tactic(auto, using(crate::proofs::Walk::steps))]
 pub fn run_script(script: &[u8]) -> Ran
     ensures sheet_value { result.sheet ≡ left start (calls_of script.now) }
     ensures at_value { result.at ≡ end_of script.now }

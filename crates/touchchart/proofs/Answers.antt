@@ -1,20 +1,13 @@
--- The answers of scan, same and ring: each has room in the number, and the code gives it. And a call on what is handed over.
+-- The answers of scan, same and ring: each has room in the number, and the code gives it.
 use Prim.Native.Nat.{ℕ, ◌+◌, ◌*◌, ◌<◌, ◌^◌}
-use mathlib.Core.Path.{◌≡◌, refl, sym, ap, ◌∙◌, subst}
+use mathlib.Core.Path.{◌≡◌, refl, sym, ◌∙◌, subst}
 use mathlib.Core.List.{List}
 use mathlib.Core.Bool.{Bool, true, false}
 use mathlib.Core.Option.{Option, none, some}
 use native.Mathlib.Omega.{arith}
 use lib.Dec.{ltb}
 use borrow.Author.Tests.{ltb-true, ltb-false}
-use Rattle.std.specs.Prelude.{Ok, Err, MatchResult}
-use Rattle.std.specs.declared.result.Result.{Result}
-use Rattle.refusal.specs.declared.Refusal.{Refusal}
-use Rattle.refusal.specs.Refusals.{told}
-use Rattle.model.specs.Outcome.{Outcome, accepted, refused, ◌>>=◌}
-use Rattle.model.specs.CallLists.{Call, call}
-use Rattle.sheet.specs.Answers.{packed_as}
-use Rattle.answers.specs.Codes.{given}
+use Rattle.model.specs.Outcome.{accepted}
 use Rattle.model.specs.Plan.{Plan}
 use Rattle.model.specs.Scan.{Triple, scan}
 use Rattle.model.specs.File.{Sheet}
@@ -32,8 +25,8 @@ use Rattle.exchange.specs.Exchange.{sheet_in}
 use Rattle.exchange.proofs.Small.{small-accepted, small_bind}
 use Rattle.exchange.proofs.Sizes.{scan-inside, part_short}
 use Rattle.exchange.proofs.Places.{plan-held, small-scan, small_same, small-ring}
-use Rattle.exchange.proofs.Codes.{Roomy}
-use Rattle.exchange.proofs.Handing.{opened_good, handed_good, small_in, chained, unhanded}
+use Rattle.exchange.proofs.Codes.{Roomy, code_whole}
+use Rattle.exchange.proofs.Handing.{opened_good, handed_good, small_in}
 use Rattle.touchchart.specs.Interface.{triple_value, scan_value, scans_to, same_value, compare_value, compares_to, part_value, rings_to}
 
 -- ---- scan
@@ -62,16 +55,6 @@ roomy-scan b = record {
       let (t, e₂, g) = bind_accepted (scan_call s) (λ (t : Option Triple). accepted (triple_value t)) v f in
       subst (λ (w : ℕ). w < 2 ^ 48) (same-value g) (scan-value s t (handed_good b s e₁) e₂);
 }
-
--- bytes that are refused
-pub scan-off : (b : List ℕ) (k at : ℕ) → refused k at ≡ sheet_in b → refused k at ≡ scans_to b
-unfolding scans_to
-scan-off b k at e = ap (λ (o : Outcome Sheet). o >>= λ (s : Sheet). scan_value (scan_call s)) e
-
--- the scan of the sheet that bytes hand over
-pub scan-at : (b : List ℕ) (h : struct.Sheet) (o : Outcome (Option Triple)) → accepted (reads h) ≡ sheet_in b → o ≡ scan_call (reads h) → scan_value o ≡ scans_to b
-unfolding scans_to
-scan-at b h o e q = ap scan_value q ∙ ap (λ (p : Outcome Sheet). p >>= λ (s : Sheet). scan_value (scan_call s)) e
 
 -- the three are below 200, whatever the struct
 pub scanned_inside : (s : struct.Sheet) (a b c : ℕ) → accepted (some (a, b, c)) ≡ scan_call (reads s) → (a < 200) × (b < 200) × (c < 200)
@@ -106,23 +89,6 @@ roomy-same a b = record {
     low true = omega arith
     low false = omega arith
 
--- the first bytes that are refused
-pub first-off : (a b : List ℕ) (k at : ℕ) → refused k at ≡ sheet_in a → refused k at ≡ compares_to a b
-unfolding compares_to
-first-off a b k at e = ap (λ (o : Outcome Sheet). o >>= λ (s : Sheet). sheet_in b >>= λ (t : Sheet). compare_value (same_call s t)) e
-
-module _ (a b : List ℕ) (f : struct.Sheet) (e : accepted (reads f) ≡ sheet_in a) where
-  -- the second
-  pub second-off : (k at : ℕ) → refused k at ≡ sheet_in b → refused k at ≡ compares_to a b
-  unfolding compares_to
-  second-off k at g = ap (λ (o : Outcome Sheet). o >>= λ (t : Sheet). compare_value (same_call (reads f) t)) g ∙ ap (λ (o : Outcome Sheet). o >>= λ (s : Sheet). sheet_in b >>= λ (t : Sheet). compare_value (same_call s t)) e
-
-  -- the comparison of the two sheets
-  pub same_at : (s : struct.Sheet) (o : Outcome Bool) → accepted (reads s) ≡ sheet_in b → o ≡ same_call (reads f) (reads s) → compare_value o ≡ compares_to a b
-  unfolding compares_to
-  same_at s o g q =
-      ap compare_value q ∙ ap (λ (p : Outcome Sheet). p >>= λ (t : Sheet). compare_value (same_call (reads f) t)) g ∙ ap (λ (p : Outcome Sheet). p >>= λ (s : Sheet). sheet_in b >>= λ (t : Sheet). compare_value (same_call s t)) e
-
 -- ---- ring
 -- a part lies in the file's first 4,096 bytes
 pub part_inside : (b : List ℕ) (u at size : ℕ) → ring_call b u ≡ accepted (at, size) → (at < 4096) × (size < 4096)
@@ -144,14 +110,5 @@ roomy-ring b u = record {
       omega arith;
 }
 
--- what the call answers, as a number
-pub ring-at : (b : List ℕ) (u w : ℕ) (o : Outcome (ℕ × ℕ)) → w ≡ u → o ≡ ring_call b w → (o >>= λ (t : ℕ × ℕ). accepted (part_value t)) ≡ rings_to b u
-unfolding rings_to
-ring-at b u w o s e = ap (λ (p : Outcome (ℕ × ℕ)). p >>= λ (t : ℕ × ℕ). accepted (part_value t)) (e ∙ ap (ring_call b) s)
-
--- ---- the calls
--- a call on what is handed over
-pub given_then : (b : List ℕ) (c : Call) (r q : Result struct.Sheet Refusal) → given r ≡ sheet_in b → MatchResult r (λ x. told q ≡ packed_as (call (reads x) c)) (λ f. q ≡ Err f) → given q ≡ (sheet_in b >>= λ (s : Sheet). call s c)
-unfolding given
-given_then b c (Ok x) q e m = chained b c x q e m
-given_then b c (Err f) q e m = ap given m ∙ unhanded b c _ _ e
+-- for the number of an answer that has room
+pub ruleset numbers = (code_whole, roomy-scan, roomy-same, roomy-ring)

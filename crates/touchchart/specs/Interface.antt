@@ -4,13 +4,8 @@ use Rattle.std.specs.Prelude.{ℕ, ◌+◌, ◌*◌, List, Bool, true, false}
 use Rattle.std.proofs.Math.Option.{Option, none, some}
 use Rattle.model.specs.Outcome.{Outcome, accepted, ◌>>=◌}
 use Rattle.model.specs.Scan.{Triple}
-use Rattle.model.specs.File.{Sheet}
 use Rattle.model.specs.Calls.{open_call, sweep_call, offer_call, turn_call, chart_call, write_call, scan_call, same_call, ring_call}
 use Rattle.exchange.specs.Exchange.{sheet_in}
-
--- a call on the sheet that bytes hand over
-abbrev pub called_on : List ℕ → (Sheet → Outcome Sheet) → Outcome Sheet
-called_on sheet f = sheet_in sheet >>= f
 
 -- touchchart_open: the file's sheet, written into out
 unfoldable pub opens_to : List ℕ → List ℕ → Outcome (ℕ × List ℕ)

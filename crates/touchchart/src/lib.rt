@@ -4,17 +4,16 @@
 #![tactic(auto)]
 
 ghost use Rattle.std.specs.Prelude.{◌≡◌, ◌+◌, ◌*◌, ◌<◌};
-ghost use Rattle.model.specs.Calls.{offer_call, turn_call};
 ghost use Rattle.refusal.specs.Refusals.{told};
 ghost use Rattle.writing.specs.Files.{buffer_after};
 ghost use Rattle.sheet.specs.Answers.{length_of};
-ghost use Rattle.answers.specs.Codes.{code, given};
-ghost use Rattle.touchchart.specs.Interface.{called_on, opens_to, sweeps_to, offers_to, turns_to, charts_to, scans_to, compares_to, rings_to};
+ghost use Rattle.answers.specs.Codes.{code};
+ghost use Rattle.touchchart.specs.Interface.{opens_to, sweeps_to, offers_to, turns_to, charts_to, scans_to, compares_to, rings_to};
 
 use refusal::Refusal;
-use sheet::Sheet;
 
 // Opens a file: the length of its sheet's file, which is written to out.
+#[tactic(auto, using(crate::proofs::Calls::opens), unfolding(exchange::specs::Exchange::handed_back, crate::specs::Interface::opens_to))]
 pub fn touchchart_open(file: &[u8], out: &mut [u8]) -> u64
     ensures value { result ≡ code (length_of (opens_to file.now out.old)) }
     ensures out_after { out.new ≡ buffer_after (opens_to file.now out.old) out.old }
@@ -23,6 +22,7 @@ pub fn touchchart_open(file: &[u8], out: &mut [u8]) -> u64
 }
 
 // Sweeps a sheet (OPEN up): the length of the new sheet's file, which is written to out.
+#[tactic(auto, using(crate::proofs::Calls::sweeps), unfolding(exchange::specs::Exchange::handed_back, crate::specs::Interface::sweeps_to))]
 pub fn touchchart_sweep(sheet: &[u8], out: &mut [u8]) -> u64
     ensures value { result ≡ code (length_of (sweeps_to sheet.now out.old)) }
     ensures out_after { out.new ≡ buffer_after (sweeps_to sheet.now out.old) out.old }
@@ -30,37 +30,32 @@ pub fn touchchart_sweep(sheet: &[u8], out: &mut [u8]) -> u64
     exchange::hand_back(exchange::hand_over(sheet).and_then(calls::sweep), out)
 }
 
-// The sheet that is handed over, with the labels that are offered to it.
-fn offered(sheet: &[u8], labels: &[u8]) -> Result<Sheet, Refusal>
-    ensures { given result ≡ called_on sheet.now (λ s. offer_call s labels.now) }
-{
-    calls::offer(exchange::hand_over(sheet)?, labels)
-}
-
 // Offers labels to a sheet (OPEN up): the length of the new sheet's file, which is written to out.
+#[tactic(auto, using(crate::proofs::Calls::offers), unfolding(exchange::specs::Exchange::handed_back, crate::specs::Interface::offers_to))]
 pub fn touchchart_offer(sheet: &[u8], labels: &[u8], out: &mut [u8]) -> u64
     ensures value { result ≡ code (length_of (offers_to sheet.now labels.now out.old)) }
     ensures out_after { out.new ≡ buffer_after (offers_to sheet.now labels.now out.old) out.old }
 {
-    exchange::hand_back(offered(sheet, labels), out)
-}
-
-// The sheet that is handed over, with the labels of the named edges turned.
-fn turned(sheet: &[u8], pairs: &[u16], direction: u8) -> Result<Sheet, Refusal>
-    ensures { given result ≡ called_on sheet.now (λ s. turn_call s pairs.now direction) }
-{
-    calls::turn(exchange::hand_over(sheet)?, pairs, direction)
+    exchange::hand_back(
+        exchange::hand_over(sheet).and_then(|held| calls::offer(held, labels)),
+        out,
+    )
 }
 
 // Turns labels of a sheet (LABELLED up): the length of the new sheet's file, which is written to out.
+#[tactic(auto, using(crate::proofs::Calls::turns), unfolding(exchange::specs::Exchange::handed_back, crate::specs::Interface::turns_to))]
 pub fn touchchart_turn(sheet: &[u8], pairs: &[u16], direction: u8, out: &mut [u8]) -> u64
     ensures value { result ≡ code (length_of (turns_to sheet.now pairs.now direction out.old)) }
     ensures out_after { out.new ≡ buffer_after (turns_to sheet.now pairs.now direction out.old) out.old }
 {
-    exchange::hand_back(turned(sheet, pairs, direction), out)
+    exchange::hand_back(
+        exchange::hand_over(sheet).and_then(|held| calls::turn(held, pairs, direction)),
+        out,
+    )
 }
 
 // Charts a sheet (LABELLED up): the length of the new sheet's file, which is written to out.
+#[tactic(auto, using(crate::proofs::Calls::charts), unfolding(exchange::specs::Exchange::handed_back, crate::specs::Interface::charts_to))]
 pub fn touchchart_chart(sheet: &[u8], out: &mut [u8]) -> u64
     ensures value { result ≡ code (length_of (charts_to sheet.now out.old)) }
     ensures out_after { out.new ≡ buffer_after (charts_to sheet.now out.old) out.old }
@@ -79,6 +74,7 @@ fn triple_value(a: usize, b: usize, c: usize) -> u64
 }
 
 // The scan of the sheet that is handed over, as a number.
+#[tactic(auto, using(crate::proofs::Answers::scanned_inside), unfolding(answers::specs::Codes::given, triples::specs::Scanned::scanned_as, reports::specs::Scanned::scanned_as, crate::specs::Interface::triple_value, crate::specs::Interface::scan_value, crate::specs::Interface::scans_to))]
 fn scanned(sheet: &[u8]) -> Result<u64, Refusal>
     ensures { told result ≡ scans_to sheet.now }
 {
@@ -90,6 +86,7 @@ fn scanned(sheet: &[u8]) -> Result<u64, Refusal>
 }
 
 // Scans a sheet (OPEN up): 0 for none, else a × 65536 + b × 256 + c.
+#[tactic(auto, using(crate::proofs::Answers::numbers))]
 pub fn touchchart_scan(sheet: &[u8]) -> u64
     ensures { result ≡ code (scans_to sheet.now) }
 {
@@ -97,6 +94,7 @@ pub fn touchchart_scan(sheet: &[u8]) -> u64
 }
 
 // The comparison of two sheets that are handed over, as a number.
+#[tactic(auto, unfolding(answers::specs::Codes::given, crate::specs::Interface::same_value, crate::specs::Interface::compare_value, crate::specs::Interface::compares_to))]
 fn compared(a: &[u8], b: &[u8]) -> Result<u64, Refusal>
     ensures { told result ≡ compares_to a.now b.now }
 {
@@ -107,6 +105,7 @@ fn compared(a: &[u8], b: &[u8]) -> Result<u64, Refusal>
 }
 
 // Compares two sheets (both CHARTED): 1 where n, w, h and all points are equal, else 0.
+#[tactic(auto, using(crate::proofs::Answers::numbers))]
 pub fn touchchart_same(a: &[u8], b: &[u8]) -> u64
     ensures { result ≡ code (compares_to a.now b.now) }
 {
@@ -123,6 +122,7 @@ fn part_value(part: files::Part) -> u64
 }
 
 // Where a context's ring stands in a file, as a number.
+#[tactic(auto, using(crate::proofs::Answers::part_inside), unfolding(crate::specs::Interface::part_value, crate::specs::Interface::rings_to))]
 fn part_of(file: &[u8], context: u16) -> Result<u64, Refusal>
     ensures { told result ≡ rings_to file.now context }
 {
@@ -131,6 +131,7 @@ fn part_of(file: &[u8], context: u16) -> Result<u64, Refusal>
 }
 
 // Finds a context's ring in a file: offset × 65536 + length of the part.
+#[tactic(auto, using(crate::proofs::Answers::numbers))]
 pub fn touchchart_ring(file: &[u8], context: u16) -> u64
     ensures { result ≡ code (rings_to file.now context) }
 {

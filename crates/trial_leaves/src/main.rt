@@ -12,19 +12,6 @@ use refusal::Refusal;
 use rings::{Rings, Table};
 use writing::Held;
 
-// The entries of all rings, one ring behind the other.
-fn entries_of(rings: &LentRings) -> [u16; 1186] {
-    let mut entries = [0u16; 1186];
-    for u in 0..rings.n {
-        for i in 0..rings.size_of(u) {
-            let v = rings.neighbour_at(u, i);
-            let at = arrays::num(rings.starts, u) + i;
-            arrays::put(&mut entries, at, u16::try_from(v).unwrap_or(0));
-        }
-    }
-    entries
-}
-
 // The place that a rule refuses; this number where it is kept.
 fn place_of(rule: Result<(), Refusal>, kept: usize) -> usize {
     rule.err().map_or(kept, Refusal::place)
@@ -62,22 +49,19 @@ fn print_scan(rings: &Rings) {
     };
 }
 
-// The plan alone, written as a file into the first bytes of a buffer, and how long it is. Where the buffer has fewer bytes, nothing is written.
-fn write_part(space: &mut [u8], size: usize, plan: &Table) -> Result<usize, Refusal> {
-    if space.len() < size {
-        return Err(Refusal::ShortBuffer(0));
-    }
+// The plan alone, written as a file into a buffer, and how long it is.
+fn write_part(space: &mut [u8], plan: &Table) -> Result<usize, Refusal> {
     let held = Held {
         plan: *plan,
         parts: writing::Parts::Plan,
     };
-    writing::write_file(&mut space[..size], &held)
+    writing::write_file(space, &held)
 }
 
 // The plan written into a buffer: how many bytes it takes, and how many of them are the file's; or how many it needs. Either number.
 fn print_whole(file: &[u8], plan: &Table) -> usize {
     let mut space = io::buffer();
-    match write_part(&mut space, 4096, plan) {
+    match write_part(&mut space, plan) {
         Ok(size) => {
             let same = comparison::agreeing(file, &space, size);
             console::print(format_args!(" bytes {size} same {same}"));
@@ -96,7 +80,7 @@ fn print_short(refusal: Refusal) -> usize {
 
 // The plan written into so many bytes: how many it takes, or how many it needs.
 fn print_part(size: usize, plan: &Table) {
-    match write_part(&mut io::buffer(), size, plan) {
+    match write_part(&mut io::buffer()[..size.min(4096)], plan) {
         Ok(k) => {
             console::print(format_args!(" length {k}"));
         }
@@ -171,56 +155,58 @@ fn print_labels(plan: &Table, labels: &[u8], record: Option<&[u8]>) {
     }
 }
 
-// The label bytes of a file, from an offset on.
-fn labels_of<'a>(file: &'a [u8], layout: &Layout, at: usize) -> &'a [u8] {
-    arrays::part(file, at, 6 * layout.n - 14)
+// A file with its layout.
+#[derive(Clone, Copy)]
+struct Framed<'a> {
+    file: &'a [u8],
+    layout: &'a Layout,
 }
 
-// The body of the chart record of a file, from an offset on.
-fn record_of<'a>(file: &'a [u8], layout: &Layout, at: usize) -> &'a [u8] {
-    arrays::part(file, at, 4 + 4 * layout.n)
-}
-
-// The rules 8 and 9, and on a plan that keeps them the scan, the plan written and the labels, if the file has any.
-fn print_flat(file: &[u8], layout: &Layout, rings: &Rings) {
-    if !print_flat_rules(rings) {
-        return;
+impl<'a> Framed<'a> {
+    // The label bytes, from an offset on.
+    fn labels(&self, at: usize) -> &'a [u8] {
+        arrays::part(self.file, at, self.layout.darts())
     }
-    print_scan(rings);
-    let plan = Table {
-        sizes: rings.sizes,
-        entries: rings.entries,
-        n: rings.n,
-    };
-    print_written(file, &plan);
-    match layout.parts {
-        Parts::Plan => {}
-        Parts::Labels { labels } => print_labels(&plan, labels_of(file, layout, labels), None),
-        Parts::Chart { labels, chart } => print_labels(
-            &plan,
-            labels_of(file, layout, labels),
-            Some(record_of(file, layout, chart)),
-        ),
-    }
-}
 
-// What the leaves find in a plan that is framed.
-fn print_plan(file: &[u8], layout: &Layout) {
-    let starts = rings::starts_of(&layout.sizes);
-    let lent = LentRings {
-        file,
-        starts: &starts,
-        sizes: &layout.sizes,
-        n: layout.n,
-    };
-    if print_lent_rules(&lent) {
-        let rings = Rings {
+    // The body of the chart record, from an offset on.
+    fn record(&self, at: usize) -> &'a [u8] {
+        arrays::part(self.file, at, 4 + 4 * self.layout.n)
+    }
+
+    // The rules 8 and 9, and on a plan that keeps them the scan, the plan written and the labels, if the file has any.
+    fn print_flat(&self, plan: &Table, rings: &Rings) {
+        if !print_flat_rules(rings) {
+            return;
+        }
+        print_scan(rings);
+        print_written(self.file, plan);
+        match self.layout.parts {
+            Parts::Plan => {}
+            Parts::Labels { labels } => print_labels(plan, self.labels(labels), None),
+            Parts::Chart { labels, chart } => {
+                print_labels(plan, self.labels(labels), Some(self.record(chart)));
+            }
+        }
+    }
+
+    // What the leaves find in the plan.
+    fn print_plan(&self) {
+        let layout = self.layout;
+        let starts = rings::starts_of(&layout.sizes);
+        let lent = LentRings {
+            file: self.file,
             starts: &starts,
             sizes: &layout.sizes,
-            entries: &entries_of(&lent),
             n: layout.n,
         };
-        print_flat(file, layout, &rings);
+        if print_lent_rules(&lent) {
+            let plan = Table {
+                sizes: &layout.sizes,
+                entries: &lent.entries(),
+                n: layout.n,
+            };
+            self.print_flat(&plan, &plan.rings(&starts));
+        }
     }
 }
 
@@ -242,7 +228,11 @@ fn print_file(file: &[u8]) {
         }
         Ok(layout) => {
             print_layout(&layout);
-            print_plan(file, &layout);
+            let framed = Framed {
+                file,
+                layout: &layout,
+            };
+            framed.print_plan();
         }
     }
     console::print("\n");

@@ -108,7 +108,7 @@ afresh (Err r) = false
 
 -- turned, and afresh: a turn, if there is one, leaves the sheet undrawn, and the new chart is the one drawn anew
 abbrev pub turn_tally : Tally → Option Turned → Tally
-turn_tally t (Some s) = tallied (tallied t (undrawn s.turn.now.left s.left_same)) (afresh s.new_same)
+turn_tally t (Some s) = tallied (tallied t (undrawn s.left.sheet.now s.left.same)) (afresh s.new.same)
 turn_tally t None = tallied t true
 
 -- the length of a file; 0 where it is refused

@@ -26,6 +26,13 @@ pub struct Opened<'a> {
     pub scan: Result<Option<(usize, usize, usize)>, Refusal>,
 }
 
+// A sheet, and what same says of it and of another one, or of it alone.
+#[derive(Clone, Copy)]
+pub struct Compared<'a> {
+    pub sheet: &'a Sheet,
+    pub same: Result<bool, Refusal>,
+}
+
 // A sheet swept and charted, and what is seen of it: what sweep answers, the sheet before chart, and what chart answers.
 #[derive(Clone, Copy)]
 pub struct Drawn<'a> {
@@ -34,23 +41,21 @@ pub struct Drawn<'a> {
     pub charted: &'a Result<Sheet, Refusal>,
 }
 
-// A turn of the edge from u to v in a direction, and the sheet that it leaves.
+// A turn of the edge from u to v in a direction.
 #[derive(Clone, Copy)]
 pub struct Turn {
     pub u: u16,
     pub v: u16,
     pub direction: u8,
-    pub left: Sheet,
 }
 
-// A turn of one edge, and what is seen of it: the turn, the sheet before it, what same says of the sheet that it leaves, and the new chart of that sheet with what same says of it and of the one drawn anew.
+// A turn of one edge, and what is seen of it: the turn, the sheet before it, the sheet that it leaves, and the new chart of that sheet beside the one drawn anew.
 #[derive(Clone, Copy)]
 pub struct Turned<'a> {
-    pub turn: &'a Turn,
+    pub turn: Turn,
     pub old: &'a Sheet,
-    pub left_same: Result<bool, Refusal>,
-    pub new: &'a Sheet,
-    pub new_same: Result<bool, Refusal>,
+    pub left: Compared<'a>,
+    pub new: Compared<'a>,
 }
 
 // A sheet written as a file: the buffer, and what write answers.
@@ -105,19 +110,6 @@ fn answer_of<A>(answer: &Result<A, Refusal>) -> Shown
     }
 }
 
-// Writes what same answers.
-fn show_same(same: Result<bool, Refusal>) {
-    let shown = if same == Ok(false) {
-        Shown {
-            number: 1,
-            place: 0,
-        }
-    } else {
-        answer_of(&same)
-    };
-    console::print(format_args!(", same {shown}"));
-}
-
 // Is an answer the refusal of a stage too early?
 fn is_early<A: Copy>(answer: &Result<A, Refusal>) -> bool
     ensures { result ≡ is_early answer.now }
@@ -125,29 +117,45 @@ fn is_early<A: Copy>(answer: &Result<A, Refusal>) -> bool
     answer.err() == Some(Refusal::TooEarly)
 }
 
-// Has a sheet no chart? It has no width and no height, and same is refused 13 at 0. It writes the sheet's stage, width and height, and what same answers.
-fn is_undrawn(sheet: &Sheet, same: Result<bool, Refusal>) -> bool
-    ensures { result ≡ undrawn sheet.now same }
-{
-    let stage = if sheet::stage_of(sheet) == Stage::Labelled {
-        "LABELLED"
-    } else {
-        "OPEN"
-    };
-    console::print(format_args!("{stage} {}x{}, not drawn yet", sheet.w, sheet.h,));
-    show_same(same);
-    sheet.w == 0 && sheet.h == 0 && is_early(&same)
-}
-
-// The check of a sheet as a file opens it, where that has no chart.
-fn check_opened(tally: Tally, sheet: &Sheet, same: Result<bool, Refusal>) -> Tally
-    ensures { result ≡ opened_tally tally sheet.now same }
-{
-    if sheet::stage_of(sheet) == Stage::Charted {
-        return tally;
+impl Compared<'_> {
+    // Writes what same answers.
+    fn show_same(&self) {
+        let shown = if self.same == Ok(false) {
+            Shown {
+                number: 1,
+                place: 0,
+            }
+        } else {
+            answer_of(&self.same)
+        };
+        console::print(format_args!(", same {shown}"));
     }
-    console::print("  opened: ");
-    tally.judge(is_undrawn(sheet, same))
+
+    // Has the sheet no chart? It has no width and no height, and same is refused 13 at 0. It writes the sheet's stage, width and height, and what same answers.
+    fn is_undrawn(&self) -> bool
+        ensures { result ≡ undrawn self.now.sheet.now self.now.same }
+    {
+        let (w, h) = (self.sheet.w, self.sheet.h);
+        let stage = if sheet::stage_of(self.sheet) == Stage::Labelled {
+            "LABELLED"
+        } else {
+            "OPEN"
+        };
+        console::print(format_args!("{stage} {w}x{h}, not drawn yet"));
+        self.show_same();
+        w == 0 && h == 0 && is_early(&self.same)
+    }
+
+    // The check of the sheet as a file opens it, where that has no chart.
+    fn check_opened(&self, tally: Tally) -> Tally
+        ensures { result ≡ opened_tally tally self.now.sheet.now self.now.same }
+    {
+        if sheet::stage_of(self.sheet) == Stage::Charted {
+            return tally;
+        }
+        console::print("  opened: ");
+        tally.judge(self.is_undrawn())
+    }
 }
 
 // Are the three contexts of a scan neighbours of each other and no face, if there are any? It writes them, or that there are none; of a refused scan it writes nothing.
@@ -181,7 +189,15 @@ pub fn tell_file(tally: Tally, opened: &Opened) -> Tally
         answer_of(opened.answer),
     ));
     match opened.answer {
-        Ok(sheet) => check_opened(tally, sheet, opened.same).judge(is_triple(sheet, opened.scan)),
+        Ok(sheet) => {
+            let compared = Compared {
+                sheet,
+                same: opened.same,
+            };
+            compared
+                .check_opened(tally)
+                .judge(is_triple(sheet, opened.scan))
+        }
         Err(_) => tally,
     }
 }
@@ -264,25 +280,25 @@ pub fn tell_chart(tally: Tally, drawn: &Drawn) -> Tally
 impl<'a> Turned<'a> {
     // The check that the turn leaves no chart.
     fn check_left(&self, tally: Tally) -> Tally
-        ensures { result ≡ tallied tally (undrawn self.now.turn.now.left self.now.left_same) }
+        ensures { result ≡ tallied tally (undrawn self.now.left.sheet.now self.now.left.same) }
     {
         console::print(format_args!(
             "  turned: edge {},{} direction {}, ",
             self.turn.u, self.turn.v, self.turn.direction,
         ));
-        tally.judge(is_undrawn(&self.turn.left, self.left_same))
+        tally.judge(self.left.is_undrawn())
     }
 
     // The check that the chart drawn after the turn, in place of an old one, is the one that is drawn anew.
     fn check_afresh(&self, tally: Tally) -> Tally
-        ensures { result ≡ tallied tally (afresh self.now.new_same) }
+        ensures { result ≡ tallied tally (afresh self.now.new.same) }
     {
         console::print(format_args!(
             "  afresh: before {}x{}, after {}x{}",
-            self.old.w, self.old.h, self.new.w, self.new.h,
+            self.old.w, self.old.h, self.new.sheet.w, self.new.sheet.h,
         ));
-        show_same(self.new_same);
-        tally.judge(self.new_same == Ok(true))
+        self.new.show_same();
+        tally.judge(self.new.same == Ok(true))
     }
 }
 

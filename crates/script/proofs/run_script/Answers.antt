@@ -2,12 +2,9 @@
 use Rattle.guarantee.proofs.Guarantee.{guarantee}
 use Rattle.script.specs.Scripts.{calls_of}
 use Rattle.script.proofs.Items.{step-size}
-use Rattle.script.proofs.Walk.{runs-start, runs_on, rest_whole, runs_end}
+use Rattle.script.proofs.Walk.{runs_on, rest_whole, runs_end}
 use native.Mathlib.Omega.{arith}
 use Rattle.script.proofs.run_script.Goals as goal
-
-pub loop-step-init : goal.loop-step-init
-loop-step-init c = runs-start c.fresh_sheet-sheet.ensures
 
 pub overflow_add-at : goal.overflow_add-at
 overflow_add-at c =
@@ -19,9 +16,6 @@ loop-step-smaller c =
     let r = (runs_on c.loop-step.invariant (rest_whole c.args.script.now c.loop-step.at) c.in-Some.step c.in-Some.ensures).reached in
     let size = step-size _ _ _ c.in-Some.step c.in-Some.ensures in
     omega arith
-
-pub loop-step-preserved : goal.loop-step-preserved
-loop-step-preserved c = runs_on c.loop-step.invariant (rest_whole c.args.script.now c.loop-step.at) c.in-Some.step c.in-Some.ensures
 
 pub returns-clause-sheet_value : goal.returns-clause-sheet_value
 returns-clause-sheet_value c = (runs_end c.loop-step.invariant (rest_whole c.args.script.now c.loop-step.at) c.run_item.ensures c.in_default.not-Some).0
