@@ -83,7 +83,11 @@ pub fn num<T: Number>(a: &[T], i: usize) -> usize
 pub fn word_at(a: &[u8], i: usize) -> u16
     ensures { result ≡ get_or a.now i 0 + 256 * get_or a.now (i + 1) 0 }
 {
-    u16::from_le_bytes([at(a, i), at(a, i.saturating_add(1))])
+    if i < a.len() {
+        u16::from_le_bytes([a[i], at(a, i + 1)])
+    } else {
+        0
+    }
 }
 
 // The first k numbers of two bytes from an index on, one every so many bytes, and zeros behind them; of more than there is room for, the first N.

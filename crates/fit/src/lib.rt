@@ -1,7 +1,8 @@
 // Does a plan in flat arrays fit: at most 200 contexts, at most 1186 entries, and each entry a context?
 #![tactic(auto)]
 
-ghost use Rattle.std.specs.Prelude.{◌≡◌, min, ◌<◌, ◌^◌, leb};
+ghost use Rattle.std.specs.Prelude.{◌≡◌, min, max, ◌<◌, ◌^◌, ◌&&◌, leb};
+ghost use Rattle.std.specs.List.{fold};
 ghost use Rattle.lists.specs.Tests.{any};
 ghost use Rattle.lists.specs.Spans.{span};
 ghost use Rattle.rings.specs.Tables.{start_of, table_of, in_bounds};
@@ -14,25 +15,41 @@ pub fn total_of(sizes: &[u8], n: usize) -> usize
     ensures value { result ≡ start_of sizes.now (min n 200) }
     ensures upper_bound { result < 2 ^ 16 }
 {
-    sizes
-        .iter()
-        .take(n.min(200))
-        .map(|size| usize::from(*size))
-        .sum()
+    let counted = n.min(200).min(sizes.len());
+    sizes[..counted].iter().map(|size| usize::from(*size)).sum()
+}
+
+// Is there room in the arrays for n rings that have so many entries in all: for at most 200 rings, and at most 1186 entries?
+fn has_room(n: usize, total: usize) -> bool
+    ensures { result ≡ (leb n 200 && leb total 1186) }
+{
+    n <= 200 && total <= 1186
 }
 
 // Do the rings fit the arrays: at most 200 of them, with at most 1186 entries?
+#[tactic(auto, using(crate::proofs::Fits::room_is))]
 pub fn is_in_bounds(sizes: &[u8], n: usize) -> bool
     ensures { result ≡ in_bounds sizes.now n }
 {
-    n <= 200 && total_of(sizes, n) <= 1186
+    has_room(n, total_of(sizes, n))
 }
 
-// Does one of the first k entries name no context below n?
+// The highest of the first k entries, or 0. The loop has no early end, so that the machine runs it over several entries at once.
+#[tactic(auto, using(crate::proofs::Settles::highest_is))]
+fn highest(entries: &[u16], k: usize) -> u16
+    ensures { result ≡ fold max 0 (span entries.now 0 k) }
+{
+    entries[..k.min(entries.len())]
+        .iter()
+        .fold(0, |top, entry| top.max(*entry))
+}
+
+// Does one of the first k entries name no context below n? Where there are entries, the highest of them settles it.
+#[tactic(auto, using(crate::proofs::Settles::highest_settles, crate::proofs::Settles::none_strange))]
 fn any_strange(entries: &[u16], k: usize, n: usize) -> bool
     ensures { result ≡ any (strange n) (span entries.now 0 k) }
 {
-    (0..k).any(|i| n <= rings::neighbour_of(arrays::num(entries, i)))
+    0 < k && n <= rings::neighbour_of(usize::from(highest(entries, k)))
 }
 
 // Does the plan fit?
@@ -40,6 +57,6 @@ fn any_strange(entries: &[u16], k: usize, n: usize) -> bool
 pub fn is_fit(plan: &Table) -> bool
     ensures { result ≡ fit (table_of plan.now) }
 {
-    is_in_bounds(plan.sizes, plan.n)
-        && !any_strange(plan.entries, total_of(plan.sizes, plan.n), plan.n)
+    let total = total_of(plan.sizes, plan.n);
+    has_room(plan.n, total) && !any_strange(plan.entries, total, plan.n)
 }

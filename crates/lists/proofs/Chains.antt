@@ -20,7 +20,7 @@ use Rattle.std.specs.List.{FoldsTo, list_any, range_with_len, position_or_len}
 use Rattle.std.specs.Option.{unwrap_or}
 use Rattle.lists.specs.Tests.{any, member, repeats}
 use Rattle.lists.specs.Parts.{index_of}
-use Rattle.lists.specs.Folds.{some, some_of}
+use Rattle.lists.specs.Folds.{some_within, some_of}
 use Rattle.lists.specs.Spans.{stretch, span}
 
 -- what `any` gives of the numbers from a up to e, where the closure is a test that leaves what it captures as it is
@@ -44,7 +44,7 @@ any_some q a (suc k) = go (q a) (any_some q (a + 1) k ∙ ap (λ (b : ℕ). some
 pub some_in_range : {F : Type 0} {g : Mut F (ℕ × Unit {0}) Bool} (test : ℕ → Bool) (a e : ℕ) {u : Range ℕ} {f : F} {r : Bool}
     → (xs : List ℕ) × (o : Option ℕ) × (j : F) × YieldsThen nat_range_steps (record { start = a; end = e }) xs o u × FoldsTo (λ p x q. Called g p (x, tt) false q) f xs j × MatchOption o (r ≡ false) (λ x. (r ≡ true) × ((h : F) × Called g j (x, tt) true h))
     → ((x : ℕ) (b : Bool) (q : F) → Called g f (x, tt) b q → (q ≡ f) × (b ≡ test x))
-    → r ≡ some test a e
+    → r ≡ some_within test a e
 some_in_range test a e ran told = any_in_range test a e ran told ∙ any_some test a (e - a)
 
 module _ (l : List ℕ) where

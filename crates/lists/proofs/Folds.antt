@@ -9,7 +9,7 @@ use lib.Dec.{eqb}
 use borrow.Author.Tests.{eqb-true, eqb-false}
 use Rattle.lists.specs.Tests.{all}
 use Rattle.lists.specs.Ranges.{from}
-use Rattle.lists.specs.Folds.{each, through, down, some_of, some}
+use Rattle.lists.specs.Folds.{each, through, down, some_of, some_within}
 
 -- ---- for i in a..e { s = step(i, s); }
 pub record Goes {A : Type 0} (step : ℕ → A → A) (a e : ℕ) (s₀ : A) (i : ℕ) (s : A) : Type 0 where
@@ -57,7 +57,7 @@ module _ {A : Type 0} {step : ℕ → A → A} {n k : ℕ} {s₀ s : A} (inv : S
 
 -- ---- for i in a..e { if p(i) { return true; } } false
 pub record Seeks (p : ℕ → Bool) (a e i : ℕ) : Type 0 where
-  pub same : some p a e ≡ some p i e
+  pub same : some_within p a e ≡ some_within p i e
 
 -- before the loop
 pub seeks_start : {p : ℕ → Bool} {a e : ℕ} → Seeks p a e a
@@ -65,7 +65,7 @@ seeks_start = record { same = refl }
 
 module _ {p : ℕ → Bool} {a e i : ℕ} (inv : Seeks p a e i) where
   -- where the number passes
-  pub seeks_hit : i < e → p i ≡ true → true ≡ some p a e
+  pub seeks_hit : i < e → p i ≡ true → true ≡ some_within p a e
   unfolding some_of
   seeks_hit h t = let z : e - i ≡ suc (e - (i + 1)) = omega arith in sym (inv.same ∙ rw (z, t))
 
@@ -75,7 +75,7 @@ module _ {p : ℕ → Bool} {a e i : ℕ} (inv : Seeks p a e i) where
   seeks_on h t = let z : e - i ≡ suc (e - (i + 1)) = omega arith in record { same = inv.same ∙ rw (z, t, add-one) }
 
   -- after the loop
-  pub seeks_end : e ≤ i → false ≡ some p a e
+  pub seeks_end : e ≤ i → false ≡ some_within p a e
   unfolding some_of
   seeks_end h = let z : e - i ≡ 0 = omega arith in sym (inv.same ∙ rw z)
 

@@ -71,7 +71,3 @@ module _ {k : ℕ} {f : ℕ → ℕ} {i : ℕ} {b : List ℕ} (inv : Fills k f i
 
   pub fills_end : i ≡ k → b ≡ map f (from 0 k)
   fills_end q = inv.same ∙ ap (λ (j : ℕ). padded k (map f (from 0 j))) q ∙ padded_full k (map f (from 0 k)) (length-map-from f 0 k)
-
-  pub fills_length : i ≤ k → length b ≡ k
-  unfolding padded zeros
-  fills_length h = ap length inv.same ∙ simp (length-append, length-replicate) (let z = length-map-from f 0 i in omega arith)

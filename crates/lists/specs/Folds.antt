@@ -21,5 +21,5 @@ some_of p i zero = false
 some_of p i (suc k) = cond (p i) true (some_of p (suc i) k)
 
 -- some number from i up to e, e excluded, passes
-abbrev pub some : (ℕ → Bool) → ℕ → ℕ → Bool
-some p i e = some_of p i (e - i)
+abbrev pub some_within : (ℕ → Bool) → ℕ → ℕ → Bool
+some_within p i e = some_of p i (e - i)
