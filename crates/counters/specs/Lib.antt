@@ -1,0 +1,4 @@
+pub mod Quick
+pub mod Local
+pub mod Counter
+pub mod Cost
