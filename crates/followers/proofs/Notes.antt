@@ -1,22 +1,21 @@
 -- Entries noted one by one, as the code makes it: what a pass over a ring keeps (Back).
-use Prim.Native.Nat.{ℕ, zero, suc, ◌+◌, ◌-◌, ◌<◌, min}
-use Rattle.std.specs.Prelude.{Option, Some, None, nat_eq}
-use Rattle.std.specs.Option.{option_eq}
+use Prim.Native.Nat.{ℕ, zero, suc, ◌+◌, ◌-◌, ◌≤◌, ◌<◌, min}
+use Rattle.std.specs.List.{slice_range}
 use mathlib.Core.Path.{◌≡◌, refl, sym, ap, ◌∙◌}
 use mathlib.Core.List.{List, [], ◌∷◌, map}
 use mathlib.Core.Bool.{Bool, true, false, cond, ◌&&◌}
-use native.Mathlib.Numerals.{add-one}
 use native.Mathlib.Omega.{arith}
-use lib.ListN.{length, get_or, set, replicate, length-set}
-use lib.Dec.{eqb, ltb, eqb-suc-suc}
-use borrow.Author.Tests.{ltb-true, lt-ltb, eq-eqb, ne_eqb}
+use lib.ListN.{length, get_or, set, take, drop, replicate, length-set}
+use lib.Seq.{take_all}
+use lib.Dec.{ltb}
+use borrow.Author.Tests.{ltb-true, ltb-false, lt-ltb}
 use Rattle.lists.specs.Spans.{stretch, span, zeros}
 use Rattle.lists.specs.Folds.{through}
-use Rattle.lists.proofs.Spans.{span_more, span_end}
+use Rattle.lists.proofs.Spans.{past, span_more, span_end, stretch_part, stretch-first}
 use Rattle.model.specs.Plan.{Plan, neighbour, ring}
 use Rattle.rings.specs.Tables.{size_of, rows}
 use Rattle.rings.proofs.Rows.{ring-rows, count-rows}
-use Rattle.followers.specs.Followers.{mark, marked, cell, tabled, Noted, note_at, note_ring, note_rings, followers_of, apart, told, closes_at, closes_by}
+use Rattle.followers.specs.Followers.{mark, cell, tabled, Noted, note_at, note_ring, note_rings, followers_of, told}
 
 -- ---- a note: what it leaves, part by part
 abbrev pub Leaves : List ℕ → Bool → Noted → Type 0
@@ -59,7 +58,13 @@ module _ {u z e i after : ℕ} {es : List ℕ} {s₀ s : Noted} (inv : Back u z 
   -- the entry before them
   pub back_on : {i' v x : ℕ} {s' : Noted} → i ≡ i' + 1 → i' < e → v ≡ neighbour (get_or es i' 0) → x ≡ mark after → s' ≡ note_at u v x s → Back u z es e s₀ i' s' v
   unfolding note_ring
-  back_on {i'} {v} {x} {s'} ei h ev ex es' = record { same = es' ∙ (λ j. note_at u (ev j) ((ex ∙ ap mark (inv.first ∙ ap (λ (k : ℕ). get_or (map neighbour (span es k e)) 0 z) ei)) j) ((inv.same ∙ ap (λ (k : ℕ). note_ring u z (map neighbour (span es k e)) s₀) ei) j)) ∙ sym (ap (λ (l : List ℕ). note_ring u z (map neighbour l) s₀) more); first = ev ∙ sym (ap (λ (l : List ℕ). get_or (map neighbour l) 0 z) more) }
+  back_on {i'} {v} {x} {s'} ei h ev ex es' =
+      let marked' = ex ∙ ap mark (inv.first ∙ ap (λ (k : ℕ). get_or (map neighbour (span es k e)) 0 z) ei) in
+      let rest = inv.same ∙ ap (λ (k : ℕ). note_ring u z (map neighbour (span es k e)) s₀) ei in
+      record {
+        same = es' ∙ (λ j. note_at u (ev j) (marked' j) (rest j)) ∙ sym (ap (λ (l : List ℕ). note_ring u z (map neighbour l) s₀) more);
+        first = ev ∙ sym (ap (λ (l : List ℕ). get_or (map neighbour l) 0 z) more);
+      }
     where
       more : span es i' e ≡ get_or es i' 0 ∷ span es (i' + 1) e
       more = span_more es i' e h
@@ -98,6 +103,22 @@ row-end starts sizes es n u {s₀ = s₀} inv q p e =
     let same = row-noted starts sizes es n u s₀ p e in
     (x ∙ ap (λ (t : Noted). t.0) same, y ∙ ap (λ (t : Noted). t.1) same)
 
+-- so the entries of a list are noted when the pass over it ends
+pub list-end : (u : ℕ) (es : List ℕ) {i after : ℕ} {s₀ s : Noted} → Back u (neighbour (get_or es 0 0)) es (length es) s₀ i s after → i ≡ 0 → Leaves s.0 s.1 (note_ring u (get_or (map neighbour es) 0 0) (map neighbour es) s₀)
+list-end u es {s₀ = s₀} inv q =
+    let (x, y) = back_end inv q in
+    let size : length es - 0 ≡ length es = omega arith in
+    let all : stretch es 0 (length es) ≡ es = stretch-first es (length es) (omega arith) ∙ take_all (length es) es (omega arith) in
+    let first = ap (λ (k : ℕ). note_ring u (neighbour (get_or es 0 0)) (map neighbour (stretch es 0 k)) s₀) size ∙ heads u (neighbour (get_or es 0 0)) es 0 (length es) s₀ refl in
+    let same = first ∙ ap (λ (l : List ℕ). note_ring u (get_or (map neighbour l) 0 0) (map neighbour l) s₀) all in
+    (x ∙ ap (λ (t : Noted). t.0) same, y ∙ ap (λ (t : Noted). t.1) same)
+
+-- u's ring as a part of the entries
+pub ring-part : (starts sizes es : List ℕ) (n u : ℕ) {a e : ℕ} {l : List ℕ} → a ≡ get_or starts u 0 → e ≡ get_or starts u 0 + size_of sizes n u → e ≤ length es → l ≡ slice_range es a e → map neighbour l ≡ ring (rows starts sizes es n) u
+ring-part starts sizes es n u {a} {e} p q h same =
+    let k : e - a ≡ size_of sizes n u = omega arith in
+    ap (map neighbour) (same ∙ (λ i. take (k i) (drop (p i) es)) ∙ sym (stretch_part es (get_or starts u 0) (size_of sizes n u) (omega arith))) ∙ sym (ring-rows starts sizes es n u)
+
 -- all rings of the plan
 pub rows-noted : (starts sizes es : List ℕ) (n : ℕ) (s₀ : Noted) {m : ℕ} {s : Noted} → m ≡ min n 200 → s ≡ through (row (rows starts sizes es n)) 0 m s₀ → Leaves s.0 s.1 (note_rings (rows starts sizes es n) s₀)
 unfolding note_rings
@@ -113,15 +134,13 @@ module _ (p : Plan) {t₀ : List ℕ} (none : t₀ ≡ replicate 40000 0) where
   unfolding followers_of
   followers_made e = e ∙ ap (λ (s : Noted). (note_rings p s).0) from-zeros
 
-  -- and every entry has a cell of its own where it found it 0
-  pub apart-made : {b : Bool} → b ≡ (note_rings p (t₀, true)).1 → b ≡ apart p
-  unfolding apart
-  apart-made e = e ∙ ap (λ (s : Noted). (note_rings p s).1) from-zeros
-
--- a look-up that is compared with a context
-pub named : (o : Option ℕ) (x : ℕ) → option_eq nat_eq o (Some x) ≡ eqb (marked o) (x + 1)
-named None x = sym (ne_eqb 0 (x + 1) (λ z. omega arith))
-named (Some w) x = sym (ap (eqb (suc w)) (add-one x) ∙ eqb-suc-suc w x)
+-- what is not 0 stands in a row of the table
+pub row_there : (t : List ℕ) (u v : ℕ) → length t ≤ 40000 → (get_or t (cell u v) 0 ≡ 0 → ⊥) → u < 200
+row_there t u v h f = go (ltb u 200) refl
+  where
+    go : (b : Bool) → ltb u 200 ≡ b → u < 200
+    go true e = ltb-true u 200 e
+    go false e = let l = ltb-false u 200 e in absurd (f (sym (past t (cell u v) (omega arith))))
 
 -- ---- a look-up that has a cell
 module _ (t : List ℕ) (u v : ℕ) where
@@ -138,39 +157,3 @@ module _ (t : List ℕ) (u v : ℕ) where
       go true true x y f = (ltb-true u 200 x, ltb-true v 200 y)
       go true false x y f = absurd (f refl)
       go false b x y f = absurd (f refl)
-
-  -- ---- three face steps from the dart u to v, test by test
-  -- no context comes after v
-  pub closes-none : 0 ≡ told t v u → false ≡ closes_by t u v
-  unfolding closes_by closes_at
-  closes-none z = sym (rw (eq-eqb (told t v u) 0 (sym z)))
-
-  -- w does
-  module _ {w : ℕ} (is : suc w ≡ told t v u) where
-    some : told t v u ≡ 0 → ⊥
-    some z = omega arith
-
-    -- a byte has no room for it
-    pub closes_wide : w ≡ 254 → false ≡ closes_by t u v
-    unfolding closes_by closes_at
-    closes_wide z = let e : told t v u ≡ 255 = omega arith in sym (rw (ne_eqb (told t v u) 0 some, eq-eqb (told t v u) 255 e))
-
-    module _ (room : w ≡ 254 → ⊥) where
-      rest : (eqb (told t w v) (u + 1) && eqb (told t u w) (v + 1)) ≡ closes_by t u v
-      unfolding closes_by closes_at
-      rest =
-          let e : told t v u - 1 ≡ w = omega arith in
-          let wide : told t v u ≡ 255 → ⊥ = λ q. room (omega arith) in
-          sym (rw (ne_eqb (told t v u) 0 some, ne_eqb (told t v u) 255 wide, e))
-
-      module _ (x : Option ℕ) (after : marked x ≡ told t w v) {b : Bool} (is-u : b ≡ option_eq nat_eq x (Some u)) where
-        second : eqb (told t w v) (u + 1) ≡ b
-        second = ap (λ (k : ℕ). eqb k (u + 1)) (sym after) ∙ sym (named x u) ∙ sym is-u
-
-        -- the second step does not lead to u
-        pub closes_astray : b ≡ false → b ≡ closes_by t u v
-        closes_astray h = h ∙ ap (λ (a : Bool). a && eqb (told t u w) (v + 1)) (sym (second ∙ h)) ∙ rest
-
-        -- it does: the third leads to v, or not
-        pub closes_last : (y : Option ℕ) {a : Bool} → b ≡ true → marked y ≡ told t u w → a ≡ option_eq nat_eq y (Some v) → a ≡ closes_by t u v
-        closes_last y {a} h q e = e ∙ named y v ∙ ap (λ (k : ℕ). eqb k (v + 1)) q ∙ ap (λ (a : Bool). a && eqb (told t u w) (v + 1)) (sym (second ∙ h)) ∙ rest

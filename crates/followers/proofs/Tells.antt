@@ -2,14 +2,13 @@
 use Prim.Native.Nat.{ℕ, zero, suc, ◌+◌, ◌-◌, ◌≤◌, ◌<◌, min}
 use mathlib.Core.Path.{◌≡◌, refl, sym, ap, ◌∙◌}
 use mathlib.Core.List.{List, [], ◌∷◌}
-use mathlib.Core.Bool.{Bool, true, false, cond, not, ◌&&◌, ◌||◌, false≢true, true≢false}
-use native.Mathlib.Numerals.{add-one}
+use mathlib.Core.Bool.{Bool, true, false, cond, ◌&&◌, ◌||◌, false≢true, true≢false}
 use native.Mathlib.Omega.{arith}
 use lib.ListN.{length, get_or, set}
 use lib.Seq.{get_or-set_same, get_or-set_other}
 use lib.Arith.{lt_of_le-ne}
 use lib.Dec.{eqb, ltb}
-use borrow.Author.Tests.{ltb-true, ltb-false, lt-ltb, eqb-true, eqb-false, eq-eqb, not-true}
+use borrow.Author.Tests.{ltb-true, ltb-false, lt-ltb, eqb-true, eqb-false}
 use Rattle.lists.specs.Tests.{member, repeats}
 use Rattle.lists.specs.Parts.{index_of}
 use Rattle.lists.specs.Spans.{zeros}
@@ -19,10 +18,10 @@ use Rattle.lists.proofs.Spans.{length-zeros}
 use Rattle.lists.proofs.Tests.{member-mem}
 use Rattle.lists.proofs.Places.{get_d_any, index_below, index_is}
 use Rattle.lists.proofs.Padded.{get_or-zeros}
-use Rattle.model.specs.Plan.{Plan, count, ring, adjacent, next, step, closes}
+use Rattle.model.specs.Plan.{Plan, count, ring, adjacent, next}
 use Rattle.model.proofs.Plans.{ring_outside}
 use Rattle.rings.proofs.Rows.{next-after, next_round, next-alone}
-use Rattle.followers.specs.Followers.{mark, cell, tabled, Noted, note_at, note_ring, note_rings, followers_of, apart, told, closes_at, closes_by}
+use Rattle.followers.specs.Followers.{mark, cell, tabled, Noted, note_at, note_ring, note_rings, followers_of, apart, told}
 use Rattle.followers.proofs.Notes.{ring_long, row, told-cell, told_there}
 
 -- ---- one note: its own cell, and every other
@@ -142,7 +141,9 @@ module _ (p : Plan) where
       long : length (row p i s).0 ≡ 40000
       long = ring_long i (get_or (ring p i) 0 0) (ring p i) s ∙ n
 
-      go : (b : Bool) → eqb i a ≡ b → (suc i ≤ a → a < suc i + k → suc i + k ≤ 200 → get_or (row p i s).0 (cell a v) 0 ≡ 0 → get_or (each (row p) (suc i) k (row p i s)).0 (cell a v) 0 ≡ says a v) → get_or (each (row p) (suc i) k (row p i s)).0 (cell a v) 0 ≡ says a v
+      go : (b : Bool) → eqb i a ≡ b
+          → (suc i ≤ a → a < suc i + k → suc i + k ≤ 200 → get_or (row p i s).0 (cell a v) 0 ≡ 0 → get_or (each (row p) (suc i) k (row p i s)).0 (cell a v) 0 ≡ says a v)
+          → get_or (each (row p) (suc i) k (row p i s)).0 (cell a v) 0 ≡ says a v
       go true q c =
           let z = eqb-true i a q in
           each-kept a v h (suc i) k (row p i s) (λ j x y e. omega arith)
@@ -151,17 +152,26 @@ module _ (p : Plan) where
       go false q c = let d = eqb-false i a q in c (lt_of_le-ne {i = i} {k = a} x d) (omega arith) (omega arith) (row_other i (get_or (ring p i) 0 0) (ring p i) s (cell a v) (λ w l f. d (omega arith)) ∙ e)
 
   -- where all found their cells 0, none of the rings repeats an entry
-  each-apart : (i k : ℕ) (s : Noted) → length s.0 ≡ 40000 → i + k ≤ 200 → ((a v : ℕ) → i ≤ a → a < 200 → v < 200 → get_or s.0 (cell a v) 0 ≡ 0) → (each (row p) i k s).1 ≡ true → (s.1 ≡ true) × ((a : ℕ) → i ≤ a → a < i + k → repeats (ring p a) ≡ false)
+  each-apart : (i k : ℕ) (s : Noted) → length s.0 ≡ 40000 → i + k ≤ 200 → ((a v : ℕ) → i ≤ a → a < 200 → v < 200 → get_or s.0 (cell a v) 0 ≡ 0)
+      → (each (row p) i k s).1 ≡ true → (s.1 ≡ true) × ((a : ℕ) → i ≤ a → a < i + k → repeats (ring p a) ≡ false)
   unfolding each
   each-apart i zero s n m e t = (t, λ a x y. absurd (omega arith))
   each-apart i (suc k) s n m e t =
-      let rest = each-apart (suc i) k (row p i s) (ring_long i (get_or (ring p i) 0 0) (ring p i) s ∙ n) (omega arith) (λ a v x h l. row_other i (get_or (ring p i) 0 0) (ring p i) s (cell a v) (λ w b c. omega arith) ∙ e a v (omega arith) h l) t in
+      let z = get_or (ring p i) 0 0 in
+      let long = ring_long i z (ring p i) s ∙ n in
+      let rest = each-apart (suc i) k (row p i s) long (omega arith) (λ a v x h l. row_other i z (ring p i) s (cell a v) (λ w b c. omega arith) ∙ e a v (omega arith) h l) t in
       let here = row_apart i (get_or (ring p i) 0 0) (ring p i) s (omega arith) n (λ v l. e i v (omega arith) (omega arith) l) rest.0 in
       (here.0, λ a x y. go a x y here.1 rest.1 (eqb i a) refl)
     where
       go : (a : ℕ) → i ≤ a → a < i + suc k → repeats (ring p i) ≡ false → ((b : ℕ) → suc i ≤ b → b < suc i + k → repeats (ring p b) ≡ false) → (b : Bool) → eqb i a ≡ b → repeats (ring p a) ≡ false
       go a x y f g true q = ap (λ (j : ℕ). repeats (ring p j)) (sym (eqb-true i a q)) ∙ f
       go a x y f g false q = g a (lt_of_le-ne {i = i} {k = a} x (eqb-false i a q)) (omega arith)
+
+  -- the table keeps its length
+  each-long : (i k : ℕ) (s : Noted) → length (each (row p) i k s).0 ≡ length s.0
+  unfolding each
+  each-long i zero s = refl
+  each-long i (suc k) s = each-long (suc i) k (row p i s) ∙ ring_long i (get_or (ring p i) 0 0) (ring p i) s
 
   -- ---- from a table of zeros
   -- each cell of the table of followers
@@ -178,13 +188,20 @@ module _ (p : Plan) where
           let l = ltb-false u m e in
           each-kept u v k 0 (m - 0) (zeros 40000, true) (λ j x y q. omega arith) ∙ get_or-zeros 40000 (cell u v) ∙ sym (ap (λ (r : List ℕ). tell v (get_or r 0 0) r) (ring_outside p u (omega arith)))
 
+  pub followers_long : length (followers_of p) ≡ 40000
+  unfolding followers_of note_rings
+  followers_long = each-long 0 (min (count p) 200 - 0) (zeros 40000, true) ∙ length-zeros 40000
+
   -- Where every entry has a cell of its own, no ring repeats an entry
   pub apart-once : count p ≤ 200 → apart p ≡ true → (u : ℕ) → u < count p → repeats (ring p u) ≡ false
   unfolding apart note_rings
-  apart-once h e u l = let m : min (count p) 200 ≡ count p = omega arith in (each-apart 0 (min (count p) 200 - 0) (zeros 40000, true) (length-zeros 40000) (omega arith) (λ a v x k w. get_or-zeros 40000 (cell a v)) e).1 u (omega arith) (omega arith)
+  apart-once h e u l =
+      let m : min (count p) 200 ≡ count p = omega arith in
+      let all = each-apart 0 (min (count p) 200 - 0) (zeros 40000, true) (length-zeros 40000) (omega arith) (λ a v x k w. get_or-zeros 40000 (cell a v)) e in
+      all.1 u (omega arith) (omega arith)
 
 -- the entry after v, where v is there
-next-mark : (v : ℕ) (r : List ℕ) → member v r ≡ true → get_or r (suc (index_of v r)) (get_or r 0 0) ≡ next v r
+pub next-mark : (v : ℕ) (r : List ℕ) → member v r ≡ true → get_or r (suc (index_of v r)) (get_or r 0 0) ≡ next v r
 next-mark v r e = go (ltb (suc i) (length r)) refl
   where
     i : ℕ
@@ -249,29 +266,3 @@ module _ (p : Plan) {t : List ℕ} (own : t ≡ followers_of p) where
           let (k, l) = told_there t u v some in
           mark-room (next v (ring p u)) w h (sym (told-says u v k l ∙ tell_some v (get_or (ring p u) 0 0) (ring p u) q ∙ ap mark (next-mark v (ring p u) q)) ∙ e)
       go false q = let (k, l) = told_there t u v some in absurd (some (told-says u v k l ∙ tell_none v (get_or (ring p u) 0 0) (ring p u) q))
-
--- a dart that by a table comes back has a mark, and a byte has room for it
-closes-parts : (t : List ℕ) (u v : ℕ) → closes_by t u v ≡ true → (told t v u ≡ 0 → ⊥) × (told t v u ≡ 255 → ⊥) × (told t (told t v u - 1) v ≡ u + 1) × (told t u (told t v u - 1) ≡ v + 1)
-unfolding closes_by closes_at
-closes-parts t u v e =
-    let w = told t v u in
-    let (abc, d) = and_yes (not (eqb w 0) && not (eqb w 255) && eqb (told t (w - 1) v) (u + 1)) (eqb (told t u (w - 1)) (v + 1)) e in
-    let (ab, c) = and_yes (not (eqb w 0) && not (eqb w 255)) (eqb (told t (w - 1) v) (u + 1)) abc in
-    let (a, b) = and_yes (not (eqb w 0)) (not (eqb w 255)) ab in
-    (eqb-false w 0 (not-true (eqb w 0) a), eqb-false w 255 (not-true (eqb w 255) b), eqb-true (told t (w - 1) v) (u + 1) c, eqb-true (told t u (w - 1)) (v + 1) d)
-
-pub closes_byte : (t : List ℕ) (u v : ℕ) → closes_by t u v ≡ true → (told t v u ≡ 0 → ⊥) × (told t v u ≡ 255 → ⊥)
-closes_byte t u v e = let (some, room, _, _) = closes-parts t u v e in (some, room)
-
--- Where by the plan's own table the dart from u to v comes back, it does
-pub told-closes : (p : Plan) {t : List ℕ} → t ≡ followers_of p → (u v : ℕ) → closes_by t u v ≡ true → closes p (u, v) ≡ true
-unfolding closes step
-told-closes p {t} own u v e =
-    let w = told t v u in
-    let (some, room, on, back) = closes-parts t u v e in
-    let (high, low) = told_there t v u some in
-    let one : w ≡ suc (w - 1) = omega arith in
-    let first = told-next p own v u (w - 1) one (λ q. room (one ∙ q)) in
-    let second = told-next p own (w - 1) v u (on ∙ add-one u) (λ q. omega arith) in
-    let third = told-next p own u (w - 1) v (back ∙ add-one v) (λ q. omega arith) in
-    rw (first, second, third, eq-eqb u u refl, eq-eqb v v refl)

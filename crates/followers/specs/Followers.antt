@@ -1,6 +1,6 @@
 -- The table of followers of a plan: which context comes after each entry of each ring, for rings and entries below 200; and look-ups in it.
 -- A ring is noted from its last entry to its first, so that of equal entries the first one counts.
-use Rattle.std.specs.Prelude.{ℕ, suc, ◌+◌, ◌-◌, ◌*◌, min, List, [], ◌∷◌, Bool, true, Option, Some, None, cond, not, ◌&&◌, get_or, set, eqb, ltb}
+use Rattle.std.specs.Prelude.{ℕ, suc, ◌+◌, ◌*◌, min, List, [], ◌∷◌, Bool, true, cond, ◌&&◌, get_or, set, eqb, ltb}
 use Rattle.lists.specs.Folds.{through}
 use Rattle.lists.specs.Spans.{zeros}
 use Rattle.model.specs.Plan.{Plan, count, ring}
@@ -45,16 +45,3 @@ apart p = (note_rings p (zeros 40000, true)).1
 -- what a table says of v in u's ring: 0 where it says nothing
 unfoldable pub told : List ℕ → ℕ → ℕ → ℕ
 told t u v = cond (tabled u v) (get_or t (cell u v) 0) 0
-
--- what a table says where this context is told
-abbrev pub marked : Option ℕ → ℕ
-marked None = 0
-marked (Some w) = suc w
-
--- by a table, the dart from u to v comes back to itself after three face steps, where w is the mark of the context after v
-unfoldable pub closes_at : List ℕ → ℕ → ℕ → ℕ → Bool
-closes_at t u v w = not (eqb w 0) && not (eqb w 255) && eqb (told t (w - 1) v) (u + 1) && eqb (told t u (w - 1)) (v + 1)
-
--- the same, where the table says the mark
-unfoldable pub closes_by : List ℕ → ℕ → ℕ → Bool
-closes_by t u v = closes_at t u v (told t v u)

@@ -1,10 +1,10 @@
-// The followers of a plan's ring entries in one table, so that a face step is one look-up: the table, noted ring by ring, and look-ups.
+// The followers of a plan's ring entries in one table, so that a face step is one look-up: the table, noted ring by ring.
 #![tactic(auto)]
 
-ghost use Rattle.std.specs.Prelude.{◌≡◌, true, ◌<◌, ◌^◌, get_or};
-ghost use Rattle.model.specs.Plan.{ring};
+ghost use Rattle.std.specs.Prelude.{◌≡◌, true, ◌<◌, ◌^◌, get_or, map};
+ghost use Rattle.model.specs.Plan.{neighbour, ring};
 ghost use Rattle.rings.specs.Tables.{plan_of};
-ghost use Rattle.followers.specs.Followers.{mark, marked, note_at, note_ring, note_rings, told, closes_by};
+ghost use Rattle.followers.specs.Followers.{mark, note_at, note_ring, note_rings};
 
 use rings::Rings;
 use std::ops::Range;
@@ -27,11 +27,26 @@ fn note(table: &mut [u8], u: usize, v: usize, x: u8, clear: bool) -> bool
     };
     let old = arrays::num(table, cell);
     arrays::put(table, cell, x);
-    old == 0 && clear
+    clear & (old == 0)
 }
 
-// The followers in u's ring: from its last entry to its first.
-fn note_ring(table: &mut [u8], rings: &Rings, u: usize, clear: bool) -> bool
+// The followers in u's ring, which has these entries: from the last to the first.
+fn note_entries(table: &mut [u8], entries: &[u16], u: usize, clear: bool) -> bool
+    ensures table_after { table.new ≡ (note_ring u (get_or (map neighbour entries.now) 0 0) (map neighbour entries.now) (table.old, clear)).0 }
+    ensures value { result ≡ (note_ring u (get_or (map neighbour entries.now) 0 0) (map neighbour entries.now) (table.old, clear)).1 }
+{
+    let mut still = clear;
+    let mut after = rings::neighbour_of(arrays::num(entries, 0));
+    for i in (0..entries.len()).rev() {
+        let v = rings::neighbour_of(usize::from(entries[i]));
+        still = note(table, u, v, mark_of(after), still);
+        after = v;
+    }
+    still
+}
+
+// The followers in u's ring, some of whose entries are missing.
+fn note_missing(table: &mut [u8], rings: &Rings, u: usize, clear: bool) -> bool
     ensures table_after { table.new ≡ (note_ring u (get_or (ring (plan_of rings.now) u) 0 0) (ring (plan_of rings.now) u) (table.old, clear)).0 }
     ensures value { result ≡ (note_ring u (get_or (ring (plan_of rings.now) u) 0 0) (ring (plan_of rings.now) u) (table.old, clear)).1 }
 {
@@ -46,6 +61,18 @@ fn note_ring(table: &mut [u8], rings: &Rings, u: usize, clear: bool) -> bool
     still
 }
 
+// The followers in u's ring.
+fn note_ring(table: &mut [u8], rings: &Rings, u: usize, clear: bool) -> bool
+    ensures table_after { table.new ≡ (note_ring u (get_or (ring (plan_of rings.now) u) 0 0) (ring (plan_of rings.now) u) (table.old, clear)).0 }
+    ensures value { result ≡ (note_ring u (get_or (ring (plan_of rings.now) u) 0 0) (ring (plan_of rings.now) u) (table.old, clear)).1 }
+{
+    let Range { start, end } = rings.span(u);
+    match rings.entries.get(start..end) {
+        Some(entries) => note_entries(table, entries, u, clear),
+        None => note_missing(table, rings, u, clear),
+    }
+}
+
 // The followers of the plan that the rings hold. Has every entry a cell, which was 0?
 pub fn fill(table: &mut [u8], rings: &Rings) -> bool
     ensures table_after { table.new ≡ (note_rings (plan_of rings.now) (table.old, true)).0 }
@@ -57,27 +84,4 @@ pub fn fill(table: &mut [u8], rings: &Rings) -> bool
         clear = note_ring(table, rings, u, clear);
     }
     clear
-}
-
-// The context that a table says of the entry v of u's ring; 254 is told for every context from 254 on.
-#[tactic(auto, unfolding(rings::specs::Tables::cell, crate::specs::Followers::told))]
-pub fn told(table: &[u8], u: usize, v: usize) -> Option<usize>
-    ensures value { marked result ≡ told table.now u v }
-    ensures upper_bound { marked result < 2 ^ 8 }
-{
-    let cell = rings::cell(u, v)?;
-    arrays::num(table, cell).checked_sub(1)
-}
-
-// By a table, does the dart from u to v come back to itself after three face steps? Where the table has no room for one of them, the answer is no.
-pub fn closes_by(table: &[u8], u: usize, v: usize) -> bool
-    ensures { result ≡ closes_by table.now u v }
-{
-    let Some(w) = told(table, v, u) else {
-        return false;
-    };
-    if w == 254 {
-        return false;
-    }
-    told(table, w, v) == Some(u) && told(table, u, w) == Some(v)
 }

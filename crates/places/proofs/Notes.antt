@@ -1,10 +1,11 @@
 -- The table of positions, noted entry by entry: what a pass over all rings keeps (Notes), with a law for its start, its steps and its end.
-use Prim.Native.Nat.{ℕ, suc, ◌+◌, ◌*◌, ◌/◌, ◌%◌, ◌≤◌, ◌<◌, min}
+use Prim.Native.Nat.{ℕ, suc, ◌+◌, ◌-◌, ◌*◌, ◌/◌, ◌%◌, ◌≤◌, ◌<◌, min}
 use mathlib.Core.Path.{◌≡◌, refl, sym, ap, ◌∙◌}
 use mathlib.Core.List.{List, [], ◌∷◌, ◌++◌, map}
 use mathlib.Core.Bool.{Bool, true, false, cond, ◌&&◌, ◌||◌, false≢true}
 use native.Mathlib.Omega.{arith}
-use lib.ListN.{length, get_or, get_or-eq_default, set, take, replicate, length-set, length-replicate}
+use Rattle.std.specs.List.{slice_range}
+use lib.ListN.{length, get_or, get_or-eq_default, set, take, drop, replicate, length-set, length-replicate}
 use lib.Seq.{ext_get_or, take-suc, take_all, take-nil, length-take-le, get_or-set_same, get_or-set_other}
 use lib.Arith.{lt_of_le-ne}
 use lib.Dec.{eqb, ltb}
@@ -12,13 +13,15 @@ use borrow.Author.Tests.{eqb-true, eqb-false, eq-eqb, ne_eqb, ltb-true, ltb-fals
 use Rattle.lists.specs.Ranges.{from}
 use Rattle.lists.specs.Tests.{member}
 use Rattle.lists.specs.Parts.{index_of}
-use Rattle.lists.specs.Spans.{zeros}
+use Rattle.lists.specs.Spans.{stretch, zeros}
 use Rattle.lists.proofs.Bools.{or_no}
 use Rattle.lists.proofs.Tests.{any_append}
-use Rattle.lists.proofs.Spans.{past}
+use Rattle.lists.proofs.Spans.{past, stretch_part, get_or-stretch}
 use Rattle.lists.proofs.Ranges.{length-map-from, get_or-map-from}
 use Rattle.lists.proofs.Padded.{get_or-zeros}
 use Rattle.model.specs.Plan.{Plan, count, neighbour, entries, ring}
+use Rattle.rings.specs.Tables.{size_of, rows}
+use Rattle.rings.proofs.Rows.{ring-at}
 use Rattle.places.specs.Places.{place, cell, tabled, places_of, noted, over, filled}
 
 -- ---- the table cell by cell
@@ -273,3 +276,11 @@ filled-zeros p {t} q = ext_get_or 0 (map fresh (from 0 (length t))) (places_of p
 
     long : length t ≡ 40000
     long = ap length q ∙ length-replicate {A = ℕ} 40000 0
+
+-- an entry of u's ring, in the part of the entries that is the ring
+pub part-at : (starts sizes es : List ℕ) (n u : ℕ) {a k i : ℕ} {l : List ℕ} → a ≡ get_or starts u 0 → k ≡ size_of sizes n u → a + k ≤ length es
+    → l ≡ slice_range es a (a + k) → i < k → neighbour (get_or l i 0) ≡ get_or (ring (rows starts sizes es n) u) i 0
+part-at starts sizes es n u {a} {k} {i} {l} p q h same low =
+    let size : a + k - a ≡ k = omega arith in
+    let part : l ≡ stretch es a k = same ∙ ap (λ (m : ℕ). take m (drop a es)) size ∙ sym (stretch_part es a k h) in
+    ap neighbour (ap (λ (s : List ℕ). get_or s i 0) part ∙ get_or-stretch es a k i low ∙ ap (λ (b : ℕ). get_or es (b + i) 0) p) ∙ sym (ring-at starts sizes es n u i (omega arith))

@@ -26,7 +26,31 @@ pub fn note(table: &mut [u8], u: usize, v: usize, x: u8)
 }
 
 // The positions of the rings' entries, in the cells of a table that are 0.
-pub fn fill<R: Ringed>(table: &mut [u8], rings: &R)
+pub fn fill(table: &mut [u8], rings: &Rings)
+    ensures { table.new ≡ filled (plan_of rings.now) table.old }
+{
+    let m = rings.n.min(200);
+    for u in 0..m {
+        let start = arrays::num(rings.starts, u);
+        let k = rings.size_of(u);
+        match rings.entries.get(start..start + k) {
+            Some(entries) => {
+                for i in 0..k {
+                    let v = rings::neighbour_of(usize::from(entries[i]));
+                    note(table, u, v, i as u8 + 1);
+                }
+            }
+            None => {
+                for i in 0..k {
+                    note(table, u, rings.neighbour_at(u, i), i as u8 + 1);
+                }
+            }
+        }
+    }
+}
+
+// The positions of the rings' entries, in the cells of a table that are 0: the same for rings wherever they stand.
+fn fill_from<R: Ringed>(table: &mut [u8], rings: &R)
     ensures { table.new ≡ filled (R.plan rings.now) table.old }
 {
     let m = rings.count().min(200);
@@ -42,7 +66,7 @@ pub fn table<R: Ringed>(rings: &R) -> [u8; 40000]
     ensures { result ≡ places_of (R.plan rings.now) }
 {
     let mut table = [0u8; 40000];
-    fill(&mut table, rings);
+    fill_from(&mut table, rings);
     table
 }
 

@@ -1,44 +1,88 @@
 // Is a plan in flat arrays sound, by its table of followers? A yes says that it keeps the rules 4, 5, 6, 8 and 9; a no says nothing.
 #![tactic(auto)]
 
-ghost use Rattle.std.specs.Prelude.{◌≡◌};
-ghost use Rattle.lists.specs.Folds.{some};
+ghost use Rattle.std.specs.Prelude.{◌≡◌, true, ◌≤◌, ◌<◌, ◌^◌, map};
+ghost use Rattle.lists.specs.Folds.{some_within};
+ghost use Rattle.model.specs.Plan.{neighbour};
 ghost use Rattle.rings.specs.Tables.{plan_of, table_of};
-ghost use Rattle.sound.specs.Sound.{doubtful, doubted, sound};
+ghost use Rattle.followers.specs.Followers.{note_rings};
+ghost use Rattle.sound.specs.Sound.{doubtful, some_doubtful, doubted, undoubted, sound};
 
 use rings::{Rings, Table};
+use std::ops::Range;
 
-// By a table of followers, is the dart from u to v in doubt?
-fn is_doubtful(table: &[u8], u: usize, v: usize) -> bool
-    ensures { result ≡ doubtful table.now u v }
+// By a table of followers, is the dart from u to v in doubt, where w stands before v in u's ring?
+fn is_doubtful(table: &[u8], u: usize, w: usize, v: usize) -> bool
+    requires { (u < 2 ^ 16) × (w < 2 ^ 16) × (v < 2 ^ 16) }
+    ensures { result ≡ doubtful table.now u w v }
 {
     if u == v {
         return true;
     }
-    if followers::closes_by(table, u, v) {
+    if arrays::num(table, 200 * v + u) == w + 1 {
         return false;
-    }
-    if followers::told(table, v, u).is_none() {
-        return true;
     }
     !faces::is_outer(u, v)
 }
 
+// By a table of followers, is some dart from u to these entries in doubt, where w stands before them in u's ring?
+fn some_doubtful(table: &[u8], u: usize, w: usize, entries: &[u16]) -> bool
+    requires { (u < 2 ^ 16) × (w < 2 ^ 16) }
+    ensures { result ≡ some_doubtful table.now u w (map neighbour entries.now) }
+{
+    let mut before = w;
+    for i in 0..entries.len() {
+        let v = rings::neighbour_of(usize::from(entries[i]));
+        if is_doubtful(table, u, before, v) {
+            return true;
+        }
+        before = v;
+    }
+    false
+}
+
 // By a table of followers, is some dart that leaves u in doubt?
 fn is_doubted(table: &[u8], rings: &Rings, u: usize) -> bool
+    requires { u < 200 }
     ensures { result ≡ doubted table.now (plan_of rings.now) u }
 {
-    rings.span(u).any(|i| is_doubtful(table, u, rings::neighbour_of(arrays::num(rings.entries, i))))
+    let Range { start, end } = rings.span(u);
+    let mut before = rings::neighbour_of(arrays::num(rings.entries, end.saturating_sub(1)));
+    if let Some(entries) = rings.entries.get(start..end) {
+        return some_doubtful(table, u, before, entries);
+    }
+    for i in start..end {
+        let v = rings::neighbour_of(arrays::num(rings.entries, i));
+        if is_doubtful(table, u, before, v) {
+            return true;
+        }
+        before = v;
+    }
+    false
 }
 
 // By a table of followers, is some dart in doubt?
 fn any_doubted(table: &[u8], rings: &Rings) -> bool
-    ensures { result ≡ some (doubted table.now (plan_of rings.now)) 0 rings.now.n }
+    requires { rings.now.n ≤ 200 }
+    ensures { result ≡ some_within (doubted table.now (plan_of rings.now)) 0 rings.now.n }
 {
-    (0..rings.n).any(|u| is_doubted(table, rings, u))
+    for u in 0..rings.n {
+        if is_doubted(table, rings, u) {
+            return true;
+        }
+    }
+    false
 }
 
-// Is the plan that the rings hold sound?
+// By the table of followers that is made of a table of zeros, has every entry a cell of its own, and is no dart in doubt?
+fn is_undoubted(table: &mut [u8], rings: &Rings) -> bool
+    requires { rings.now.n ≤ 200 }
+    ensures { result ≡ undoubted (note_rings (plan_of rings.now) (table.old, true)) (plan_of rings.now) }
+{
+    followers::fill(table, rings) && !any_doubted(table, rings)
+}
+
+// Is the plan that the rings hold sound? A small plan has a small table.
 fn is_sound_from(rings: &Rings) -> bool
     ensures { result ≡ sound (plan_of rings.now) }
 {
@@ -48,11 +92,12 @@ fn is_sound_from(rings: &Rings) -> bool
     if faces::rule8(rings).is_err() {
         return false;
     }
-    let mut table = [0u8; 40000];
-    if !followers::fill(&mut table, rings) {
-        return false;
+    if rings.n <= 20 {
+        let mut table = [0u8; 4000];
+        return is_undoubted(&mut table, rings);
     }
-    !any_doubted(&table, rings)
+    let mut table = [0u8; 40000];
+    is_undoubted(&mut table, rings)
 }
 
 // Is the plan sound?

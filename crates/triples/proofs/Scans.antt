@@ -1,29 +1,33 @@
 -- Scan as a search context by context: first a, then b, then c; and the tests that the code makes of one triple.
-use Rattle.std.specs.Prelude.{Some, None, is_some, nat_eq}
+use Rattle.std.specs.Prelude.{Some, None}
 use Rattle.std.specs.Prelude as std
-use Rattle.std.specs.Option.{option_eq}
 use Prim.Native.Nat.{ℕ, zero, suc, ◌+◌, ◌-◌, ◌≤◌, ◌<◌}
 use mathlib.Core.Path.{◌≡◌, refl, sym, ap, ◌∙◌}
 use mathlib.Core.List.{List, [], ◌∷◌, ◌++◌, map}
-use mathlib.Core.Bool.{Bool, true, false, cond, not, ◌&&◌, ◌||◌, and-true, and-false, or-true, true≢false}
+use mathlib.Core.Bool.{Bool, true, false, cond, not, ◌&&◌, ◌||◌, and-true, and-false, or-true}
 use mathlib.Core.Option.{Option, none, some}
 use native.Mathlib.Numerals.{add-one}
 use native.Mathlib.Omega.{arith}
-use lib.Dec.{eqb, ltb, eqb-suc-suc}
+use lib.ListN.{get_or, replicate}
+use lib.Dec.{eqb, ltb}
 use borrow.Author.Tests.{ltb-true, ltb-false, lt-ltb, le-ltb, eqb-true, eqb-false, eq-eqb, not-true}
 use Rattle.lists.proofs.Bools.{and_yes}
 use Rattle.lists.specs.Ranges.{from, first_from}
 use Rattle.lists.specs.Parts.{concat}
+use Rattle.lists.specs.Spans.{padded}
+use Rattle.lists.proofs.Padded.{get_or-padded}
+use Rattle.lists.proofs.Loops.{padded_full}
 use Rattle.lists.proofs.Ranges.{first_found}
 use Rattle.model.specs.Plan.{Plan, count, ring, adjacent, next, step, outer, closes, walk, on_inner_face}
 use Rattle.model.specs.Scan.{Triple, after, triples, inner_face, enclosing, first_enclosing, scan}
 use Rattle.faces.proofs.FaceTests.{closes_last, closes_never}
 use Rattle.rings.proofs.Rows.{count-rows}
-use Rattle.triples.specs.Scanned.{scanned_as, apart_by, face_by, harmless, below, third_for, second_for, first_for}
+use Rattle.triples.specs.Scanned.{scanned_as, apart_by, face_by, below, third_for, second_for, first_for}
 use Rattle.triples.proofs.Flags.{below-says, below-over, below-test}
-use Rattle.followers.specs.Followers.{tabled, followers_of, marked, told, closes_by}
-use Rattle.followers.proofs.Notes.{named, closes-none}
-use Rattle.followers.proofs.Tells.{told_none, told-next, told-closes, closes_byte}
+use Rattle.followers.specs.Followers.{cell, note_rings, followers_of, told}
+use Rattle.followers.proofs.Notes.{told-cell, followers_made}
+use Rattle.followers.proofs.Shorter.{followers_shorter}
+use Rattle.followers.proofs.Tells.{followers_long, told_none, told-next}
 
 abbrev triple : ℕ → ℕ → ℕ → Triple
 triple a b c = (a, b, c)
@@ -79,26 +83,6 @@ enclosing_tests p a b c = go (adjacent p a b) (adjacent p a c) (adjacent p b c) 
     go false true false f g = refl
     go false false bc f g = refl
 
--- ---- by a table of followers, the walk a, b, c is an inner face: the tests in the code's order
-module _ (t : List ℕ) (a b c : ℕ) (x : std.Option ℕ) (third-is : marked x ≡ told t b a) where
-  asked : eqb (told t b a) (c + 1) ≡ option_eq nat_eq x (Some c)
-  asked = ap (λ (k : ℕ). eqb k (c + 1)) (sym third-is) ∙ sym (named x c)
-
-  pub told_tests : (option_eq nat_eq x (Some c) && not (outer (a, b)) && closes_by t a b) ≡ face_by t a b c
-  unfolding face_by
-  told_tests = ap (λ (d : Bool). d && not (outer (a, b)) && closes_by t a b) (sym asked) ∙ sym (go (told t b a) refl)
-    where
-      go : (w : ℕ) → told t b a ≡ w → (eqb (told t b a - 1) c && not (outer (a, b)) && closes_by t a b) ≡ (eqb (told t b a) (c + 1) && not (outer (a, b)) && closes_by t a b)
-      go zero e =
-          let never = closes-none t a b (sym e) in
-          ap (λ (d : Bool). eqb (told t b a - 1) c && not (outer (a, b)) && d) (sym never)
-          ∙ and-false (eqb (told t b a - 1) c && not (outer (a, b)))
-          ∙ sym (and-false (eqb (told t b a) (c + 1) && not (outer (a, b))))
-          ∙ ap (λ (d : Bool). eqb (told t b a) (c + 1) && not (outer (a, b)) && d) never
-      go (suc k) e =
-          let less : told t b a - 1 ≡ k = omega arith in
-          ap (λ (d : Bool). d && not (outer (a, b)) && closes_by t a b) (ap (λ (j : ℕ). eqb j c) less ∙ sym (eqb-suc-suc k c) ∙ λ i. eqb (sym e i) (sym (add-one c) i))
-
 -- ---- what the plan's own table tells of a triple holds
 no_face : (ab ac bc f g : Bool) → (f || g) ≡ true → Encloses ab ac bc f g ≡ false
 no_face true true true f g e = ap not e
@@ -106,39 +90,75 @@ no_face true true false f g e = refl
 no_face true false bc f g e = refl
 no_face false ac bc f g e = refl
 
-module _ (p : Plan) {t : List ℕ} (own : t ≡ followers_of p) where
+module _ (p : Plan) (t : List ℕ) (own : padded 40000 t ≡ followers_of p) where
+  -- a cell is what the table of followers tells
+  cell_told : (u v : ℕ) → u < 200 → v < 200 → told (padded 40000 t) u v ≡ get_or t (cell u v) 0
+  cell_told u v h k = sym (told-cell (padded 40000 t) u v h k) ∙ get_or-padded 40000 t (cell u v)
+
+  cell_next : (u v w : ℕ) → u < 200 → v < 200 → w < 200 → eqb (get_or t (cell u v) 0) (w + 1) ≡ true → next v (ring p u) ≡ w
+  cell_next u v w h k l e = told-next p own u v w (cell_told u v h k ∙ eqb-true (get_or t (cell u v) 0) (w + 1) e ∙ add-one w) (λ q. omega arith)
+
+  -- where a does not list c, the triple does not enclose
+  pub apart_so : (a b c : ℕ) → apart_by t a c ≡ true → enclosing p (a, b, c) ≡ false
+  unfolding apart_by
+  apart_so a b c e =
+      let (cells, z) = and_yes (ltb a 200 && ltb c 200) (eqb (get_or t (cell a c) 0) 0) e in
+      let (l, m) = and_yes (ltb a 200) (ltb c 200) cells in
+      let h = ltb-true a 200 l in
+      let k = ltb-true c 200 m in
+      enclosing_tests p a b c ∙ rw (told_none p own a c h k (cell_told a c h k ∙ eqb-true (get_or t (cell a c) 0) 0 z))
+
   -- the walk is an inner face, where a lists b
   face_so : (a b c : ℕ) → face_by t a b c ≡ true → adjacent p a b ≡ true → inner_face p a b c ≡ true
-  unfolding face_by step
+  unfolding face_by
   face_so a b c e near =
-      let w = told t b a in
-      let (xy, back) = and_yes (eqb (w - 1) c && not (outer (a, b))) (closes_by t a b) e in
-      let (x, y) = and_yes (eqb (w - 1) c) (not (outer (a, b))) xy in
-      let (marked, room) = closes_byte t a b back in
-      let one : w ≡ suc (w - 1) = omega arith in
-      let third-is : next a (ring p b) ≡ c = told-next p own b a (w - 1) one (λ q. room (one ∙ q)) ∙ eqb-true (w - 1) c x in
-      face_is p a b c ∙ rw (near, not-true (outer (a, b)) y, told-closes p own a b back, eq-eqb (next a (ring p b)) c third-is)
+      let la = ltb a 200 in
+      let lb = ltb b 200 in
+      let lc = ltb c 200 in
+      let x = eqb (get_or t (cell a c) 0) (b + 1) in
+      let y = eqb (get_or t (cell b a) 0) (c + 1) in
+      let z = eqb (get_or t (cell c b) 0) (a + 1) in
+      let (e₅, o) = and_yes (la && lb && lc && x && y && z) (not (outer (a, b))) e in
+      let (e₄, ez) = and_yes (la && lb && lc && x && y) z e₅ in
+      let (e₃, ey) = and_yes (la && lb && lc && x) y e₄ in
+      let (e₂, ex) = and_yes (la && lb && lc) x e₃ in
+      let (e₁, ec) = and_yes (la && lb) lc e₂ in
+      let (ea, eb) = and_yes la lb e₁ in
+      let h = ltb-true a 200 ea in
+      let k = ltb-true b 200 eb in
+      let l = ltb-true c 200 ec in
+      let i = cell_next a c b h l k ex in
+      let j = cell_next b a c k h l ey in
+      let m = cell_next c b a l k h ez in
+      face_tests p a b c ∙ rw (eq-eqb (next a (ring p b)) c j, not-true (outer (a, b)) o, near, eq-eqb (next b (ring p c)) a m, eq-eqb (next c (ring p a)) b i)
 
-  -- so a harmless triple does not enclose
-  pub harmless_so : (a b c : ℕ) → harmless t a b c ≡ true → enclosing p (a, b, c) ≡ false
-  unfolding harmless enclosing apart_by
-  harmless_so a b c e = go (apart_by t a c) (face_by t a b c) (adjacent p a b) (adjacent p a c) refl refl refl refl e
+  -- so a triple that is an inner face does not enclose, walked one way
+  pub face_one_way : (a b c : ℕ) → face_by t a b c ≡ true → enclosing p (a, b, c) ≡ false
+  unfolding enclosing
+  face_one_way a b c e = go (adjacent p a b) refl
     where
-      f : Bool
-      f = inner_face p a b c
+      go : (k : Bool) → adjacent p a b ≡ k → Encloses (adjacent p a b) (adjacent p a c) (adjacent p b c) (inner_face p a b c) (inner_face p a c b) ≡ false
+      go false q = rw q
+      go true q = no_face (adjacent p a b) (adjacent p a c) (adjacent p b c) (inner_face p a b c) (inner_face p a c b) (rw (face_so a b c e q))
 
-      g : Bool
-      g = inner_face p a c b
+  -- and the other
+  pub face_other_way : (a b c : ℕ) → face_by t a c b ≡ true → enclosing p (a, b, c) ≡ false
+  unfolding enclosing
+  face_other_way a b c e = go (adjacent p a c) refl
+    where
+      go : (k : Bool) → adjacent p a c ≡ k → Encloses (adjacent p a b) (adjacent p a c) (adjacent p b c) (inner_face p a b c) (inner_face p a c b) ≡ false
+      go false q = rw (q, and-false (adjacent p a b))
+      go true q = no_face (adjacent p a b) (adjacent p a c) (adjacent p b c) (inner_face p a b c) (inner_face p a c b) (rw (face_so a c b e q) (or-true (inner_face p a b c)))
 
-      go : (x y j k : Bool) → apart_by t a c ≡ x → face_by t a b c ≡ y → adjacent p a b ≡ j → adjacent p a c ≡ k → (x || y || face_by t a c b) ≡ true → Encloses (adjacent p a b) (adjacent p a c) (adjacent p b c) f g ≡ false
-      go x y false k ex ey ej ek e = rw ej
-      go x y true false ex ey ej ek e = rw (ej, ek)
-      go true y true true ex ey ej ek e =
-          let (cells, z) = and_yes (tabled a c) (eqb (told t a c) 0) ex in
-          let (l, m) = and_yes (ltb a 200) (ltb c 200) cells in
-          absurd (true≢false (sym ek ∙ told_none p own a c (ltb-true a 200 l) (ltb-true c 200 m) (eqb-true (told t a c) 0 z)))
-      go false true true true ex ey ej ek e = no_face (adjacent p a b) (adjacent p a c) (adjacent p b c) f g (rw (face_so a b c ey ej))
-      go false false true true ex ey ej ek e = no_face (adjacent p a b) (adjacent p a c) (adjacent p b c) f g (rw (face_so a c b e ek) (or-true f))
+-- ---- a table of zeros that is filled reads as the plan's own
+module _ (p : Plan) {t : List ℕ} where
+  -- with a row for each ring
+  pub own_small : count p ≤ 20 → t ≡ replicate 4000 0 → padded 40000 (note_rings p (t, true)).0 ≡ followers_of p
+  own_small few clear = followers_shorter p {k = 4000} (omega arith) (omega arith) clear refl
+
+  -- with all rows
+  pub own_large : t ≡ replicate 40000 0 → padded 40000 (note_rings p (t, true)).0 ≡ followers_of p
+  own_large clear = ap (padded 40000) (followers_made p clear refl) ∙ padded_full 40000 (followers_of p) (followers_long p)
 
 -- what encloses with a and b is a neighbour of b, and b of a
 pub enclosing-says : (p : Plan) (a b c : ℕ) → enclosing p (a, b, c) ≡ true → (adjacent p a b ≡ true) × (adjacent p b c ≡ true)

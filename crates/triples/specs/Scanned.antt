@@ -1,12 +1,12 @@
 -- What a scan says in 01's words, and the search for the smallest triple context by context.
-use Rattle.std.specs.Prelude.{◌≡◌, ℕ, suc, ◌-◌, ◌^◌, ◌<◌, true, List, Option, Some, None, Bool, cond, not, ◌&&◌, ◌||◌, eqb, ltb}
+use Rattle.std.specs.Prelude.{◌≡◌, ℕ, suc, ◌+◌, ◌-◌, ◌^◌, ◌<◌, true, List, Option, Some, None, Bool, cond, not, ◌&&◌, get_or, eqb, ltb}
 use Rattle.std.proofs.Math.Option.{none, some}
 use Rattle.std.proofs.Math.Option as maybe
 use Rattle.lists.specs.Ranges.{first_from, lowest}
 use Rattle.model.specs.Plan.{Plan, adjacent, outer}
 use Rattle.model.specs.Scan.{enclosing}
 use Rattle.model.specs.Scan as model
-use Rattle.followers.specs.Followers.{tabled, told, closes_by}
+use Rattle.followers.specs.Followers.{cell}
 
 -- 01's value of each answer: the triple, or none
 unfoldable pub scanned_as : Option model.Triple → maybe.Option model.Triple
@@ -15,15 +15,11 @@ scanned_as None = none
 
 -- by a table of followers, a does not list c
 unfoldable pub apart_by : List ℕ → ℕ → ℕ → Bool
-apart_by t a c = tabled a c && eqb (told t a c) 0
+apart_by t a c = ltb a 200 && ltb c 200 && eqb (get_or t (cell a c) 0) 0
 
--- by a table of followers, the walk a, b, c is an inner face
+-- by a table of followers, the walk a, b, c is an inner face: b comes after c in a's ring, c after a in b's and a after b in c's, and the dart from a to b is not outer
 unfoldable pub face_by : List ℕ → ℕ → ℕ → ℕ → Bool
-face_by t a b c = eqb (told t b a - 1) c && not (outer (a, b)) && closes_by t a b
-
--- by a table of followers, a, b, c do not enclose: a does not list c, or they are an inner face, walked either way
-unfoldable pub harmless : List ℕ → ℕ → ℕ → ℕ → Bool
-harmless t a b c = apart_by t a c || face_by t a b c || face_by t a c b
+face_by t a b c = ltb a 200 && ltb b 200 && ltb c 200 && eqb (get_or t (cell a c) 0) (b + 1) && eqb (get_or t (cell b a) 0) (c + 1) && eqb (get_or t (cell c b) 0) (a + 1) && not (outer (a, b))
 
 -- the number, if it lies below n
 unfoldable pub below : ℕ → ℕ → Option ℕ

@@ -4,4 +4,4 @@ use Rattle.places.proofs.Notes.{filled-zeros}
 use Rattle.places.proofs.table.Goals as goal
 
 pub returns : goal.returns
-returns g c = c.fill.ensures ∙ filled-zeros _ refl
+returns g c = c.fill_from.ensures ∙ filled-zeros _ refl

@@ -1,16 +1,14 @@
 -- any_doubted meets its contract.
-use mathlib.Core.Path.{◌∙◌}
-use mathlib.Core.Bool.{Bool}
-use Prim.Native.Nat.{ℕ, ◌-◌}
-use borrow.Author.Tests.{tests}
-use borrow.Author.Rules.{rules}
-use Rattle.lists.proofs.Chains.{some_in_range}
-use Rattle.rings.specs.Tables.{plan_of}
-use Rattle.sound.specs.Sound.{doubted}
+use mathlib.Core.Path.{sym, ◌∙◌}
+use native.Mathlib.Omega.{arith}
+use Rattle.lists.proofs.Folds.{seeks_hit, seeks_on, seeks_end}
 use Rattle.sound.proofs.any_doubted.Goals as goal
 
+pub returns-then-is_doubted : goal.returns-then-is_doubted
+returns-then-is_doubted c = seeks_hit c.loop-u.invariant (omega arith) (sym c.is_doubted.ensures ∙ c.if-is_doubted.true)
+
+pub loop-u-preserved : goal.loop-u-preserved
+loop-u-preserved c = seeks_on c.loop-u.invariant (omega arith) (sym c.is_doubted.ensures ∙ c.if-is_doubted.false)
+
 pub returns : goal.returns
-returns c =
-    let r = c.args.rings.now in
-    let test : ℕ → Bool = doubted c.args.table.now (plan_of r) in
-    some_in_range test 0 r.n c.any.ensures.ran (λ x b f k. search (rules, tests))
+returns c = seeks_end c.loop-u.invariant (omega arith)
