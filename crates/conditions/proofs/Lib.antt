@@ -1,2 +1,4 @@
+pub mod Noted
 pub mod ByTable
 pub mod Breaks
+pub mod Rows

@@ -233,9 +233,18 @@ same_bool false false f g = refl
 pub runs_exactly : (r : List ℕ) → four_runs r ≡ eqb (round_sum r) 4
 runs_exactly r = same_bool (four_runs r) (eqb (round_sum r) 4) (λ e. eq-eqb (round_sum r) 4 (runs_weigh r e)) (λ e. weigh_runs r (eqb-true (round_sum r) 4 e))
 
--- ---- let mut last = r[r.len() - 1]; for label in r { weight += weight_of(last, label); if weight > 4 { return false; } last = label; } weight == 4
+-- a change that weighs more than 1 weighs more than 4
+weight_heavy : (a b : ℕ) → 1 < change_weight a b → 4 < change_weight a b
+weight_heavy a b h = go (change_of a b)
+  where
+    go : Change a b → 4 < change_weight a b
+    go (none s w) = absurd (omega arith)
+    go (next lo s w) = absurd (omega arith)
+    go (other w) = omega arith
+
+-- ---- let mut last = r[r.len() - 1]; for label in r { let w = weight_of(last, label); if w > 1 { return false; } weight += w; last = label; } weight == 4
 pub record Weighs (r : List ℕ) (i last weight : ℕ) : Type 0 where
-  pub light : weight ≤ 4
+  pub light : weight ≤ i
   pub same : round_sum r ≡ weight + change_sum last (drop i r)
 
 last_at : (a : ℕ) (l : List ℕ) → 0 < length l → last_of a l ≡ get_or l (length l - 1) a
@@ -261,11 +270,11 @@ module _ {r : List ℕ} {i last weight : ℕ} (inv : Weighs r i last weight) whe
       let s = inv.same ∙ ap (λ (m : List ℕ). weight + change_sum last m) cut in
       omega arith
 
-  pub weighs_on : {label w : ℕ} → w ≡ change_weight last label → label ≡ get_or r i 0 → i < length r → weight + w ≤ 4 → Weighs r (i + 1) label (weight + w)
-  weighs_on p q h k = record { light = k; same = weighs_more h q p }
+  pub weighs_on : {label w : ℕ} → w ≡ change_weight last label → label ≡ get_or r i 0 → i < length r → w ≤ 1 → Weighs r (i + 1) label (weight + w)
+  weighs_on p q h k = record { light = let l = inv.light in omega arith; same = weighs_more h q p }
 
-  pub weighs_heavy : {label w : ℕ} {s : List ℕ} → w ≡ change_weight last label → r ≡ s → label ≡ get_or r i 0 → i < length r → 4 < weight + w → false ≡ four_runs s
-  weighs_heavy p is q h k = let s = weighs_more h q p in sym (runs_exactly r ∙ ne_eqb (round_sum r) 4 (λ z. omega arith)) ∙ ap four_runs is
+  pub weighs_heavy : {label w : ℕ} {s : List ℕ} → w ≡ change_weight last label → r ≡ s → label ≡ get_or r i 0 → i < length r → 1 < w → false ≡ four_runs s
+  weighs_heavy {label} p is q h k = let s = weighs_more h q p in let m = weight_heavy last label (omega arith) in sym (runs_exactly r ∙ ne_eqb (round_sum r) 4 (λ z. omega arith)) ∙ ap four_runs is
 
   pub weighs_end : {s : List ℕ} → r ≡ s → length r ≤ i → eqb weight 4 ≡ four_runs s
   unfolding change_sum

@@ -1,5 +1,5 @@
 -- The engine's answer is the model's: each case of the answer, and the labels beside it.
-use Prim.Native.Nat.{ℕ, ◌/◌, ◌%◌, ◌≤◌, ◌<◌}
+use Prim.Native.Nat.{ℕ, ◌/◌, ◌%◌, ◌≤◌, ◌<◌, min}
 use mathlib.Core.Path.{◌≡◌, refl, sym, ap, ◌∙◌}
 use mathlib.Core.Logic.{◌≢◌}
 use mathlib.Core.List.{List, [], ◌∷◌, ◌++◌}
@@ -18,8 +18,8 @@ use Rattle.model.specs.Outcome.{Outcome, accepted, refused, ◌>>◌, require, r
 use Rattle.model.specs.Plan.{Plan, Dart, count, entry_count}
 use Rattle.model.specs.Labels.{label_of, turned, put, breaks, label_rules}
 use Rattle.model.specs.Turn.{bad_pair, quarters, turn_dart, turned_edges, turn}
-use Rattle.rings.specs.Tables.{start_of, starts_of, table, in_bounds}
-use Rattle.rings.proofs.Rows.{count-rows}
+use Rattle.rings.specs.Tables.{start_of, starts_of, table, held, in_bounds}
+use Rattle.rings.proofs.Rows.{count-rows, held_small}
 use Rattle.labels.proofs.Darts.{label_behind, put-behind, rules_behind}
 use Rattle.model.proofs.LabelCounts.{turns_long}
 use Rattle.turn.specs.Run.{pairs_turned}
@@ -208,21 +208,25 @@ module _ (sizes es : List ℕ) (n : ℕ) (labels items : List ℕ) (direction : 
           lowest_behind : lowest (breaks P new) n ≡ lowest (breaks P New) (count P)
           lowest_behind = (λ i. lowest (breaks P (new_front i)) (sym many i)) ∙ rules_behind P New Rest (new_long ∙ old-each) (count P)
 
-          module _ {judged : Outcome (Unit {0})} (ten : judged ≡ rule 10 n (breaks P new)) where
+          module _ {judged : Outcome (Unit {0})} (ten : judged ≡ rule 10 (min n 200) (breaks (held sizes es n) new)) where
+            -- the rules of n contexts
+            all-judged : judged ≡ rule 10 n (breaks P new)
+            all-judged = let z : min n 200 ≡ n = omega arith in ten ∙ (λ i. rule 10 (z i) (breaks (held_small sizes es n small i) new))
+
             -- only the label rules are left
             answered : turn_of sizes es n labels items direction ≡ (judged >> accepted New)
             unfolding label_rules
             answered =
                 fits
                 ∙ turn_rules P Old items direction good even (omega arith)
-                ∙ ap (λ (o : Outcome (Unit {0})). o >> accepted New) (sym (ten ∙ λ i. require (leb (sym many i) (lowest_behind i)) 10 (lowest_behind i)))
+                ∙ ap (λ (o : Outcome (Unit {0})). o >> accepted New) (sym (all-judged ∙ λ i. require (leb (sym many i) (lowest_behind i)) 10 (lowest_behind i)))
 
           -- 10 at the lowest context that breaks them
-          pub answer_broken : {k at : ℕ} → refused k at ≡ rule 10 n (breaks P new) → Answers (refused k at)
+          pub answer_broken : {k at : ℕ} → refused k at ≡ rule 10 (min n 200) (breaks (held sizes es n) new) → Answers (refused k at)
           answer_broken ten = refusal (answered ten)
 
           -- none breaks them
-          pub answer_labelled : accepted tt ≡ rule 10 n (breaks P new) → Answers (accepted new)
+          pub answer_labelled : accepted tt ≡ rule 10 (min n 200) (breaks (held sizes es n) new) → Answers (accepted new)
           unfolding labels_in
           answer_labelled ten =
               let done : turn_of sizes es n labels items direction ≡ accepted New = answered ten in

@@ -1,3 +1,4 @@
+pub mod Finding
 pub mod Named
 pub mod Turns
 pub mod Answers

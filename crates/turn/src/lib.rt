@@ -2,19 +2,20 @@
 // One pass tests and turns the named edges. An edge named before is known by its label, which is not the old one any more.
 #![tactic(auto)]
 
-ghost use Rattle.std.specs.Prelude.{◌≡◌, ◌≤◌, ◌<◌, ◌%◌};
+ghost use Rattle.std.specs.Prelude.{◌≡◌, ◌≤◌, ◌<◌, ◌*◌, ◌%◌};
 ghost use Rattle.lists.specs.Parts.{pairs};
 ghost use Rattle.model.specs.Turn.{quarters};
 ghost use Rattle.refusal.specs.Refusals.{told};
 ghost use Rattle.rings.specs.Tables.{start_of, starts_of, plan_of};
-ghost use Rattle.places.specs.Places.{places_of};
 ghost use Rattle.turn.specs.Turned.{turn_of, held_labels, in_array};
-ghost use Rattle.turn.specs.Run.{sized, place_of, turn_at, unturned, pairs_turned};
+ghost use Rattle.turn.specs.Run.{sized, Fits, Finds, place_of, turn_at, unturned, pairs_turned};
 
-use conditions::Labelled;
 use places::Located;
 use refusal::Refusal;
-use rings::Table;
+use rings::{Rings, Table};
+
+// The most contexts for which a small table has rows.
+const FEW: usize = 20;
 
 // The quarters of a direction: one clockwise, three counterclockwise.
 // A number, and no enum: the pass over the edges comes before the direction is tested, and turns by whatever direction it is given.
@@ -34,13 +35,13 @@ fn turn_at(labels: &mut [u8], i: usize, q: u8)
     arrays::put(labels, i, turned);
 }
 
-// The rings of a plan that fits the arrays, with the starts of its rings and its own table of positions: by them the label of each dart is found where the model has it.
+// The rings of a plan that fits the arrays, with the starts of its rings and a table that finds their entries: by them the label of each dart is found where the model has it.
 #[derive(Clone, Copy)]
 struct Placed<'a> {
     located: Located<'a>,
     ghost starts: { located.rings.starts.now ≡ starts_of located.rings.sizes.now },
     ghost few: { located.rings.n ≤ 200 },
-    ghost own: { located.places.now ≡ places_of (plan_of located.rings) },
+    ghost own: { Finds located.places.now (plan_of located.rings) },
     ghost room: { start_of located.rings.sizes.now located.rings.n ≤ 1186 },
 }
 
@@ -94,6 +95,47 @@ impl Placed<'_> {
     }
 }
 
+// The labels with each named edge turned by q quarters, with a table of N cells, which has a row for each context.
+fn turn_in<const N: usize>(
+    rings: &Rings,
+    labels: [u8; 1186],
+    items: &[u16],
+    q: u8,
+) -> Result<[u8; 1186], Refusal>
+    requires quarters { (q < 4) × (q % 2 ≡ 1) }
+    requires rings { Fits rings.now }
+    requires room { (200 * rings.now.n ≤ N) × (N ≤ 40000) }
+    ensures { told result ≡ pairs_turned (sized rings.now) q (pairs items.now) labels }
+{
+    let mut places = [0u8; N];
+    places::fill(&mut places, rings);
+    let placed = Placed {
+        located: Located {
+            rings: *rings,
+            places: &places,
+        },
+    };
+    placed.turn_pairs(labels, items, q)
+}
+
+// The same; the table is small for few contexts.
+fn turn_edges(
+    rings: &Rings,
+    labels: [u8; 1186],
+    items: &[u16],
+    q: u8,
+) -> Result<[u8; 1186], Refusal>
+    requires quarters { (q < 4) × (q % 2 ≡ 1) }
+    requires rings { Fits rings.now }
+    ensures { told result ≡ pairs_turned (sized rings.now) q (pairs items.now) labels }
+{
+    if rings.n <= FEW {
+        turn_in::<4000>(rings, labels, items, q)
+    } else {
+        turn_in::<40000>(rings, labels, items, q)
+    }
+}
+
 // The labels with both darts of each named edge turned by a quarter, after the list, the direction and the label rules are tested.
 pub fn turn_labels(
     labels: [u8; 1186],
@@ -110,24 +152,10 @@ pub fn turn_labels(
     let starts = rings::starts_of(plan.sizes);
     let plan = *plan;
     let rings = plan.rings(&starts);
-    let mut places = [0u8; 40000];
-    places::fill(&mut places, &rings);
-    let placed = Placed {
-        located: Located {
-            rings,
-            places: &places,
-        },
-    };
-    let turned = placed.turn_pairs(labels, items, quarters_of(direction))?;
+    let turned = turn_edges(&rings, labels, items, quarters_of(direction))?;
     if items.len() % 2 != 0 || 1 < direction {
         return Err(Refusal::BadPair(items.len() / 2));
     }
-    let labelled = Labelled {
-        places: &places,
-        starts: &starts,
-        plan,
-        labels: &turned,
-    };
-    labelled.check()?;
+    conditions::check(&plan, &turned)?;
     Ok(turned)
 }

@@ -5,27 +5,23 @@ use native.Mathlib.Omega.{arith}
 use borrow.Author.Tests.{not-true, not-false}
 use Rattle.std.proofs.lemmas.Result.{err_from_is_err_and}
 use Rattle.lists.specs.Parts.{pairs}
-use Rattle.rings.specs.Tables.{rows, start_of, starts_of, table}
-use Rattle.places.specs.Places.{places_of}
-use Rattle.places.proofs.Notes.{filled-zeros}
-use Rattle.conditions.proofs.Breaks.{rules_own}
+use Rattle.rings.specs.Tables.{start_of, starts_of, table}
 use Rattle.fit.proofs.Fits.{bounds_say}
 use Rattle.turn.specs.Run.{pairs_turned}
 use Rattle.turn.proofs.Answers.{answer_unfit, answer_pair, answer_odd, answer_direction, answer_broken, answer_labelled}
 use Rattle.turn.proofs.turn_labels.Goals as goal
 use Rattle.turn.proofs.turn_labels.Goals.{then-items-ne0-via-then-items-ne0, then-items-ne0-via-else-items-ne0+then-direction-gt1}
 
-pub invariant_of-placed : goal.invariant_of-placed
-invariant_of-placed c =
+pub turn_edges-requires-clause-rings : goal.turn_edges-requires-clause-rings
+turn_edges-requires-clause-rings c =
     let t = c.args.plan.now in
     let r = c.rings-rings.ensures in
     let b = bounds_say t.sizes.now t.n (sym c.is_in_bounds.ensures ∙ not-false _ (ap not c.if-not-is_in_bounds.false)) in
-    record {
-      starts = r.starts ∙ c.starts_of-starts.ensures ∙ ap starts_of (sym r.sizes);
-      few = let e = r.n in let h = b.0 in omega arith;
-      own = (c.fill.ensures ∙ filled-zeros _ refl);
-      room = let e : start_of c.rings-rings.result.sizes.now c.rings-rings.result.n ≡ start_of t.sizes.now t.n = λ i. start_of (r.sizes i) (r.n i) in let h = b.1 in omega arith;
-    }
+    let e : start_of c.rings-rings.result.sizes.now c.rings-rings.result.n ≡ start_of t.sizes.now t.n = λ i. start_of (r.sizes i) (r.n i) in
+    let n = r.n in
+    let small = b.0 in
+    let few = b.1 in
+    (r.starts ∙ c.starts_of-starts.ensures ∙ ap starts_of (sym r.sizes), omega arith, omega arith)
 
 pub returns-then-not-is_in_bounds : goal.returns-then-not-is_in_bounds
 returns-then-not-is_in_bounds c =
@@ -50,9 +46,11 @@ returns-then-items-ne0 c =
     let long = c.well_formed in
     let b = bounds_say t.sizes.now t.n (sym c.is_in_bounds.ensures ∙ not-false _ (ap not c.if-not-is_in_bounds.false)) in
     let passed = c.in_ok-turned.ensures ∙ (λ i. pairs_turned (table (r.sizes i) (r.entries i) (r.n i)) c.quarters_of.result (pairs c.args.items.now) c.args.labels) in
+    let a = c.args in
+    let q = c.quarters_of.result in
     elim c.then-items-ne0.branch [
-      | then-items-ne0-via-then-items-ne0 w ↦ answer_odd t.sizes.now t.entries.now t.n c.args.labels c.args.items.now c.args.direction b.0 b.1 (omega arith) c.quarters_of.result passed refl w.if-items-ne0.true
-      | then-items-ne0-via-else-items-ne0+then-direction-gt1 w ↦ answer_direction t.sizes.now t.entries.now t.n c.args.labels c.args.items.now c.args.direction b.0 b.1 (omega arith) c.quarters_of.result passed w.if-items-ne0.false refl w.if-direction-gt1.true
+      | then-items-ne0-via-then-items-ne0 w ↦ answer_odd t.sizes.now t.entries.now t.n a.labels a.items.now a.direction b.0 b.1 (omega arith) q passed refl w.if-items-ne0.true
+      | then-items-ne0-via-else-items-ne0+then-direction-gt1 w ↦ answer_direction t.sizes.now t.entries.now t.n a.labels a.items.now a.direction b.0 b.1 (omega arith) q passed w.if-items-ne0.false refl w.if-direction-gt1.true
     ]
 
 pub returns-in_err-check : goal.returns-in_err-check
@@ -62,11 +60,10 @@ returns-in_err-check c =
     let long = c.well_formed in
     let b = bounds_say t.sizes.now t.n (sym c.is_in_bounds.ensures ∙ not-false _ (ap not c.if-not-is_in_bounds.false)) in
     let passed = c.in_ok-turned.ensures ∙ (λ i. pairs_turned (table (r.sizes i) (r.entries i) (r.n i)) c.quarters_of.result (pairs c.args.items.now) c.args.labels) in
-    let filled = (c.fill.ensures ∙ filled-zeros _ refl) ∙ (λ i. places_of (rows (r.starts i) (r.sizes i) (r.entries i) (r.n i))) in
-    let own = rules_own _ t.sizes.now t.entries.now t.n c.starts_of-starts.ensures b.0 filled c.in_ok-turned.turned in
     let p = err_from_is_err_and c.from_residual-in_err-check.result c.from_residual-in_err-check.ensures.1 in
-    let a = answer_broken t.sizes.now t.entries.now t.n c.args.labels c.args.items.now c.args.direction b.0 b.1 (omega arith) c.quarters_of.result passed c.if-items-ne0.false c.if-direction-gt1.false c.quarters_of.ensures.value (c.in_err-check.ensures ∙ own) in
-    rw (p.1, p.2) a
+    let a = c.args in
+    let q = c.quarters_of in
+    rw (p.1, p.2) (answer_broken t.sizes.now t.entries.now t.n a.labels a.items.now a.direction b.0 b.1 (omega arith) q.result passed c.if-items-ne0.false c.if-direction-gt1.false q.ensures.value c.in_err-check.ensures)
 
 pub returns : goal.returns
 returns c =
@@ -75,6 +72,6 @@ returns c =
     let long = c.well_formed in
     let b = bounds_say t.sizes.now t.n (sym c.is_in_bounds.ensures ∙ not-false _ (ap not c.if-not-is_in_bounds.false)) in
     let passed = c.in_ok-turned.ensures ∙ (λ i. pairs_turned (table (r.sizes i) (r.entries i) (r.n i)) c.quarters_of.result (pairs c.args.items.now) c.args.labels) in
-    let filled = (c.fill.ensures ∙ filled-zeros _ refl) ∙ (λ i. places_of (rows (r.starts i) (r.sizes i) (r.entries i) (r.n i))) in
-    let own = rules_own _ t.sizes.now t.entries.now t.n c.starts_of-starts.ensures b.0 filled c.in_ok-turned.turned in
-    answer_labelled t.sizes.now t.entries.now t.n c.args.labels c.args.items.now c.args.direction b.0 b.1 (omega arith) c.quarters_of.result passed c.if-items-ne0.false c.if-direction-gt1.false c.quarters_of.ensures.value (c.in_ok-check.ensures ∙ own)
+    let a = c.args in
+    let q = c.quarters_of in
+    answer_labelled t.sizes.now t.entries.now t.n a.labels a.items.now a.direction b.0 b.1 (omega arith) q.result passed c.if-items-ne0.false c.if-direction-gt1.false q.ensures.value c.in_ok-check.ensures

@@ -33,7 +33,9 @@ returns-in_err-i c =
     let h = c.loop-k-test.true in
     let n = c.as_chunks.ensures.front_len in
     let f = c.as_chunks.ensures.front in
-    chunk_is items (length items / 2) c.loop-k.k (omega arith) (omega arith) (c.from-u.ensures ∙ ap (λ (l : List (List ℕ)). get_or (get_or l c.loop-k.k []) 0 0) f) (c.from-v.ensures ∙ ap (λ (l : List (List ℕ)). get_or (get_or l c.loop-k.k []) 1 0) f)
+    let eu = c.from-u.ensures ∙ ap (λ (l : List (List ℕ)). get_or (get_or l c.loop-k.k []) 0 0) f in
+    let ev = c.from-v.ensures ∙ ap (λ (l : List (List ℕ)). get_or (get_or l c.loop-k.k []) 1 0) f in
+    chunk_is items (length items / 2) c.loop-k.k (omega arith) (omega arith) eu ev
     in
     let room : entry_count (table r.sizes.now r.entries.now r.n) ≤ 1186 = let e = count-table r.starts.now r.sizes.now r.entries.now r.n s.starts s.few in let h = s.room in omega arith in
     let hit = turns_hit inv.1 room (omega arith) c.from-u.result c.from-v.result pair (sym (length_pairs items)) (omega arith) (sym none ∙ c.unturned_place.ensures) in
@@ -55,7 +57,9 @@ loop-k-preserved c =
     let h = c.loop-k-test.true in
     let n = c.as_chunks.ensures.front_len in
     let f = c.as_chunks.ensures.front in
-    chunk_is items (length items / 2) c.loop-k.k (omega arith) (omega arith) (c.from-u.ensures ∙ ap (λ (l : List (List ℕ)). get_or (get_or l c.loop-k.k []) 0 0) f) (c.from-v.ensures ∙ ap (λ (l : List (List ℕ)). get_or (get_or l c.loop-k.k []) 1 0) f)
+    let eu = c.from-u.ensures ∙ ap (λ (l : List (List ℕ)). get_or (get_or l c.loop-k.k []) 0 0) f in
+    let ev = c.from-v.ensures ∙ ap (λ (l : List (List ℕ)). get_or (get_or l c.loop-k.k []) 1 0) f in
+    chunk_is items (length items / 2) c.loop-k.k (omega arith) (omega arith) eu ev
     in
     let room : entry_count plan ≤ 1186 = let e = count-table r.starts.now r.sizes.now r.entries.now r.n s.starts s.few in omega arith in
     let back : c.match-place_of.turned ≡ turn_dart plan c.args.q (dart v u) c.loop-k.turned = elim c.match-place_of.branch [

@@ -1,0 +1,7 @@
+-- What the loop of note_around keeps.
+use Prim.Native.Nat.{◌≤◌}
+use Rattle.conditions.proofs.Noted.{Back}
+use Rattle.conditions.proofs.note_around.Given as goal
+
+abbrev pub invariant-loop-i : goal.invariant-loop-i
+invariant-loop-i l = (l.start ≤ l.i) × (l.i ≤ l.end) × Back l.rings.entries.now l.labels l.u l.end l.initial.table l.i l.table
