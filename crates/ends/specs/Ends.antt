@@ -1,6 +1,6 @@
 -- Where the sweep begins and where it ends, on arrays: what the functions of src/ compute.
 use Rattle.std.specs.Prelude.{ℕ, suc, ◌-◌, List, Bool, false, cond, not, length, get_or, set, eqb}
-use Rattle.lists.specs.Folds.{through, down, some}
+use Rattle.lists.specs.Folds.{through, down, some_within}
 use Rattle.lists.specs.Spans.{zeros}
 use Rattle.model.specs.Plan.{Plan, ring}
 use Rattle.frontier.specs.Run.{Line, line, pushed, fresh, turned_at, turn_by, depth_from, depth, under}
@@ -25,7 +25,7 @@ done_by t p f k = let x = turn_by t p f k in cond (eqb (depth_from p f k x) 1) (
 
 -- some inner context of a frontier of m has more than South below, by a table of positions
 unfoldable pub unfinished_by : List ℕ → Plan → List ℕ → ℕ → Bool
-unfinished_by t p f m = some (λ k. not (done_by t p f k)) 1 (m - 1)
+unfinished_by t p f m = some_within (λ k. not (done_by t p f k)) 1 (m - 1)
 
 -- the same without a table: South alone is below position k
 unfoldable pub done_at : Plan → List ℕ → ℕ → Bool
@@ -33,4 +33,4 @@ done_at p f k = cond (eqb (depth p f k) 1) (eqb (get_or (under p f k) 0 0) 2) fa
 
 -- some inner context of a frontier of m has more than South below
 unfoldable pub unfinished : Plan → List ℕ → ℕ → Bool
-unfinished p f m = some (λ k. not (done_at p f k)) 1 (m - 1)
+unfinished p f m = some_within (λ k. not (done_at p f k)) 1 (m - 1)

@@ -6,16 +6,15 @@ use mathlib.Core.Bool.{Bool, true, false, cond}
 use lib.Dec.{eqb}
 use native.Mathlib.Omega.{arith}
 use lib.ListN.{length, get_or, take, drop, length-append, length-drop, length-take, get_or-append, get_or-eq_default}
-use lib.Seq.{get_or-append-add, get_or-drop, get_or-take, drop-cons}
-use Rattle.std.proofs.lemmas.List.{drop_all}
+use lib.Seq.{get_or-append-add, get_or-drop, get_or-take}
 use Rattle.lists.specs.Parts.{index_of}
 use Rattle.lists.specs.Ranges.{first_from, lowest}
-use Rattle.model.specs.Plan.{Plan, ring, onward}
+use Rattle.model.specs.Plan.{Plan, neighbour, ring, onward}
 use Rattle.places.specs.Places.{places_of}
 use Rattle.places.proofs.Look.{index_told}
 use Rattle.places.specs.declared.Located.{Located}
 use Rattle.rings.specs.Tables.{plan_of, size_of}
-use Rattle.rings.proofs.Rows.{ring-size}
+use Rattle.rings.proofs.Rows.{ring-size, ring-at}
 use Rattle.frontier.specs.declared.below.Below.{Below}
 use Rattle.frontier.specs.Run.{turned_at, below_of, reads, depth_of, turn, turn_by, depth, depth_from, gap, under}
 
@@ -37,7 +36,7 @@ module _ (x : ℕ) (r : List ℕ) {q d : ℕ} (size : q ≡ length r) (rest : d 
       sym (ap (λ (i : ℕ). get_or (drop (suc x) r ++ take x r) i 0) z ∙ get_or-append-add (drop (suc x) r) (take x r) (t - d) 0 ∙ get_or-take x r (t - d) 0 k)
 
   -- past the end
-  pub turned-past : (t : ℕ) → d ≤ t → x ≤ t - d → 0 ≡ get_or (turned_at x r) t 0
+  pub turned-past : (t : ℕ) → d ≤ t → min x q ≤ t - d → 0 ≡ get_or (turned_at x r) t 0
   unfolding turned_at
   turned-past t h k =
       sym (get_or-eq_default (drop (suc x) r ++ take x r) 0 (let a = length-append (drop (suc x) r) (take x r) in let b = length-drop (suc x) r in let c = length-take x r in omega arith))
@@ -57,22 +56,27 @@ module _ (b : Below) {q : ℕ} (size : q ≡ size_of b.rings.sizes.now b.rings.n
   whole_ring : q ≡ length (ring (plan_of b.rings) b.u)
   whole_ring = size ∙ sym (ring-size b.rings.starts.now b.rings.sizes.now b.rings.entries.now b.rings.n b.u)
 
+  -- an entry of the ring, where the rings' entries stand
+  stands : {o : ℕ} → o ≡ get_or b.rings.starts.now b.u 0 → (i : ℕ) → i < q → get_or b.rings.entries.now (o + i) 0 ≡ get_or (ring (plan_of b.rings) b.u) i 0
+  unfolding neighbour
+  stands from i h = ap (λ (s : ℕ). get_or b.rings.entries.now (s + i) 0) from ∙ sym (ring-at b.rings.starts.now b.rings.sizes.now b.rings.entries.now b.rings.n b.u i (omega arith))
+
   module _ {w d : ℕ} (less : w ≡ q - 1) (rest : d ≡ w - b.x) where
     -- how many entries stand behind the place
     behind : d ≡ q - (b.x + 1)
     behind = omega arith
 
     -- an entry behind the place
-    pub read_first : {t e : ℕ} → t < d → e ≡ get_or (ring (plan_of b.rings) b.u) (b.x + 1 + t) 0 → e ≡ get_or (reads b) t 0
-    read_first {t} h is = is ∙ turned-first b.x (ring (plan_of b.rings) b.u) whole_ring behind t h
+    pub read_first : {o t e : ℕ} → o ≡ get_or b.rings.starts.now b.u 0 → t < d → e ≡ get_or b.rings.entries.now (o + (b.x + 1 + t)) 0 → e ≡ get_or (reads b) t 0
+    read_first {t = t} from h is = is ∙ stands from (b.x + 1 + t) (omega arith) ∙ turned-first b.x (ring (plan_of b.rings) b.u) whole_ring behind t h
 
     -- an entry before the place
-    pub read_later : {t e : ℕ} → (t < d → ⊥) → t - d < b.x → e ≡ get_or (ring (plan_of b.rings) b.u) (t - d) 0 → e ≡ get_or (reads b) t 0
-    read_later {t} h k is = is ∙ turned-later b.x (ring (plan_of b.rings) b.u) whole_ring behind t (omega arith) k
+    pub read_later : {o t e m : ℕ} → o ≡ get_or b.rings.starts.now b.u 0 → (t < d → ⊥) → m ≡ min b.x q → t - d < m → e ≡ get_or b.rings.entries.now (o + (t - d)) 0 → e ≡ get_or (reads b) t 0
+    read_later {t = t} from h low k is = is ∙ stands from (t - d) (omega arith) ∙ turned-later b.x (ring (plan_of b.rings) b.u) whole_ring behind t (omega arith) (omega arith)
 
     -- past the end
-    pub read_past : {t : ℕ} → (t < d → ⊥) → (t - d < b.x → ⊥) → 0 ≡ get_or (reads b) t 0
-    read_past {t} h k = turned-past b.x (ring (plan_of b.rings) b.u) whole_ring behind t (omega arith) (omega arith)
+    pub read_past : {t m : ℕ} → (t < d → ⊥) → m ≡ min b.x q → (t - d < m → ⊥) → 0 ≡ get_or (reads b) t 0
+    read_past {t} h low k = turned-past b.x (ring (plan_of b.rings) b.u) whole_ring behind t (omega arith) (omega arith)
 
     -- how many entries are read
     pub read_all : {e : ℕ} → e ≡ min b.x q → d + e ≡ length (reads b)
@@ -133,28 +137,3 @@ pub lowest-index : (b : ℕ) (l : List ℕ) → lowest (λ (t : ℕ). eqb b (get
 unfolding first_from
 lowest-index b [] = refl
 lowest-index b (a ∷ l) = ap (cond (eqb b a) 0) (first_after (λ (t : ℕ). eqb b (get_or (a ∷ l) t 0)) 0 (length l) ∙ ap suc (lowest-index b l))
-
--- ---- for t in 0..e { if b == l[t] { return false; } .. }
-pub record Gaps (l : List ℕ) (b t : ℕ) : Type 0 where
-  pub same : index_of b l ≡ t + index_of b (drop t l)
-
--- before the loop
-pub gap-start : {l : List ℕ} {b : ℕ} → Gaps l b 0
-gap-start = record { same = omega arith }
-
-module _ {l : List ℕ} {b t : ℕ} (inv : Gaps l b t) where
-  -- the next entry apart from those after it
-  gap_apart : t < length l → index_of b l ≡ t + cond (eqb b (get_or l t 0)) 0 (suc (index_of b (drop (t + 1) l)))
-  gap_apart h = let z : t + 1 ≡ suc t = omega arith in inv.same ∙ ap (λ (m : List ℕ). t + index_of b m) (drop-cons l t 0 h ∙ ap {B = List ℕ} (λ (n : ℕ). get_or l t 0 ∷ drop n l) (sym z))
-
-  -- it is b
-  pub gap_hit : t < length l → eqb b (get_or l t 0) ≡ true → index_of b l ≡ t
-  gap_hit h e = let z = gap_apart h ∙ ap (λ (x : Bool). t + cond x 0 (suc (index_of b (drop (t + 1) l)))) e in omega arith
-
-  -- it is not
-  pub gap_on : t < length l → eqb b (get_or l t 0) ≡ false → Gaps l b (t + 1) × (t < index_of b l)
-  gap_on h e = let z = gap_apart h ∙ ap (λ (x : Bool). t + cond x 0 (suc (index_of b (drop (t + 1) l)))) e in (record { same = omega arith }, omega arith)
-
-  -- there is none
-  pub gap_end : length l ≤ t → index_of b l ≤ t
-  gap_end h = let z = inv.same ∙ ap (λ (m : List ℕ). t + index_of b m) (drop_all t l h) in omega arith

@@ -73,3 +73,8 @@ under-padded p f k = λ i. onward (get_or-padded 512 f (suc k) i) (ring p (get_o
 pub depth-padded : (p : Plan) (f : List ℕ) (k : ℕ) → depth p (padded 512 f) k ≡ depth p f k
 unfolding depth
 depth-padded p f k = λ i. gap p (get_or-padded 512 f k i) (get_or-padded 512 f (suc k) i) (get_or-padded 512 f (k - 1) i)
+
+-- what is below
+pub below-padded : (p : Plan) (f : List ℕ) (k : ℕ) → below p (padded 512 f) k ≡ below p f k
+unfolding below
+below-padded p f k = λ i. reverse (between (get_or-padded 512 f (suc k) i) (get_or-padded 512 f (k - 1) i) (ring p (get_or-padded 512 f k i)))

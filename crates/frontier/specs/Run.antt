@@ -1,8 +1,7 @@
 -- The frontier as the engine keeps it, on arrays: what the functions of src/ compute.
-use Rattle.std.specs.Prelude.{ℕ, suc, ◌+◌, ◌-◌, List, ◌++◌, Option, Some, None, Result, Ok, Err, is_some, is_ok, Bool, true, false, cond, get_or, set, take, drop, ltb, eqb}
+use Rattle.std.specs.Prelude.{ℕ, suc, ◌+◌, ◌-◌, List, ◌++◌, Option, Some, None, Result, Ok, Err, is_some, is_ok, Bool, true, false, cond, get_or, set, take, drop, ltb}
 use Rattle.std.specs.Option.{unwrap_or}
 use Rattle.lists.specs.Parts.{index_of}
-use Rattle.lists.specs.Folds.{some}
 use Rattle.lists.specs.Spans.{zeros}
 use Rattle.model.specs.Plan.{Plan, ring, onward}
 use Rattle.places.specs.Places.{index_by}
@@ -92,7 +91,3 @@ reads b = turned_at b.x (ring (plan_of b.rings) b.u)
 -- how many entries of it are below
 abbrev pub depth_of : Below → ℕ
 depth_of b = index_of b.left (reads b)
-
--- c is one of the entries that are below
-abbrev pub holds : Below → ℕ → Bool
-holds b c = some (λ (t : ℕ). eqb c (get_or (reads b) t 0)) 0 (depth_of b)

@@ -1,5 +1,6 @@
 // What is below a frontier context: the ring entries between its right and its left frontier neighbour.
-ghost use Rattle.std.specs.Prelude.{◌≡◌, suc, ◌-◌, ◌<◌, ◌^◌, get_or, length};
+ghost use Rattle.std.specs.Prelude.{◌≡◌, suc, ◌-◌, ◌<◌, ◌^◌, ◌++◌, get_or, length, take, drop, reverse, eqb};
+ghost use Rattle.rings.specs.Tables.{size_of};
 ghost use Rattle.frontier.specs.Run as run;
 
 use places::Located;
@@ -53,56 +54,95 @@ impl<'a> Front<'a> {
 }
 
 impl<'a> Below<'a> {
-    // Entry t of the ring, read from the entry after place x round to the entry before it; 0 past the end.
+    // How many entries u's ring has.
+    fn size(&self) -> usize
+        ensures value { result ≡ size_of self.now.rings.sizes.now self.now.rings.n self.now.u }
+        ensures upper_bound { result < 2 ^ 8 }
+    {
+        self.rings.size_of(self.u)
+    }
+
+    // Where u's ring begins among the entries.
+    fn start(&self) -> u16
+        ensures { result ≡ get_or self.now.rings.starts.now self.now.u 0 }
+    {
+        arrays::at(self.rings.starts, self.u)
+    }
+
+    // Entry t of the ring of q entries from this start on, read from the entry after place x round to the entry before it; 0 past the end.
     #[tactic(auto, using(crate::proofs::Moves::read_first, crate::proofs::Moves::read_later, crate::proofs::Moves::read_past))]
-    pub fn at(&self, t: usize) -> u16
+    fn read(&self, start: u16, q: usize, t: usize) -> u16
+        requires start { start ≡ get_or self.now.rings.starts.now self.now.u 0 }
+        requires size { q ≡ size_of self.now.rings.sizes.now self.now.rings.n self.now.u }
+        requires short { q < 2 ^ 8 }
         ensures { result ≡ get_or (run.reads self.now) t 0 }
     {
-        let q = self.rings.size_of(self.u);
         let d = q.saturating_sub(1).saturating_sub(self.x);
         if t < d {
-            return self.rings.entry_at(self.u, self.x + 1 + t);
+            return arrays::at(self.rings.entries, usize::from(start) + (self.x + 1 + t));
         }
-        if t - d < self.x {
-            return self.rings.entry_at(self.u, t - d);
+        if t - d < self.x.min(q) {
+            return arrays::at(self.rings.entries, usize::from(start) + (t - d));
         }
         0
     }
 
-    // How many entries are read, the left frontier neighbour and those after it among them.
-    #[tactic(auto, using(crate::proofs::Moves::read_all))]
-    fn reach(&self) -> usize
-        ensures value { result ≡ length (run.reads self.now) }
-        ensures upper_bound { result < 2 ^ 9 }
+    // Entry t of the ring, read from the entry after place x round to the entry before it; 0 past the end.
+    pub fn at(&self, t: usize) -> u16
+        ensures { result ≡ get_or (run.reads self.now) t 0 }
     {
-        let q = self.rings.size_of(self.u);
+        self.read(self.start(), self.size(), t)
+    }
+
+    // How many entries of a ring of q are read, the left frontier neighbour and those after it among them.
+    #[tactic(auto, using(crate::proofs::Moves::read_all))]
+    fn reach(&self, q: usize) -> usize
+        requires size { q ≡ size_of self.now.rings.sizes.now self.now.rings.n self.now.u }
+        requires short { q < 2 ^ 8 }
+        ensures value { result ≡ length (run.reads self.now) }
+        ensures upper_bound { result < 2 ^ 8 }
+    {
         q.saturating_sub(1).saturating_sub(self.x) + self.x.min(q)
     }
 
     // How many entries are below: those before the left frontier neighbour.
     pub fn len(&self) -> usize
         ensures value { result ≡ run.depth_of self.now }
-        ensures upper_bound { result < 2 ^ 9 }
+        ensures upper_bound { result < 2 ^ 8 }
     {
-        let e = self.reach();
-        (0..e).find(|t| self.left == self.at(*t)).unwrap_or(e)
+        let q = self.size();
+        let start = self.start();
+        let e = self.reach(q);
+        (0..e)
+            .find(|t| self.left == self.read(start, q, *t))
+            .unwrap_or(e)
     }
 
-    // Is c one of the entries that are below?
-    #[tactic(auto, using(crate::proofs::Moves::gap_end, crate::proofs::Moves::gap_hit, crate::proofs::Moves::gap_on, lists::proofs::Folds::seeks_end, lists::proofs::Folds::seeks_on))]
-    pub fn has(&self, c: usize) -> bool
-        ensures { result ≡ run.holds self.now c }
+    // Is exactly one entry below? The first is not the left frontier neighbour, and the second is it, or there is none.
+    #[tactic(auto, using(crate::proofs::Ones::one_bare, crate::proofs::Ones::one_left, crate::proofs::Ones::one_alone, crate::proofs::Ones::one_next))]
+    pub fn is_one(&self) -> bool
+        ensures { result ≡ eqb (run.depth_of self.now) 1 }
     {
-        let e = self.reach();
-        for t in 0..e {
-            let w = self.at(t);
-            if self.left == w {
-                return false;
-            }
-            if c == usize::from(w) {
-                return true;
-            }
+        let q = self.size();
+        let start = self.start();
+        let e = self.reach(q);
+        e > 0
+            && self.left != self.read(start, q, 0)
+            && (e == 1 || self.left == self.read(start, q, 1))
+    }
+
+    // Puts what is below on the front of a list, the last of the ring first: how many entries that are. What stands behind them is as it was.
+    pub fn put_on(&self, list: &mut [u16; 256]) -> usize
+        ensures value { result ≡ run.depth_of self.now }
+        ensures list { list.new ≡ reverse (take (run.depth_of self.now) (run.reads self.now)) ++ drop (run.depth_of self.now) list.old }
+        ensures upper_bound { result < 2 ^ 8 }
+    {
+        let size = self.size();
+        let start = self.start();
+        let q = self.len();
+        for t in 0..q {
+            arrays::put(list, q - 1 - t, self.read(start, size, t));
         }
-        false
+        q
     }
 }

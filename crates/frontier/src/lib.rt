@@ -8,7 +8,7 @@ mod below;
 
 pub use below::{Below, Front};
 
-// A frontier or a list: its contexts, and a mark for each context that is or was on the frontier; the line of a list marks the contexts of the list too.
+// A frontier: its contexts, and a mark for each context that is or was on the frontier.
 #[derive(Drop)]
 pub struct Line {
     pub len: usize,
@@ -26,18 +26,4 @@ pub fn push(at: &mut [u16], len: usize, x: u16) -> Option<usize>
     }
     arrays::put(at, len, x);
     Some(len + 1)
-}
-
-impl Line {
-    // A line with nothing on it, and these marks.
-    #[tactic(auto, unfolding(lists::specs::Spans::zeros, crate::specs::Run::fresh))]
-    pub fn new(marks: [u8; 256]) -> Line
-        ensures { run.whole result ≡ run.fresh marks }
-    {
-        Line {
-            len: 0,
-            at: [0u16; 512],
-            marks,
-        }
-    }
 }

@@ -33,10 +33,10 @@ repeats-left (a ∷ l) m e = go (repeats-left l m) (or_yes (member a l) (repeats
     go r (inl h) = or_left (member a (l ++ m)) (repeats (l ++ m)) (any_append (eqb a) l m ∙ or_left (member a l) (member a m) h)
     go r (inr h) = or_right (member a (l ++ m)) (repeats (l ++ m)) (r h)
 
--- a repeat in the second part
-pub repeats-right : (l m : List ℕ) → repeats m ≡ true → repeats (l ++ m) ≡ true
-repeats-right [] m e = e
-repeats-right (a ∷ l) m e = or_right (member a (l ++ m)) (repeats (l ++ m)) (repeats-right l m e)
+-- no repeat, and so none in the second part
+once_right : (l m : List ℕ) → repeats (l ++ m) ≡ false → repeats m ≡ false
+once_right [] m e = e
+once_right (a ∷ l) m e = once_right l m (or_no (member a (l ++ m)) (repeats (l ++ m)) e).1
 
 -- an entry that stands in the list put at its end
 pub repeats_end : (l : List ℕ) (c : ℕ) → member c l ≡ true → repeats (l ++ (c ∷ [])) ≡ true
@@ -97,6 +97,14 @@ module _ (seen : List ℕ) where
       let (r, g) = or_no (repeats l) (any border l) p in
       let (i, o) = or_no (member c l) (member c seen) e in
       rw (repeats-append l (c ∷ []) r refl (none_single c l i), any_append border l (c ∷ []), g, b, any_append S l (c ∷ []), s, o)
+
+  -- what stands at the end of a clean list is clean
+  pub clean_right : (l m : List ℕ) → dirty seen (l ++ m) ≡ false → dirty seen m ≡ false
+  unfolding dirty
+  clean_right l m d =
+      let (e, s) = or_no (repeats (l ++ m) || any border (l ++ m)) (any S (l ++ m)) d in
+      let (r, b) = or_no (repeats (l ++ m)) (any border (l ++ m)) e in
+      rw (once_right l m r, (or_no (any border l) (any border m) (sym (any_append border l m) ∙ b)).1, (or_no (any S l) (any S m) (sym (any_append S l m) ∙ s)).1)
 
   -- a clean list has no repeat
   pub clean_once : (l : List ℕ) → dirty seen l ≡ false → repeats l ≡ false

@@ -19,13 +19,30 @@ use Rattle.model.specs.Sweep.{State, listed, replaced, chordless, eligible, adva
 use Rattle.model.proofs.Eligible.{replaced-length}
 use Rattle.lists.specs.Folds.{each}
 use Rattle.frontier.specs.Front.{Small, Sane, Rep, Marks, Front}
-use Rattle.frontier.specs.Run.{Line, line, pushed, fresh}
+use Rattle.frontier.specs.Run.{Line, line, line_of, pushed, fresh}
 use Rattle.pairs.specs.Run.{appended, listing}
 use Rattle.pairs.proofs.Dirt.{dirty, clean_once, clean_new}
 use Rattle.frontier.proofs.Lines.{small-append, small-mem, mem-small, no_longer, push_rep, marks-same, pushed-marks, fresh-rep, stretch-all, stretch_part}
+use Rattle.places.specs.Places.{places_of}
+use Rattle.std.specs.Prelude.{Result, Ok}
+use Rattle.pairs.proofs.Moves.{listing-own, replaced-own}
 use Rattle.pairs.proofs.Adding.{Good}
 use Rattle.pairs.proofs.Gather.{listing_comes, allowed}
 use Rattle.pairs.specs.Run as run
+
+-- ---- what the code puts on new lines, by the plan's own table
+module _ (p : Plan) {t : List ℕ} (own : t ≡ places_of p) (v : Line) (i j : ℕ) {k : ℕ} (next : k ≡ suc i) (r : Result ℕ ℕ) {at marks : List ℕ} (is : line_of r at marks ≡ run.listing_by t p v.at k j (line true 0 (zeros 512) v.marks)) where
+  -- the list of positions i and j
+  pub list-is : line_of r at marks ≡ listing p v.at v.marks (suc i) j
+  list-is = is ∙ listing-own p own v.at v.marks k j refl ∙ ap (λ (n : ℕ). listing p v.at v.marks n j) next
+
+  -- and the frontier with it in place
+  pub new-is : {q : ℕ} → r ≡ Ok q → {w : Line} → w ≡ run.replaced_on (line true 0 (zeros 512) marks) v.at v.len k j at q → w ≡ run.replaced v.at v.len (suc i) j (listing p v.at v.marks (suc i) j)
+  new-is {q} on put =
+      put
+      ∙ replaced-own v.at v.len k j at q marks refl
+      ∙ ap (λ (n : ℕ). run.replaced v.at v.len n j (line true q at marks)) next
+      ∙ ap (run.replaced v.at v.len (suc i) j) (ap (λ (r : Result ℕ ℕ). line_of r at marks) (sym on) ∙ list-is)
 
 -- ---- contexts put at the end of a line
 -- a line holds what was put at its end
@@ -132,27 +149,18 @@ module _ (p : Plan) (sane : Sane p) (s : State) (v : Line) (fr : Front s v) wher
     abbrev next : Line
     next = run.replaced v.at v.len (suc i) j (list i j)
 
-    -- with a line of the list in place it holds the new frontier
-    pub new_rep_of : (w : Line) → Rep w l → Good s.seen (list i j) l → Rep (run.replaced v.at v.len (suc i) j w) (replaced f i j l)
-    new_rep_of w r g =
+    -- it holds the new frontier
+    pub new_rep : Good s.seen (list i j) l → Rep next (replaced f i j l)
+    new_rep g =
         let fit = news-fit l (clean_once s.seen l g.clean) (clean_new s.seen l g.clean) g.small in
-        subst (λ (a : List ℕ). Rep (run.replaced a v.len (suc i) j w) (replaced f i j l)) (sym fr.rep.at)
-        (subst (λ (m : ℕ). Rep (run.replaced (padded 512 f) m (suc i) j w) (replaced f i j l)) (sym fr.rep.len)
-        (replaced-rep f l i j (omega arith) (omega arith) w r (omega arith)))
-
-    -- so it does with that of the pair
-    new_rep : Good s.seen (list i j) l → Rep next (replaced f i j l)
-    new_rep g = new_rep_of (list i j) g.rep g
+        subst (λ (a : List ℕ). Rep (run.replaced a v.len (suc i) j (list i j)) (replaced f i j l)) (sym fr.rep.at)
+        (subst (λ (m : ℕ). Rep (run.replaced (padded 512 f) m (suc i) j (list i j)) (replaced f i j l)) (sym fr.rep.len)
+        (replaced-rep f l i j (omega arith) (omega arith) (list i j) g.rep (omega arith)))
 
     -- an eligible pair's list is gathered whole
     pub gathered : eligible p s i j ≡ true → Good s.seen (list i j) l
     unfolding eligible dirty
     gathered e = ⊎_elim (λ w. w.0) (λ w. both (okay i j) (and_yes (okay i j) (chordless p (replaced f i j l)) e).0 w.1) (comes i j)
-
-    -- the frontier of an eligible pair has no chord
-    pub unchorded : eligible p s i j ≡ true → chordless p (replaced f i j l) ≡ true
-    unfolding eligible dirty
-    unchorded e = (and_yes (okay i j) (chordless p (replaced f i j l)) e).1
 
     -- and the new line holds the new frontier
     pub next-front : eligible p s i j ≡ true → Front (advance p s i j) next

@@ -1,0 +1,79 @@
+-- What is put on the front of a list from its last entry on: the part of a ring that is read, reversed.
+use Prim.Native.Nat.{ℕ, zero, suc, ◌+◌, ◌-◌, ◌≤◌, ◌<◌}
+use mathlib.Core.Path.{◌≡◌, refl, sym, ap, ◌∙◌}
+use mathlib.Core.List.{List, [], ◌∷◌, ◌++◌, reverse}
+use native.Mathlib.Omega.{arith}
+use lib.ListN.{length, get_or, set, take, drop, take-append-drop, length-take}
+use lib.Seq.{take-append_seam}
+use Rattle.std.proofs.lemmas.List.{length-reverse}
+use Rattle.model.specs.Sweep.{below}
+use Rattle.places.specs.Places.{places_of}
+use Rattle.places.specs.declared.Located.{Located}
+use Rattle.rings.specs.Tables.{plan_of}
+use Rattle.rings.proofs.Rows.{index_le}
+use Rattle.frontier.specs.declared.below.Below.{Below}
+use Rattle.frontier.specs.Run.{below_of, reads, depth_of}
+use Rattle.frontier.proofs.Moves.{reads-under, deep-told}
+use Rattle.frontier.proofs.Under.{back_suc, below-is}
+
+-- the last of the entries taken, set to x
+set-taken : (l m : List ℕ) (k x : ℕ) → k < length l → set (take (suc k) l ++ m) k x ≡ take k l ++ (x ∷ m)
+set-taken [] m k x h = absurd (omega arith)
+set-taken (a ∷ l) m zero x h = refl
+set-taken (a ∷ l) m (suc k) x h = ap {B = List ℕ} (λ r. a ∷ r) (set-taken l m k x (omega arith))
+
+-- ---- for t in 0..q { list[q - 1 - t] = l[t]; }
+pub record Puts (q : ℕ) (old l : List ℕ) (t : ℕ) (list : List ℕ) : Type 0 where
+  pub same : list ≡ take (q - t) old ++ (reverse (take t l) ++ drop q old)
+
+module _ {q : ℕ} {old l : List ℕ} where
+  -- before the loop
+  pub puts_from : {t : ℕ} {list : List ℕ} → t ≡ 0 → list ≡ old → Puts q old l t list
+  puts_from {t} z e =
+      let w : q - t ≡ q = omega arith in
+      record { same = e ∙ sym (take-append-drop q old) ∙ (λ i. take (sym w i) old ++ (reverse (take (sym z i) l) ++ drop q old)) }
+
+  module _ {t : ℕ} {list : List ℕ} (inv : Puts q old l t list) where
+    -- after a turn of the loop
+    pub puts_on : {list' : List ℕ} {k x : ℕ} → t < q → q ≤ length old → t < length l → k ≡ q - 1 - t → x ≡ get_or l t 0 → list' ≡ set list k x → Puts q old l (t + 1) list'
+    puts_on {k = k} {x} h room long at is e =
+        let w : q - t ≡ suc k = omega arith in
+        let v : k ≡ q - (t + 1) = omega arith in
+        let u : suc t ≡ t + 1 = omega arith in
+        let rest : List ℕ = reverse (take t l) ++ drop q old in
+        record {
+          same = e ∙ ap (λ (m : List ℕ). set m k x) (inv.same ∙ ap (λ (n : ℕ). take n old ++ rest) w) ∙ set-taken old rest k x (omega arith)
+              ∙ (λ i. take (v i) old ++ (is i ∷ rest)) ∙ ap (λ (m : List ℕ). take (q - (t + 1)) old ++ (m ++ drop q old)) (sym (back_suc l t long) ∙ ap (λ (n : ℕ). reverse (take n l)) u);
+        }
+
+    -- after the loop
+    pub puts_end : q ≤ t → t ≤ q → list ≡ reverse (take q l) ++ drop q old
+    puts_end h k =
+        let z : q - t ≡ 0 = omega arith in
+        let w : t ≡ q = omega arith in
+        inv.same ∙ (λ i. take (z i) old ++ (reverse (take (w i) l) ++ drop q old))
+
+-- ---- what then stands in the list
+module _ (l m : List ℕ) {q : ℕ} {list : List ℕ} (put : list ≡ reverse (take q l) ++ m) (room : q ≤ length l) where
+  -- its front
+  pub put_front : take q list ≡ reverse (take q l)
+  put_front =
+      let a = length-take q l in
+      let z : q ≡ length (reverse (take q l)) = omega (arith, length-reverse (take q l)) in
+      ap (take q) put ∙ ap (λ (n : ℕ). take n (reverse (take q l) ++ m)) z ∙ take-append_seam (reverse (take q l)) m
+
+-- what is read of what is below a position of the frontier is the model's list of it, by the plan's own table
+module _ (v : Located) (f : List ℕ) (k : ℕ) {b : Below} (is : b ≡ below_of v f k) (own : v.places.now ≡ places_of (plan_of v.rings)) where
+  pub below_read : reverse (take (depth_of b) (reads b)) ≡ below (plan_of v.rings) f k
+  below_read = (λ i. reverse (take (deep-told v f k is refl own i) (reads-under v f k is own i))) ∙ sym (below-is (plan_of v.rings) f k)
+
+  -- how many that are
+  pub deep_below : depth_of b ≡ length (below (plan_of v.rings) f k)
+  deep_below =
+      let z = length-take (depth_of b) (reads b) in
+      let h = index_le b.left (reads b) in
+      omega (arith, length-reverse (take (depth_of b) (reads b)), ap length below_read)
+
+  -- it stands in the front of a list on which it was put
+  pub put_below : (m : List ℕ) {q : ℕ} {list : List ℕ} → q ≡ depth_of b → list ≡ reverse (take (depth_of b) (reads b)) ++ m → take q list ≡ below (plan_of v.rings) f k
+  put_below m {q} {list} e put = ap (λ (n : ℕ). take n list) e ∙ put_front (reads b) m put (index_le b.left (reads b)) ∙ below_read
