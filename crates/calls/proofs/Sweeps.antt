@@ -13,7 +13,7 @@ use Rattle.model.specs.File as file
 use Rattle.model.specs.Calls.{plan_of, sweep_call}
 use Rattle.model.proofs.Outcomes.{not-both, same-value, bind_at, bind_off}
 use Rattle.model.proofs.LabelCounts.{sweep_long}
-use Rattle.steps.specs.Run.{in_array}
+use Rattle.labelling.specs.Labelling.{in_array}
 use Rattle.sweep.specs.Swept.{sweep_of}
 use Rattle.sheet.specs.declared.Sheet.{Sheet}
 use Rattle.sheet.specs.Sheets.{held_count, held_plan, fits, reads, stage_read, rank}

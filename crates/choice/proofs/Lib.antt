@@ -1,4 +1,3 @@
-pub mod Takes
-pub mod Trails
-pub mod Pockets
-pub mod Searches
+pub mod Chords
+pub mod Lists
+pub mod Passing

@@ -6,7 +6,8 @@ use mathlib.Core.Bool.{Bool, true, false, cond}
 use Rattle.model.specs.Outcome.{Outcome, refused}
 use Rattle.model.specs.Plan.{Plan}
 use Rattle.fit.specs.Fits.{fit}
-use Rattle.steps.specs.Run.{in_array, swept, steps_of}
+use Rattle.labelling.specs.Labelling.{in_array, swept}
+use Rattle.steps.specs.Run.{steps_of}
 
 module _ (p : Plan) where
   -- how the steps of the plan end, by whether it fits

@@ -1,4 +1,4 @@
 pub mod Arrays
-pub mod Unlabelled
 pub mod Steps
+pub mod Ruled
 pub mod Down

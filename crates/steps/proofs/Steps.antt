@@ -1,108 +1,68 @@
 -- The engine's steps are the model's, from the first frontier until the sweep is finished or stuck.
 use Prim.Native.Nat.{ℕ, zero, suc, ◌+◌, ◌-◌, ◌≤◌, ◌<◌}
 use mathlib.Core.Path.{◌≡◌, refl, sym, ap, ◌∙◌, subst}
-use Rattle.std.specs.Prelude.{Option, Some, None}
 use mathlib.Core.Logic.{◌⊎◌, inl, inr}
-use mathlib.Core.List.{List, [], ◌∷◌, ◌++◌}
+use mathlib.Core.List.{List}
 use mathlib.Core.Bool.{Bool, true, false, cond, not, false≢true}
 use native.Mathlib.Omega.{arith}
-use lib.ListN.{length, take, drop, length-append, drop_of_length-le, length-take}
-use lib.Seq.{slice, take-nil}
+use lib.ListN.{length}
 use borrow.Author.Tests.{not-true, not-false}
-use Rattle.lists.specs.Parts.{steps}
-use Rattle.lists.specs.Spans.{stretch, span, padded}
+use Rattle.std.specs.Prelude.{Option, Some, None, Result, Ok, is_ok}
+use Rattle.lists.specs.Spans.{stretch, span, zeros, padded}
 use Rattle.model.specs.Outcome.{Outcome, accepted, refused, ◌>>=◌}
-use Rattle.model.specs.Plan.{Plan, count, ring, north, east, south, west, entry_count}
-use Rattle.model.specs.Labels.{up, right}
-use Rattle.model.specs.Sweep.{State, label_edges, product, top, bare_labels, first_state, listed, finished, finish, eligible, choose, choices, advance, sweep_from}
-use Rattle.model.proofs.Choices.{chosen, Chosen}
-use Rattle.lists.specs.Tests.{member}
-use Rattle.frontier.specs.Front.{Sane, Marks, Front}
-use Rattle.choice.specs.Search.{found_as, Ready}
-use Rattle.frontier.proofs.Lines.{stretch_part, stretch-all}
-use Rattle.pairs.proofs.Pairs.{gathered, unchorded, next-front}
-use Rattle.ends.proofs.Finishing.{open_is, unfinished-told}
-use Rattle.steps.specs.Run.{step_labels, list_of, next_line, next_labels, finish_labels, first_labels, in_array, swept, Running}
+use Rattle.model.specs.Plan.{Plan, count, ring, entry_count}
+use Rattle.model.specs.Sweep.{State, first_state, listed, finished, finish, eligible, choose, choices, advance, sweep_from}
+use Rattle.model.proofs.Choices.{chosen, none_chosen, Chosen}
+use Rattle.model.proofs.LabelCounts.{first_long, from_long}
 use Rattle.frontier.specs.declared.Line as held
-use Rattle.frontier.specs.Run.{Line, line, whole, kept, fresh}
+use Rattle.frontier.specs.Run.{Line, line, line_of, whole, kept}
+use Rattle.frontier.specs.Front.{Sane, Front}
 use Rattle.frontier.proofs.Fails.{kept_none}
-use Rattle.edges.specs.Edges.{Guide}
+use Rattle.frontier.proofs.Lines.{stretch-all}
 use Rattle.ends.specs.Ends.{first_line, unfinished_by}
-use Rattle.pairs.specs.Run.{listing, replaced, listing_by}
-use Rattle.pairs.proofs.Moves.{listing-own}
-use Rattle.places.specs.Places.{places_of}
-use Rattle.model.proofs.LabelCounts.{edges_long, bare_long, first_long, from_long}
-use Rattle.steps.proofs.Arrays.{edges_padded}
-use Rattle.ends.proofs.Beginning.{first_front, first-front, first-at, first-len}
+use Rattle.ends.proofs.Beginning.{first-front}
+use Rattle.ends.proofs.Finishing.{open_is, unfinished-told}
+use Rattle.pairs.specs.Run.{listing, listing_by, replaced_on}
+use Rattle.pairs.proofs.Adding.{Good}
+use Rattle.pairs.proofs.Pairs.{list-is, new-is, gathered, next-front}
+use Rattle.edges.specs.Edges.{Guide}
+use Rattle.labelling.specs.Labelling.{first_labels, step_labels, finish_labels, Labelled}
+use Rattle.labelling.proofs.Frontiers.{first_labelled, step_labelled, finish_labelled}
+use Rattle.choice.specs.Search.{found_as, Ready}
+use Rattle.labelling.specs.Labelling.{in_array, swept}
+use Rattle.steps.specs.Run.{Taken, Takes, Running}
 
--- ---- a part of the frontier, in the array that holds it
--- a part of a list, by what is taken first or dropped first
-part_drop : (a k : ℕ) (f : List ℕ) → take k (drop a f) ≡ drop a (take (a + k) f)
-part_drop zero k f = let z : 0 + k ≡ k = omega arith in ap (λ (n : ℕ). take n f) (sym z)
-part_drop (suc a) k [] = take-nil k ∙ sym (ap (λ (n : ℕ). drop (suc a) (take n [])) (let z : suc a + k ≡ suc (a + k) = omega arith in z))
-part_drop (suc a) k (x ∷ f) = let z : suc a + k ≡ suc (a + k) = omega arith in part_drop a k f ∙ ap (λ (n : ℕ). drop (suc a) (take n (x ∷ f))) (sym z)
+-- ---- a step
+module _ {p : Plan} {places starts : List ℕ} (g : Guide p places starts) {s : State} {v : Line} (fr : Front s v) (i j : ℕ) (two : i + 2 ≤ j) (inside : j < v.len) (good : eligible p s i j ≡ true) where
+  -- entries are below 200
+  sane : Sane p
+  sane = record { entry = g.small }
 
--- a part of the array that holds the frontier
-span_slice : (f : List ℕ) (a e : ℕ) → a ≤ e → e ≤ length f → span (padded 512 f) a e ≡ slice a e f
-span_slice f a e h k = let z : a + (e - a) ≡ e = omega arith in stretch_part f a (e - a) (omega arith) ∙ part_drop a (e - a) f ∙ ap (λ (n : ℕ). drop a (take n f)) z
+  -- j is a position
+  within : j < length s.frontier
+  within = let e = fr.rep.len in omega arith
 
--- nothing lies between the ends of a short frontier
-span-short : (f : List ℕ) (e : ℕ) → e ≤ 1 → span (padded 512 f) 1 e ≡ slice 1 e f
-unfolding stretch
-span-short f e h = let z : e - 1 ≡ 0 = omega arith in ap (stretch (padded 512 f) 1) z ∙ sym (drop_of_length-le (take e f) {i = 1} (let s = length-take e f in omega arith))
+  -- the list is gathered whole
+  list : Good s.seen (listing p v.at v.marks (suc i) j) (listed p s.frontier i j)
+  list = gathered p sane s v fr i j two within good
 
--- what is between the ends of the frontier
-span_inner : (f : List ℕ) → span (padded 512 f) 1 (length f - 1) ≡ slice 1 (length f - 1) f
-span_inner f = go (length f) refl
-  where
-    go : (m : ℕ) → length f ≡ m → span (padded 512 f) 1 (m - 1) ≡ slice 1 (m - 1) f
-    go zero e = span-short f (0 - 1) (omega arith)
-    go (suc zero) e = span-short f (1 - 1) (omega arith)
-    go (suc (suc m)) e = span_slice f 1 (suc (suc m) - 1) (omega arith) (omega arith)
+  module _ {k : ℕ} (next : k ≡ suc i) (r : Result ℕ ℕ) {at marks : List ℕ} (is : line_of r at marks ≡ listing_by places p v.at k j (line true 0 (zeros 512) v.marks)) where
+    -- the code's does not fail
+    pub step-whole : is_ok r ≡ true
+    step-whole = ap (λ (u : Line). u.ok) (list-is p g.own v i j next r is) ∙ list.rep.ok
 
--- ---- what the sweep has come to
--- what is between the ends of a list
-slice_middle : (a b : ℕ) (l : List ℕ) → slice 1 (length (a ∷ l ++ (b ∷ [])) - 1) (a ∷ l ++ (b ∷ [])) ≡ l
-slice_middle a b l =
-    let s = length-append l (b ∷ []) in
-    let z : length (a ∷ l ++ (b ∷ [])) - 1 ≡ suc (length l) = omega arith in
-    ap (λ (n : ℕ). slice 1 n (a ∷ l ++ (b ∷ []))) z ∙ front l
-  where
-    front : (l : List ℕ) → take (length l) (l ++ (b ∷ [])) ≡ l
-    front [] = refl
-    front (x ∷ l) = ap {B = List ℕ} (λ m. x ∷ m) (front l)
+    -- the labels
+    pub step-labels : {q : ℕ} → r ≡ Ok q → {ls : List ℕ} → Labelled p s ls → Labelled p (advance p s i j) (step_labels p v.at at q i j ls)
+    step-labels {q} on h =
+        let l = listed p s.frontier i j in
+        let size : length l - 0 ≡ length l = omega arith in
+        let same = ap (λ (r : Result ℕ ℕ). line_of r at marks) (sym on) ∙ list-is p g.own v i j next r is in
+        step_labelled p h fr.rep.at at q i j two within
+        (ap (λ (u : Line). span u.at 0 u.len) same ∙ (λ d. span (list.rep.at d) 0 (list.rep.len d)) ∙ ap (stretch (padded 512 l) 0) size ∙ stretch-all l)
 
--- the line of a frontier, made anew of its parts
-front_plain : {s : State} {v : Line} {q : ℕ} {at marks : List ℕ} → Front s v → q ≡ v.len → at ≡ v.at → marks ≡ v.marks → Front s (line true q at marks)
-front_plain {s} fr e f g =
-    record {
-      rep = record { ok = refl; len = e ∙ fr.rep.len; at = f ∙ fr.rep.at; short = fr.rep.short };
-      marks = subst (λ (m : List ℕ). Marks m (λ (c : ℕ). member c s.seen)) (sym g) fr.marks;
-      small = fr.small;
-      news = fr.news;
-      olds = fr.olds;
-      parts = fr.parts;
-      once = fr.once;
-      few = fr.few;
-      room = fr.room;
-    }
-
--- ---- the next frontier
-module _ (p : Plan) (v : Line) (i j : ℕ) where
-  -- the list by the plan's own table, put on a new line
-  pub listed-own : {t : List ℕ} → t ≡ places_of p → {w : Line} → w ≡ fresh v.marks → listing_by t p v.at (i + 1) j (line true 0 w.at w.marks) ≡ list_of p v i j
-  unfolding fresh
-  listed-own {t} own e = ap (λ (w : Line). listing_by t p v.at (i + 1) j (line true 0 w.at w.marks)) e ∙ listing-own p own v.at v.marks (i + 1) j refl
-
-  -- there is none where the list failed
-  pub next-none : (list_of p v i j).ok ≡ false → (next_line p v i j).ok ≡ false
-  unfolding next_line
-  next-none e = ap (λ (b : Bool). (cond b (replaced v.at v.len (i + 1) j (list_of p v i j)) (list_of p v i j)).ok) e ∙ e
-
-  -- the list in place, where it did not
-  pub next-some : {g : Line} → list_of p v i j ≡ g → g.ok ≡ true → next_line p v i j ≡ replaced v.at v.len (i + 1) j g
-  unfolding next_line
-  next-some {g} e o = ap (λ (w : Line). cond w.ok (replaced v.at v.len (i + 1) j w) w) e ∙ ap (λ (b : Bool). cond b (replaced v.at v.len (i + 1) j g) g) o
+    -- the frontier
+    pub step-front : {q : ℕ} → r ≡ Ok q → {w : Line} → w ≡ replaced_on (line true 0 (zeros 512) marks) v.at v.len k j at q → Front (advance p s i j) w
+    step-front on put = subst (Front (advance p s i j)) (sym (new-is p g.own v i j next r is on put)) (next-front p sane s v fr i j two within good)
 
 -- ---- the steps
 -- there is a first frontier
@@ -110,25 +70,18 @@ pub first-whole : {p : Plan} → Sane p → length (ring p 0) ≤ 255 → kept (
 first-whole {p} sane long none = false≢true (sym (kept_none (first_line p) none) ∙ (first-front p sane long).rep.ok)
 
 -- before the first step
-pub running_start : {p : Plan} {n : ℕ} {v : Line} {ls : List ℕ} → Sane p → length (ring p 0) ≤ 255 → n ≡ count p → v ≡ first_line p → ls ≡ first_labels p v.at v.len → Running p n false v ls
-unfolding swept first_state first_labels
-running_start {p} {n} {v} {ls} sane long e q w =
-    let f = first_front p in
+pub running_start : {p : Plan} {n : ℕ} {v : held.Line} {ls : List ℕ} → Sane p → length (ring p 0) ≤ 255 → n ≡ count p → whole v ≡ first_line p → ls ≡ first_labels p v.at v.len → Running p n v ls
+unfolding swept
+running_start {p} sane long e q w =
+    let front = subst (Front (first_state p)) (sym q) (first-front p sane long) in
     record {
       state = first_state p;
-      front = subst (Front (first_state p)) (sym q) (first-front p sane long);
-      chords = λ c. absurd (false≢true c);
-      labels =
-          w
-          ∙ ap (λ (u : Line). label_edges p up (product (span u.at 1 (u.len - 1)) (0 ∷ [])) (padded 1186 (bare_labels p))) q
-          ∙ (λ i. label_edges p up (product (span (first-at p sane long i) 1 (first-len p sane long i - 1)) (0 ∷ [])) (padded 1186 (bare_labels p)))
-          ∙ ap (λ (m : List ℕ). label_edges p up (product m (0 ∷ [])) (padded 1186 (bare_labels p))) (span_inner f ∙ slice_middle west east (top p))
-          ∙ edges_padded p up (product (top p) (north ∷ [])) (bare_labels p) (bare_long p);
-      size = edges_long p up (product (top p) (north ∷ [])) (bare_labels p) ∙ bare_long p;
+      front = front;
+      labels = subst (Labelled p (first_state p)) (sym w) (first_labelled p front.rep.at front.rep.len);
       same = ap (λ (k : ℕ). sweep_from p k (first_state p)) (sym e);
     }
 
-module _ {p : Plan} {places starts : List ℕ} (g : Guide p places starts) {k : ℕ} {clean : Bool} {v : Line} {ls : List ℕ} (inv : Running p k clean v ls) where
+module _ {p : Plan} {places starts : List ℕ} (g : Guide p places starts) {k : ℕ} {v : held.Line} {ls : List ℕ} (inv : Running p k v ls) where
   -- the state
   abbrev s : State
   s = inv.state
@@ -137,119 +90,75 @@ module _ {p : Plan} {places starts : List ℕ} (g : Guide p places starts) {k : 
   abbrev f : List ℕ
   f = s.frontier
 
-  -- entries are below 200
-  sane : Sane p
-  sane = record { entry = g.small }
-
   -- what is found is what the model chooses
   abbrev Chooses : Option (ℕ × ℕ) → Type 0
-  Chooses found = (s : State) → Ready places p clean s (line true v.len v.at v.marks) → found_as found ≡ choose p s (choices s.frontier)
+  Chooses found = (s : State) → Ready places p s (whole v) → found_as found ≡ choose p s (choices s.frontier)
 
   -- of this state
   chosen_here : (found : Option (ℕ × ℕ)) → Chooses found → found_as found ≡ choose p s (choices f)
-  chosen_here found e = e s (record { own = g.own; sane = sane; front = front_plain inv.front refl refl refl; chords = inv.chords })
+  chosen_here found e = e s (record { own = g.own; sane = record { entry = g.small }; front = inv.front })
 
   -- the finishing test
   is-finished : {t : Bool} → t ≡ unfinished_by places p v.at v.len → not (finished p f) ≡ t
-  is-finished e = sym (open_is p s v inv.front) ∙ sym (unfinished-told _ p _ _ g.own) ∙ sym e
+  is-finished e = sym (open_is p s (whole v) inv.front) ∙ sym (unfinished-told _ p _ _ g.own) ∙ sym e
+
+  -- the steps after a pair, with n to go
+  abbrev after : ℕ → Outcome (ℕ × ℕ) → Outcome (List ℕ)
+  after n o = o >>= (λ (c : ℕ × ℕ). sweep_from p n (advance p s c.0 c.1))
 
   -- what is left of the sweep, one step taken apart
-  step : (k' : ℕ) → k ≡ suc k' → swept p ≡ cond (finished p f) (accepted (finish p s)) (choose p s (choices f) >>= (λ (c : ℕ × ℕ). sweep_from p k' (advance p s c.0 c.1)))
+  step : {k' : ℕ} → k ≡ suc k' → {t : Bool} → finished p f ≡ t → {o : Outcome (ℕ × ℕ)} → choose p s (choices f) ≡ o → swept p ≡ cond t (accepted (finish p s)) (after k' o)
   unfolding sweep_from
-  step k' z = inv.same ∙ ap (λ (n : ℕ). sweep_from p n s) z
+  step {k'} z on e = inv.same ∙ ap (λ (n : ℕ). sweep_from p n s) z ∙ (λ d. cond (on d) (accepted (finish p s)) (after k' (e d)))
 
   -- the sweep is finished
   pub running_done : {t : Bool} {b : List ℕ} → 0 < k → t ≡ unfinished_by places p v.at v.len → not t ≡ true → b ≡ finish_labels p v.at v.len ls → accepted b ≡ in_array (swept p)
-  unfolding finish_labels in_array finish
-  running_done {t} {b} h q u e =
+  unfolding in_array
+  running_done {t} h w u e =
       let z : k ≡ suc (k - 1) = omega arith in
-      let over = not-false (finished p f) (is-finished q ∙ not-true t u) in
-      let rest = choose p s (choices f) >>= (λ (c : ℕ × ℕ). sweep_from p (k - 1) (advance p s c.0 c.1)) in
-      let rep = inv.front.rep in
-      let whole : length f - 0 ≡ length f = omega arith in
-      let south-darts = product (south ∷ []) (slice 1 (length f - 1) f) in
-      let same-labels : b ≡ padded 1186 (finish p s) =
-      e
-      ∙ (λ i. label_edges p right (steps (span (rep.at i) 0 (rep.len i))) (label_edges p up (product (2 ∷ []) (span (rep.at i) 1 (rep.len i - 1))) (inv.labels i)))
-      ∙ (λ i. label_edges p right (steps ((ap (stretch (padded 512 f) 0) whole ∙ stretch-all f) i)) (label_edges p up (product (2 ∷ []) (span_inner f i)) (padded 1186 s.labels)))
-      ∙ ap (label_edges p right (steps f)) (edges_padded p up south-darts s.labels inv.size)
-      ∙ edges_padded p right (steps f) (label_edges p up south-darts s.labels) (edges_long p up south-darts s.labels ∙ inv.size) in
-      ap {B = Outcome (List ℕ)} (λ (l : List ℕ). accepted l) same-labels ∙ sym (ap in_array (step (k - 1) z ∙ ap (λ (t : Bool). cond t (accepted (finish p s)) rest) over))
+      ap {B = Outcome (List ℕ)} (λ (l : List ℕ). accepted l) (e ∙ finish_labelled p inv.labels inv.front.rep.at inv.front.rep.len)
+      ∙ sym (ap in_array (step z (not-false (finished p f) (is-finished w ∙ not-true t u)) refl))
 
   -- no pair is eligible
   pub running_stuck : (found : Option (ℕ × ℕ)) {t : Bool} → 0 < k → t ≡ unfinished_by places p v.at v.len → not t ≡ false → Chooses found → found ≡ None → refused 14 0 ≡ in_array (swept p)
   unfolding in_array found_as
   running_stuck found {t} h w u e q =
       let z : k ≡ suc (k - 1) = omega arith in
-      let on = not-true (finished p f) (is-finished w ∙ not-false t u) in
-      let none : choose p s (choices f) ≡ refused 14 0 = sym (chosen_here found e) ∙ ap found_as q in
-      sym (ap in_array
-      (step (k - 1) z
-      ∙ ap (λ (t : Bool). cond t (accepted (finish p s)) (choose p s (choices f) >>= (λ (c : ℕ × ℕ). sweep_from p (k - 1) (advance p s c.0 c.1)))) on
-      ∙ ap (λ (o : Outcome (ℕ × ℕ)). o >>= (λ (c : ℕ × ℕ). sweep_from p (k - 1) (advance p s c.0 c.1))) none))
+      sym (ap in_array (step z (not-true (finished p f) (is-finished w ∙ not-false t u)) (sym (chosen_here found e) ∙ ap found_as q)))
 
   module _ {i j : ℕ} (found : Option (ℕ × ℕ)) (chose : Chooses found) (at : found ≡ Some (i, j)) where
-    -- the pair
-    e : found_as (Some (i, j)) ≡ choose p s (choices f)
-    e = ap found_as (sym at) ∙ chosen_here found chose
-
-    -- that the model takes
-    taken : Chosen p s i j
+    -- the pair is the one that the model takes
+    e : choose p s (choices f) ≡ accepted (i, j)
     unfolding found_as
-    taken = chosen p s i j (sym e)
+    e = sym (chosen_here found chose) ∙ ap found_as at
 
-    -- the positions are inside the array
-    pub found_inside : (i < 512) × (j < 512)
+    -- the largest that is eligible
+    taken : Chosen p s i j
+    taken = chosen p s i j e
+
+    -- j is inside the line
+    pub found_inside : (i + 2 ≤ j) × (j < v.len) × (i < 512) × (j < 512)
     found_inside =
         let a = taken.positions.apart in
         let b = taken.positions.inside in
         let c = inv.front.rep.short in
-        (omega arith, omega arith)
+        let d = inv.front.rep.len in
+        omega arith
 
-    -- the line of the next frontier
-    next-held : Front (advance p s i j) (next_line p v i j)
-    next-held =
-        let one : i + 1 ≡ suc i = omega arith in
-        let good = gathered p sane s v inv.front i j taken.positions.apart taken.positions.inside taken.fits in
-        subst (Front (advance p s i j)) (sym (next-some p v i j (ap (λ (n : ℕ). listing p v.at v.marks n j) one) good.rep.ok ∙ ap (λ (n : ℕ). replaced v.at v.len n j (listing p v.at v.marks (suc i) j)) one))
-        (next-front p sane s v inv.front i j taken.positions.apart taken.positions.inside taken.fits)
+    module _ (r : Option held.Line) (b : List ℕ) (takes : Takes p v ls i j b r) where
+      -- the step is that of this state
+      stepped : Taken p s i j b r
+      stepped = takes s inv.front inv.labels found_inside.0 found_inside.1 taken.fits
 
-    -- there is one
-    pub running-whole : (next_line p v i j).ok ≡ false → ⊥
-    running-whole none = false≢true (sym none ∙ next-held.rep.ok)
+      -- there is a line
+      pub running-whole : r ≡ None → ⊥
+      running-whole none = subst (Taken p s i j b) none stepped
 
-    -- a step
-    pub running_on : {t : Bool} {k' : ℕ} {b : List ℕ} {next : held.Line} → k ≡ suc k' → t ≡ unfinished_by places p v.at v.len → not t ≡ false → whole next ≡ next_line p v i j → b ≡ next_labels p v i j ls → Running p k' true (whole next) b
-    unfolding step_labels next_labels advance found_as
-    running_on {t} {k'} {b} {next} z w u moves labels =
-        let two = taken.positions.apart in
-        let last = taken.positions.inside in
-        let good = gathered p sane s v inv.front i j two last taken.fits in
-        let l = listed p f i j in
-        let on = not-true (finished p f) (is-finished w ∙ not-false t u) in
-        let rep = inv.front.rep in
-        let size : length l - 0 ≡ length l = omega arith in
-        let one : i + 1 ≡ suc i = omega arith in
-        let after : j + 1 ≡ suc j = omega arith in
-        let gathers = ap (λ (n : ℕ). listing p v.at v.marks n j) one in
-        let ups = product l (slice (suc i) j f) in
-        record {
-          state = advance p s i j;
-          front = subst (Front (advance p s i j)) (sym moves) next-held;
-          chords = λ _. unchorded p sane s v inv.front i j two last taken.fits;
-          labels =
-              labels
-              ∙ ap (λ (m : Line). label_edges p right (steps (span v.at i (j + 1))) (label_edges p up (product (span m.at 0 m.len) (span v.at (i + 1) j)) ls)) gathers
-              ∙ (λ d. label_edges p right (steps (span (rep.at d) i (after d))) (label_edges p up (product (span (good.rep.at d) 0 (good.rep.len d)) (span (rep.at d) (one d) j)) (inv.labels d)))
-              ∙ (λ d. label_edges p right (steps (span_slice f i (suc j) (omega arith) (omega arith) d)) (label_edges p up (product ((ap (stretch (padded 512 l) 0) size ∙ stretch-all l) d) (span_slice f (suc i) j (omega arith) (omega arith) d)) (padded 1186 s.labels)))
-              ∙ ap (label_edges p right (steps (slice i (suc j) f))) (edges_padded p up ups s.labels inv.size)
-              ∙ edges_padded p right (steps (slice i (suc j) f)) (label_edges p up ups s.labels) (edges_long p up ups s.labels ∙ inv.size);
-          size = edges_long p right (steps (slice i (suc j) f)) (label_edges p up ups s.labels) ∙ edges_long p up ups s.labels ∙ inv.size;
-          same =
-              step k' z
-              ∙ ap (λ (t : Bool). cond t (accepted (finish p s)) (choose p s (choices f) >>= (λ (c : ℕ × ℕ). sweep_from p k' (advance p s c.0 c.1)))) on
-              ∙ ap (λ (o : Outcome (ℕ × ℕ)). o >>= (λ (c : ℕ × ℕ). sweep_from p k' (advance p s c.0 c.1))) (sym e);
-        }
+      -- a step
+      pub running_on : {t : Bool} {k' : ℕ} {next : held.Line} → k ≡ suc k' → t ≡ unfinished_by places p v.at v.len → not t ≡ false → r ≡ Some next → Running p k' next b
+      running_on {t} z w u some =
+          let (front, labels) = subst (Taken p s i j b) some stepped in
+          record { state = advance p s i j; front = front; labels = labels; same = step z (not-true (finished p f) (is-finished w ∙ not-false t u)) e }
 
   -- no step is left
   pub running_out : k ≡ 0 → refused 14 0 ≡ in_array (swept p)
@@ -257,34 +166,20 @@ module _ {p : Plan} {places starts : List ℕ} (g : Guide p places starts) {k : 
   running_out z = sym (ap in_array (inv.same ∙ ap (λ (n : ℕ). sweep_from p n s) z))
 
 -- ---- a sweep that does not finish is stuck: 14
--- a choice is a pair or 14
-choose_14 : (p : Plan) (s : State) (cs : List (ℕ × ℕ)) → (choose p s cs ≡ refused 14 0) ⊎ ((c : ℕ × ℕ) × (choose p s cs ≡ accepted c))
-unfolding choose
-choose_14 p s [] = inl refl
-choose_14 p s (c ∷ cs) = go (eligible p s c.0 c.1) (choose_14 p s cs)
-  where
-    go : (t : Bool) → (choose p s cs ≡ refused 14 0) ⊎ ((d : ℕ × ℕ) × (choose p s cs ≡ accepted d)) → (cond t (accepted c) (choose p s cs) ≡ refused 14 0) ⊎ ((d : ℕ × ℕ) × (cond t (accepted c) (choose p s cs) ≡ accepted d))
-    go true h = inr (c, refl)
-    go false h = h
+-- labels or 14
+abbrev Only : Outcome (List ℕ) → Type 0
+Only o = (o ≡ refused 14 0) ⊎ ((ls : List ℕ) × (o ≡ accepted ls))
 
--- what is left of the sweep is labels or 14
-only_14 : (p : Plan) (k : ℕ) (s : State) → (sweep_from p k s ≡ refused 14 0) ⊎ ((ls : List ℕ) × (sweep_from p k s ≡ accepted ls))
+-- what is left of the sweep is one of them
+only_14 : (p : Plan) (k : ℕ) (s : State) → Only (sweep_from p k s)
 unfolding sweep_from
 only_14 p zero s = inl refl
-only_14 p (suc k) s = go (finished p s.frontier) (choose_14 p s (choices s.frontier)) (only_14 p k)
+only_14 p (suc k) s = go (only_14 p k) (finished p s.frontier) (choose p s (choices s.frontier)) refl
   where
-    chain : (c : ℕ × ℕ) → choose p s (choices s.frontier) ≡ accepted c → (choose p s (choices s.frontier) >>= (λ (c : ℕ × ℕ). sweep_from p k (advance p s c.0 c.1))) ≡ sweep_from p k (advance p s c.0 c.1)
-    chain c e = ap (λ (o : Outcome (ℕ × ℕ)). o >>= (λ (c : ℕ × ℕ). sweep_from p k (advance p s c.0 c.1))) e
-
-    later : (o : Outcome (List ℕ)) (c : ℕ × ℕ) → o ≡ sweep_from p k (advance p s c.0 c.1) → ((sweep_from p k (advance p s c.0 c.1) ≡ refused 14 0) ⊎ ((ls : List ℕ) × (sweep_from p k (advance p s c.0 c.1) ≡ accepted ls))) → (o ≡ refused 14 0) ⊎ ((ls : List ℕ) × (o ≡ accepted ls))
-    later o c e (inl h) = inl (e ∙ h)
-    later o c e (inr h) = inr (h.0, e ∙ h.1)
-
-    go : (t : Bool) → (choose p s (choices s.frontier) ≡ refused 14 0) ⊎ ((c : ℕ × ℕ) × (choose p s (choices s.frontier) ≡ accepted c)) → ((s' : State) → (sweep_from p k s' ≡ refused 14 0) ⊎ ((ls : List ℕ) × (sweep_from p k s' ≡ accepted ls)))
-        → (cond t (accepted (finish p s)) (choose p s (choices s.frontier) >>= (λ (c : ℕ × ℕ). sweep_from p k (advance p s c.0 c.1))) ≡ refused 14 0) ⊎ ((ls : List ℕ) × (cond t (accepted (finish p s)) (choose p s (choices s.frontier) >>= (λ (c : ℕ × ℕ). sweep_from p k (advance p s c.0 c.1))) ≡ accepted ls))
-    go true h r = inr (finish p s, refl)
-    go false (inl h) r = inl (ap (λ (o : Outcome (ℕ × ℕ)). o >>= (λ (c : ℕ × ℕ). sweep_from p k (advance p s c.0 c.1))) h)
-    go false (inr h) r = later (choose p s (choices s.frontier) >>= (λ (c : ℕ × ℕ). sweep_from p k (advance p s c.0 c.1))) h.0 (chain h.0 h.1) (r (advance p s h.0.0 h.0.1))
+    go : ((s' : State) → Only (sweep_from p k s')) → (t : Bool) (o : Outcome (ℕ × ℕ)) → choose p s (choices s.frontier) ≡ o → Only (cond t (accepted (finish p s)) (o >>= (λ (c : ℕ × ℕ). sweep_from p k (advance p s c.0 c.1))))
+    go more true o e = inr (finish p s, refl)
+    go more false (accepted c) e = more (advance p s c.0 c.1)
+    go more false (refused n at) e = let (a, b, _) = none_chosen p s n at e in inl (λ i. refused (a i) (b i))
 
 -- and so is the whole
 pub swept_14 : (p : Plan) → (swept p ≡ refused 14 0) ⊎ ((ls : List ℕ) × (swept p ≡ accepted ls))

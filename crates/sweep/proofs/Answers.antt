@@ -14,7 +14,8 @@ use Rattle.model.specs.Plan.{Plan, count}
 use Rattle.model.specs.Labels.{breaks, label_rules}
 use Rattle.model.specs.Sweep.{sweep}
 use Rattle.fit.specs.Fits.{fit}
-use Rattle.steps.specs.Run.{in_array, swept, steps_of}
+use Rattle.labelling.specs.Labelling.{in_array, swept}
+use Rattle.steps.specs.Run.{steps_of}
 use Rattle.sweep.specs.Swept.{sweep_of}
 use Rattle.rings.specs.Tables.{starts_of, table}
 use Rattle.rings.proofs.Rows.{count-rows, held_small}

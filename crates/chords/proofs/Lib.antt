@@ -1,3 +1,0 @@
-pub mod Moves
-pub mod Chordless
-pub mod Eligibility

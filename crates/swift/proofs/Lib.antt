@@ -1,0 +1,10 @@
+pub mod Singles
+pub mod Chords
+pub mod Tests
+pub mod Picked
+pub mod Counts
+pub mod Splices
+pub mod Advances
+pub mod Strays
+pub mod Beginning
+pub mod Runs
