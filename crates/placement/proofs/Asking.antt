@@ -166,11 +166,11 @@ module _ (sizes es : List ℕ) (n : ℕ) (ls : List ℕ) (upright : Bool) where
     pub within : i ≤ size_of sizes n u
     pub few : k ≤ 2 + start_of sizes u + i
     pub least : 2 ≤ k
-    pub long : length cs ≡ 1188
+    pub long : 2 + start_of sizes n ≤ length cs
     pub same : listed (take k cs) ++ rest u i ≡ asked upright P ls
 
   -- North's tie, at first
-  pub asking_start : (end : ℕ) → end ≡ tied_to upright → (cs : List Stored) → length cs ≡ 1188 → Asking (set (set cs 0 (level 0 end)) 1 (level end 0)) 2 0 0
+  pub asking_start : (end : ℕ) → end ≡ tied_to upright → (cs : List Stored) → 2 + start_of sizes n ≤ length cs → Asking (set (set cs 0 (level 0 end)) 1 (level end 0)) 2 0 0
   unfolding ties tie tied_to constraint_of rise
   asking_start end e cs h = record {
     reached = omega arith;
@@ -185,11 +185,11 @@ module _ (sizes es : List ℕ) (n : ℕ) (ls : List ℕ) (upright : Bool) where
       pair true = refl
       pair false = refl
 
-      first : length (set cs 0 (level 0 end)) ≡ 1188
-      first = length-set cs 0 (level 0 end) ∙ h
+      first : length (set cs 0 (level 0 end)) ≡ length cs
+      first = length-set cs 0 (level 0 end)
 
-      long : length (set (set cs 0 (level 0 end)) 1 (level end 0)) ≡ 1188
-      long = length-set (set cs 0 (level 0 end)) 1 (level end 0) ∙ first
+      long : 2 + start_of sizes n ≤ length (set (set cs 0 (level 0 end)) 1 (level end 0))
+      long = let z = first in let y = length-set (set cs 0 (level 0 end)) 1 (level end 0) in omega arith
 
       tied : listed (take 2 (set (set cs 0 (level 0 end)) 1 (level end 0))) ≡ ties upright
       tied =
@@ -199,11 +199,11 @@ module _ (sizes es : List ℕ) (n : ℕ) (ls : List ℕ) (upright : Bool) where
 
   module _ {cs : List Stored} {k u i : ℕ} (inv : Asking cs k u i) where
     -- there is room for one more
-    pub asking_room : start_of sizes n ≤ 1186 → u < n → i < size_of sizes n u → k < 1188
-    asking_room t h b = let f = inv.few in let r = ring_ends sizes u n h in let s = size-inside sizes n u h in omega arith
+    pub asking_room : u < n → i < size_of sizes n u → k < length cs
+    asking_room h b = let l = inv.long in let f = inv.few in let r = ring_ends sizes u n h in let s = size-inside sizes n u h in omega arith
 
     -- a dart more
-    pub asking_dart : {i' k' : ℕ} (v l : ℕ) → i' ≡ suc i → k < 1188 → i < size_of sizes n u → v ≡ get_or (ring P u) i 0 → l ≡ label_of P ls u v
+    pub asking_dart : {i' k' : ℕ} (v l : ℕ) → i' ≡ suc i → k < length cs → i < size_of sizes n u → v ≡ get_or (ring P u) i 0 → l ≡ label_of P ls u v
         → (c : Stored) → c ≡ ask_of upright l u v → k' ≡ k + kept_of l → Asking (set cs k c) k' u i'
     unfolding asks_of
     asking_dart {i'} {k'} v l q room h ev el c ec ek =
@@ -215,7 +215,7 @@ module _ (sizes es : List ℕ) (n : ℕ) (ls : List ℕ) (upright : Bool) where
           within = omega arith;
           few = omega arith;
           least = omega arith;
-          long = length-set cs k c ∙ inv.long;
+          long = let l = inv.long in let z = length-set cs k c in omega arith;
           same = (λ t. put (ltb l 2) refl t ++ rest u (q t)) ∙ append_assoc (listed (take k cs)) (dart_asks upright l (u, v)) (rest u (suc i)) ∙ ap (λ (r : List Constraint). listed (take k cs) ++ r) (sym step) ∙ inv.same;
         }
       where
@@ -225,7 +225,7 @@ module _ (sizes es : List ℕ) (n : ℕ) (ls : List ℕ) (upright : Bool) where
         put : (t : Bool) → ltb l 2 ≡ t → listed (take k' (set cs k c)) ≡ listed (take k cs) ++ dart_asks upright l (u, v)
         put true s =
             let kept : kept_of l ≡ 1 = kept-yes l (ltb-true l 2 s) in
-            more cs k c (omega arith) (let z = inv.long in omega arith)
+            more cs k c (omega arith) room
             ∙ ap (λ (r : List Constraint). listed (take k cs) ++ r) (ap (λ (d : Constraint). d ∷ []) (ap constraint_of ec ∙ asked_is upright l u v) ∙ sym (asks_one upright l u v (ltb-true l 2 s)))
         put false s =
             let kept : kept_of l ≡ 0 = kept-no l (ltb-false l 2 s) in
@@ -247,9 +247,17 @@ module _ (sizes es : List ℕ) (n : ℕ) (ls : List ℕ) (upright : Bool) where
     asking_end h = sym (append-nil (listed (take k cs))) ∙ ap (λ (r : List Constraint). listed (take k cs) ++ r) (sym (rest_end u i h)) ∙ inv.same
 
     -- all of them fit the array
-    pub asking_fits : start_of sizes n ≤ 1186 → k ≤ 1188
-    asking_fits t = let f = inv.few in let w = inv.within in go (ltb u n) refl
+    pub asking_fits : k ≤ length cs
+    asking_fits = let f = inv.few in let w = inv.within in go (ltb u n) refl
       where
-        go : (b : Bool) → ltb u n ≡ b → k ≤ 1188
-        go true e = let h = ltb-true u n e in let f = inv.few in let w = inv.within in let r = ring_ends sizes u n h in let s = size-inside sizes n u h in omega arith
-        go false e = let h = ltb-false u n e in let z = out u h in let f = inv.few in let w = inv.within in let r = inv.reached in let q : start_of sizes u ≡ start_of sizes n = ap (start_of sizes) (omega arith) in omega arith
+        go : (b : Bool) → ltb u n ≡ b → k ≤ length cs
+        go true e = let l = inv.long in let h = ltb-true u n e in let f = inv.few in let w = inv.within in let r = ring_ends sizes u n h in let s = size-inside sizes n u h in omega arith
+        go false e =
+            let l = inv.long in
+            let h = ltb-false u n e in
+            let z = out u h in
+            let f = inv.few in
+            let w = inv.within in
+            let r = inv.reached in
+            let q : start_of sizes u ≡ start_of sizes n = ap (start_of sizes) (omega arith) in
+            omega arith

@@ -22,10 +22,10 @@ use Rattle.model.proofs.Least.{least-length}
 use Rattle.model.proofs.Placements.{placed, chart-is, chart_11}
 use Rattle.rings.specs.Tables.{start_of, starts_of, table, in_bounds}
 use Rattle.rings.proofs.Rows.{count-rows}
-use Rattle.solver.specs.Solved.{solved, numbers_of}
+use Rattle.solver.specs.Solved.{solved, numbers_of, kept_at}
 use Rattle.placement.specs.declared.Drawn.{Drawn}
 use Rattle.charts.specs.Charts.{chart_on}
-use Rattle.placement.specs.Drawing.{chart_for, drawn_as, drawn_of, found_of, found_if, kept_at, stands_at, squared}
+use Rattle.placement.specs.Drawing.{chart_for, drawn_as, drawn_of, found_of, found_if, stands_at, squared}
 use Rattle.placement.specs.Asking.{ties, compass, asked}
 use Rattle.fit.proofs.Fits.{total-is}
 

@@ -1,5 +1,5 @@
 -- What the walk over the darts keeps: the constraints of both coordinates so far, and the marks of the ring that it is in.
-use Prim.Native.Nat.{ℕ, suc, ◌+◌, ◌≤◌, ◌<◌}
+use Prim.Native.Nat.{ℕ, suc, ◌+◌, ◌≤◌, ◌<◌, min}
 use mathlib.Core.Path.{◌≡◌, refl, sym, ap, ◌∙◌}
 use mathlib.Core.List.{List}
 use mathlib.Core.Bool.{true, false}
@@ -27,9 +27,17 @@ pub record Walks (starts sizes es : List ℕ) (n : ℕ) (ls : List ℕ) (xs ys :
   pub begins : a ≡ start_of sizes u
   pub near : a ≤ 1186
 
+-- where there are at most 126 entries, their constraints and the tie fit a short array
+pub fits_short : (sizes : List ℕ) {n total : ℕ} → n ≤ 200 → total ≡ start_of sizes (min n 200) → total ≤ 126 → 2 + start_of sizes n ≤ 128
+fits_short sizes {n} {total} few e h = let z : start_of sizes (min n 200) ≡ start_of sizes n = ap (start_of sizes) (omega arith) in omega arith
+
+-- all those of a plan within bounds fit a long one
+pub fits_long : {k : ℕ} → k ≤ 1186 → 2 + k ≤ 1188
+fits_long h = omega arith
+
 module _ (starts sizes es : List ℕ) (n : ℕ) (ls : List ℕ) where
-  -- the ties, and no dart
-  pub walks_start : (xs ys : List Stored) {a b c d : Stored} → length xs ≡ 1188 → length ys ≡ 1188 → a ≡ level 0 1 → b ≡ level 1 0 → c ≡ level 0 3 → d ≡ level 3 0
+  -- the ties, and no dart; there is room for two constraints more than darts
+  pub walks_start : (xs ys : List Stored) {a b c d : Stored} → 2 + start_of sizes n ≤ length xs → 2 + start_of sizes n ≤ length ys → a ≡ level 0 1 → b ≡ level 1 0 → c ≡ level 0 3 → d ≡ level 3 0
       → Walks starts sizes es n ls (set (set xs 0 a) 1 b) (set (set ys 0 c) 1 d) (replicate 200 0) 2 0 0 0
   unfolding tied_to
   walks_start xs ys ex ey ea eb ec ed = rw (ea, eb, ec, ed) (record {
@@ -48,8 +56,11 @@ module _ (starts sizes es : List ℕ) (n : ℕ) (ls : List ℕ) where
     pub walks_y : n ≤ u → listed (take count ys) ≡ asked true (table sizes es n) ls
     walks_y h = asking_end sizes es n ls true inv.y h
 
-    pub walks_fit : start_of sizes n ≤ 1186 → count ≤ 1188
-    walks_fit h = asking_fits sizes es n ls false inv.x h
+    pub walks_fit_x : count ≤ length xs
+    walks_fit_x = asking_fits sizes es n ls false inv.x
+
+    pub walks_fit_y : count ≤ length ys
+    walks_fit_y = asking_fits sizes es n ls true inv.y
 
     -- the next ring
     pub walks_next : {u' a' k : ℕ} → u' ≡ suc u → a' ≡ a + k → k ≡ size_of sizes n u → u < n → k ≤ i → start_of sizes n ≤ 1186 → Walks starts sizes es n ls xs ys marks count u' 0 a'
@@ -66,8 +77,11 @@ module _ (starts sizes es : List ℕ) (n : ℕ) (ls : List ℕ) where
 
     module _ {k : ℕ} (size : k ≡ size_of sizes n u) (h : u < n) (b : i < k) where
       -- there is room for one more
-      pub walks_room : start_of sizes n ≤ 1186 → count < 1188
-      walks_room room = asking_room sizes es n ls false inv.x room h (omega arith)
+      pub walks_room_x : count < length xs
+      walks_room_x = asking_room sizes es n ls false inv.x h (omega arith)
+
+      pub walks_room_y : count < length ys
+      walks_room_y = asking_room sizes es n ls true inv.y h (omega arith)
 
       module _ (small : n ≤ 200) (room : start_of sizes n ≤ 1186) (same : starts ≡ starts_of sizes) where
         -- where the ring begins
@@ -100,8 +114,8 @@ module _ (starts sizes es : List ℕ) (n : ℕ) (ls : List ℕ) where
               let label : l ≡ label_of (table sizes es n) ls u v =
               read ∙ ap (λ (j : ℕ). get_or ls j unlabelled) place ∙ label_there starts sizes es n same small u v begin refl size ls (let m = dart-most walks_at in omega arith) in
               record {
-                x = asking_dart sizes es n ls false inv.x v l (omega arith) (walks_room room) (omega arith) dart label cx ex ek;
-                y = asking_dart sizes es n ls true inv.y v l (omega arith) (walks_room room) (omega arith) dart label cy ey ek;
+                x = asking_dart sizes es n ls false inv.x v l (omega arith) walks_room_x (omega arith) dart label cx ex ek;
+                y = asking_dart sizes es n ls true inv.y v l (omega arith) walks_room_y (omega arith) dart label cy ey ek;
                 marked = rw qi marked;
                 begins = inv.begins;
                 near = inv.near;

@@ -1,10 +1,9 @@
 -- The chart of a table in flat arrays, and the answer that stands for its outcome.
 use Rattle.std.specs.Prelude.{ℕ, List, Bool, cond, ◌&&◌, get_or, eqb, Option, Some, None, Result, Ok, Err}
 use Rattle.lists.specs.Spans.{padded}
-use Rattle.lists.specs.Tests.{all}
 use Rattle.model.specs.Outcome.{Outcome, accepted, refused}
 use Rattle.model.specs.Plan.{north, east, south, west}
-use Rattle.model.specs.Chart.{Chart, Constraint, meets, least_placement, slope}
+use Rattle.model.specs.Chart.{Chart, least_placement, slope}
 use Rattle.refusal.specs.declared.Refusal.{Refusal}
 use Rattle.refusal.specs.declared.Refusal.TheVariants.{NoPlacement}
 use Rattle.refusal.specs.Refusals.{number_of, place_of}
@@ -30,11 +29,6 @@ found_of (refused k place) = None
 unfoldable pub drawn_of : Outcome Chart → Result Drawn Refusal
 drawn_of (accepted c) = Ok (record { w = c.w; h = c.h; xs = padded 200 c.xs; ys = padded 200 c.ys })
 drawn_of (refused k place) = Err NoPlacement
-
--- the numbers found, if they meet the constraints
-abbrev pub kept_at : List Constraint → Option (List ℕ) → Option (List ℕ)
-kept_at cs None = None
-kept_at cs (Some ks) = cond (all (meets ks) cs) (Some ks) None
 
 -- the context u stands at a, b
 unfoldable pub stands_at : List ℕ → List ℕ → ℕ → ℕ → ℕ → Bool

@@ -1,14 +1,13 @@
 // Placement: the chart of a labelled plan over flat arrays.
 #![tactic(auto)]
 
-ghost use Rattle.std.specs.Prelude.{◌≡◌, true, false, ◌+◌, ◌≤◌, ◌<◌, length, take, drop};
+ghost use Rattle.std.specs.Prelude.{◌≡◌, true, false, ◌+◌, ◌≤◌, ◌<◌, length, take};
 ghost use Rattle.lists.specs.Parts.{index_of};
 ghost use Rattle.model.specs.Plan.{ring};
 ghost use Rattle.rings.specs.Tables.{start_of, starts_of, in_bounds, plan_of, table};
 ghost use Rattle.constraints.specs.Constraints.{listed};
-ghost use Rattle.solver.specs.Solved.{numbers_of, solved};
 ghost use Rattle.placement.specs.Asking.{asked, end_of, gap_of, kept_of, ask_of};
-ghost use Rattle.placement.specs.Drawing.{chart_for, drawn_as, drawn_of, found_of, found_if, kept_at, stands_at, squared};
+ghost use Rattle.placement.specs.Drawing.{chart_for, drawn_as, drawn_of, found_of, found_if, stands_at, squared};
 ghost use Rattle.placement.specs.Marking.{Marked, DartAt, marked_place};
 
 use charts::Points;
@@ -147,33 +146,24 @@ fn label_place(
     a + i
 }
 
-// The constraints of both coordinates, so many at the front of each array.
-#[derive(Drop)]
-struct Asks {
-    pub x: [Constraint; 1188],
-    pub y: [Constraint; 1188],
-    pub count: usize,
-}
-
-// The constraints that a labelled plan asks for: the border's tie, then those of the darts in the order of the rings.
-fn asks_of(rings: &Rings, labels: &[u8]) -> Asks
+// Puts the constraints that a labelled plan asks for to the front of an array for each coordinate: the border's tie, then those of the darts in the order of the rings. How many there are of each.
+fn asks_of(rings: &Rings, labels: &[u8], x: &mut [Constraint], y: &mut [Constraint]) -> usize
     requires n_bound { rings.now.n ≤ 200 }
     requires n_bound_2 { start_of rings.now.sizes.now rings.now.n ≤ 1186 }
     requires starts_value { rings.now.starts.now ≡ starts_of rings.now.sizes.now }
-    ensures x { listed (take result.count result.x) ≡ asked false (table rings.now.sizes.now rings.now.entries.now rings.now.n) labels.now }
-    ensures y { listed (take result.count result.y) ≡ asked true (table rings.now.sizes.now rings.now.entries.now rings.now.n) labels.now }
-    ensures tied { 2 ≤ result.count }
-    ensures fits { result.count ≤ 1188 }
+    requires room_x { 2 + start_of rings.now.sizes.now rings.now.n ≤ length x.old }
+    requires room_y { 2 + start_of rings.now.sizes.now rings.now.n ≤ length y.old }
+    ensures x { listed (take result x.new) ≡ asked false (table rings.now.sizes.now rings.now.entries.now rings.now.n) labels.now }
+    ensures y { listed (take result y.new) ≡ asked true (table rings.now.sizes.now rings.now.entries.now rings.now.n) labels.now }
+    ensures tied { 2 ≤ result }
+    ensures fits_x { result ≤ length x.new }
+    ensures fits_y { result ≤ length y.new }
 {
-    let mut asks = Asks {
-        x: [level(NORTH, NORTH); 1188],
-        y: [level(NORTH, NORTH); 1188],
-        count: 2,
-    };
-    asks.x[0] = level(NORTH, EAST);
-    asks.x[1] = level(EAST, NORTH);
-    asks.y[0] = level(NORTH, WEST);
-    asks.y[1] = level(WEST, NORTH);
+    x[0] = level(NORTH, EAST);
+    x[1] = level(EAST, NORTH);
+    y[0] = level(NORTH, WEST);
+    y[1] = level(WEST, NORTH);
+    let mut count = 2;
     let mut marks = [0u16; 200];
     let mut a = 0;
     for u in 0..rings.n {
@@ -184,22 +174,13 @@ fn asks_of(rings: &Rings, labels: &[u8]) -> Asks
             let at = label_place(&mut marks, rings, u, v, a, i);
             let label = labels::label_at(labels, at);
             let s = u as u16;
-            asks.x[asks.count] = ask_of(false, label, s, entry);
-            asks.y[asks.count] = ask_of(true, label, s, entry);
-            asks.count += kept_of(label);
+            x[count] = ask_of(false, label, s, entry);
+            y[count] = ask_of(true, label, s, entry);
+            count += kept_of(label);
         }
         a += k;
     }
-    asks
-}
-
-// The least numbers of one coordinate, if they meet its constraints behind the tie.
-fn axis_of(n: usize, constraints: &[Constraint]) -> Option<[u16; 200]>
-    requires { 2 ≤ length constraints.now }
-    ensures { result ≡ kept_at (listed (drop 2 constraints.now)) (numbers_of (solved n (listed constraints.now))) }
-{
-    let at = solver::solve(n, constraints)?;
-    constraints::all_met(&constraints[2..], &at).then_some(at)
+    count
 }
 
 // The chart with these numbers, if the border contexts stand at its corners.
@@ -217,16 +198,47 @@ fn squared_off(xs: [u16; 200], ys: [u16; 200]) -> Option<Drawn>
     drawn.is_squared().then_some(drawn)
 }
 
-// The chart of a plan within bounds, if there is one.
+// The chart of a plan within bounds, if there is one, with two arrays that its constraints fit.
+fn chart_with(
+    rings: &Rings,
+    labels: &[u8],
+    x: &mut [Constraint],
+    y: &mut [Constraint],
+) -> Option<Drawn>
+    requires n_value { in_bounds rings.now.sizes.now rings.now.n ≡ true }
+    requires starts_value { rings.now.starts.now ≡ starts_of rings.now.sizes.now }
+    requires room_x { 2 + start_of rings.now.sizes.now rings.now.n ≤ length x.old }
+    requires room_y { 2 + start_of rings.now.sizes.now rings.now.n ≤ length y.old }
+    ensures { result ≡ found_of (chart_for rings.now.sizes.now rings.now.entries.now rings.now.n labels.now) }
+{
+    let count = asks_of(rings, labels, x, y);
+    let mut xs = [0; 200];
+    if !solver::solve(rings.n, &x[..count], 2, &mut xs) {
+        return None;
+    }
+    let mut ys = [0; 200];
+    if !solver::solve(rings.n, &y[..count], 2, &mut ys) {
+        return None;
+    }
+    squared_off(xs, ys)
+}
+
+// The chart of a plan within bounds, if there is one. A small plan takes short arrays, which are sooner made.
 fn chart_from(rings: &Rings, labels: &[u8]) -> Option<Drawn>
     requires n_value { in_bounds rings.now.sizes.now rings.now.n ≡ true }
     requires starts_value { rings.now.starts.now ≡ starts_of rings.now.sizes.now }
     ensures { result ≡ found_of (chart_for rings.now.sizes.now rings.now.entries.now rings.now.n labels.now) }
 {
-    let asks = asks_of(rings, labels);
-    let xs = axis_of(rings.n, &asks.x[..asks.count])?;
-    let ys = axis_of(rings.n, &asks.y[..asks.count])?;
-    squared_off(xs, ys)
+    let none = level(NORTH, NORTH);
+    if fit::total_of(rings.sizes, rings.n) <= 126 {
+        let mut x = [none; 128];
+        let mut y = [none; 128];
+        chart_with(rings, labels, &mut x, &mut y)
+    } else {
+        let mut x = [none; 1188];
+        let mut y = [none; 1188];
+        chart_with(rings, labels, &mut x, &mut y)
+    }
 }
 
 // The chart of a plan: the least placement.

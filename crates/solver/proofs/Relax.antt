@@ -1,26 +1,29 @@
 -- What the solver's loops keep, each with a law for its start, its steps and its end; and that what the solver leaves is the least numbers.
-use Prim.Native.Nat.{ℕ, suc, ◌+◌, ◌-◌, ◌*◌, ◌≤◌, ◌<◌}
+use Prim.Native.Nat.{ℕ, zero, suc, ◌+◌, ◌-◌, ◌*◌, ◌≤◌, ◌<◌}
 use mathlib.Core.Path.{◌≡◌, refl, sym, ap, ◌∙◌, subst}
-use mathlib.Core.List.{List, Memᴰ}
+use mathlib.Core.List.{List, [], ◌∷◌, Memᴰ}
 use mathlib.Core.Logic.{◌≢◌, ◌⊎◌, inl, inr}
-use mathlib.Core.Bool.{Bool, true, false, false≢true, true≢false}
+use mathlib.Core.Bool.{Bool, true, false, cond, false≢true, true≢false}
 use native.Mathlib.Omega.{arith}
-use lib.ListN.{length, get_or, set, take, replicate, length-set, get_or-eq_default}
+use lib.ListN.{length, get_or, set, take, drop, replicate, length-set, get_or-eq_default}
 use lib.Seq.{get_or-set_same, get_or-set_other, length-take-le}
 use lib.Dec.{eqb}
-use borrow.Author.Tests.{eqb-true, eqb-false, le-leb, lt-leb}
+use borrow.Author.Tests.{eqb-true, eqb-false, leb-true, le-leb, lt-leb}
 use Rattle.constraints.proofs.Listed.{mem-listed, listed-mem, listed_small}
-use Rattle.std.specs.Prelude.{Option, Some, None, is_some, unwrap_or}
+use Rattle.std.specs.Prelude.{Option, Some, None, is_some, unwrap_or, max, min}
+use Rattle.lists.specs.Tests.{all}
+use Rattle.lists.proofs.Bools.{and_yes}
+use Rattle.lists.proofs.Tests.{all_of}
 use Rattle.constraints.specs.declared.Constraint.{Constraint as Stored}
 use Rattle.constraints.specs.Constraints.{rise, constraint_of, constraint_at, listed}
 use Rattle.lists.proofs.Padded.{get_or-zeros}
 use Rattle.lists.specs.Spans.{zeros}
-use Rattle.model.specs.Chart.{Constraint, least_numbers}
+use Rattle.model.specs.Chart.{Constraint, meets, least_numbers}
 use Rattle.model.proofs.Least.{Fits, fits_low, least-is, least_refuses}
 use Rattle.rings.specs.Tables.{sum_of}
 use Rattle.solver.specs.declared.System.{System}
 use Rattle.solver.specs.Relaxing.{Keeps, Raised, RaisedIn, Hopeless, MetAt, Taken, place_of, Passing, Passed}
-use Rattle.solver.specs.Solved.{solved, numbers_of}
+use Rattle.solver.specs.Solved.{solved, numbers_of, kept_at}
 use Rattle.solver.proofs.Arrays.{get_or-first, padded-first, sum-raise, sum-most}
 
 -- ---- the order of a pass
@@ -41,31 +44,27 @@ raised-start {n} {cs} {ks} few e =
     let all : (u : ℕ) → get_or ks u 0 ≡ 0 = λ u. ap (λ (l : List ℕ). get_or l u 0) e ∙ get_or-zeros 200 u in
     record { few = few; size = ap length e; past = λ u _. all u; most = λ u. let z = all u in omega arith; under = λ d _ u. let z = all u in omega arith }
 
-pub raised-up : {n : ℕ} {cs : List Constraint} {ks : List ℕ} → Raised n cs ks → (c : Constraint) → Memᴰ c cs → (v due : ℕ) → v ≡ c.high → v < n → due ≡ get_or ks c.low 0 + c.gap → due ≤ n → Raised n cs (set ks v due)
-raised-up {n} {cs} {ks} r c m v due q h e b = record { few = r.few; size = length-set ks v due ∙ r.size; past = λ u k. go_past u k (at u); most = λ u. go_most u (at u); under = λ d k u. go_under d k u (at u) }
+-- number v is set, to at most n and at most what it is among any numbers that meet the constraints
+raised-set : {n : ℕ} {cs : List Constraint} {ks : List ℕ} → Raised n cs ks → (v x : ℕ) → v < n → x ≤ n → ((d : ℕ → ℕ) → Keeps n cs d → x ≤ d v) → Raised n cs (set ks v x)
+raised-set {n} {cs} {ks} r v x h b low = record { few = r.few; size = length-set ks v x ∙ r.size; past = λ u k. go_past u k (at u); most = λ u. go_most u (at u); under = λ d k u. go_under d k u (at u) }
   where
-    at : (u : ℕ) → ((u ≡ v) × (get_or (set ks v due) u 0 ≡ due)) ⊎ ((u ≢ v) × (get_or (set ks v due) u 0 ≡ get_or ks u 0))
+    at : (u : ℕ) → ((u ≡ v) × (get_or (set ks v x) u 0 ≡ x)) ⊎ ((u ≢ v) × (get_or (set ks v x) u 0 ≡ get_or ks u 0))
     at u = go (eqb u v) refl
       where
-        go : (t : Bool) → eqb u v ≡ t → ((u ≡ v) × (get_or (set ks v due) u 0 ≡ due)) ⊎ ((u ≢ v) × (get_or (set ks v due) u 0 ≡ get_or ks u 0))
-        go true s = let w = eqb-true u v s in inl (w, ap (λ (j : ℕ). get_or (set ks v due) j 0) w ∙ get_or-set_same ks v due 0 (let z = r.size in let f = r.few in omega arith))
-        go false s = let w = eqb-false u v s in inr (w, get_or-set_other ks v u due 0 w)
+        go : (t : Bool) → eqb u v ≡ t → ((u ≡ v) × (get_or (set ks v x) u 0 ≡ x)) ⊎ ((u ≢ v) × (get_or (set ks v x) u 0 ≡ get_or ks u 0))
+        go true s = let w = eqb-true u v s in inl (w, ap (λ (j : ℕ). get_or (set ks v x) j 0) w ∙ get_or-set_same ks v x 0 (let z = r.size in let f = r.few in omega arith))
+        go false s = let w = eqb-false u v s in inr (w, get_or-set_other ks v u x 0 w)
 
-    go_past : (u : ℕ) → n ≤ u → ((u ≡ v) × (get_or (set ks v due) u 0 ≡ due)) ⊎ ((u ≢ v) × (get_or (set ks v due) u 0 ≡ get_or ks u 0)) → get_or (set ks v due) u 0 ≡ 0
+    go_past : (u : ℕ) → n ≤ u → ((u ≡ v) × (get_or (set ks v x) u 0 ≡ x)) ⊎ ((u ≢ v) × (get_or (set ks v x) u 0 ≡ get_or ks u 0)) → get_or (set ks v x) u 0 ≡ 0
     go_past u k (inl w) = let z = w.0 in absurd (omega arith)
     go_past u k (inr w) = w.1 ∙ r.past u k
 
-    go_most : (u : ℕ) → ((u ≡ v) × (get_or (set ks v due) u 0 ≡ due)) ⊎ ((u ≢ v) × (get_or (set ks v due) u 0 ≡ get_or ks u 0)) → get_or (set ks v due) u 0 ≤ n
+    go_most : (u : ℕ) → ((u ≡ v) × (get_or (set ks v x) u 0 ≡ x)) ⊎ ((u ≢ v) × (get_or (set ks v x) u 0 ≡ get_or ks u 0)) → get_or (set ks v x) u 0 ≤ n
     go_most u (inl w) = let z = w.1 in omega arith
     go_most u (inr w) = let z = w.1 in let y = r.most u in omega arith
 
-    go_under : (d : ℕ → ℕ) → Keeps n cs d → (u : ℕ) → ((u ≡ v) × (get_or (set ks v due) u 0 ≡ due)) ⊎ ((u ≢ v) × (get_or (set ks v due) u 0 ≡ get_or ks u 0)) → get_or (set ks v due) u 0 ≤ d u
-    go_under d k u (inl w) =
-        let z = w.1 in
-        let s : d u ≡ d c.high = ap d (w.0 ∙ q) in
-        let x = k c m (omega arith) in
-        let y = r.under d k c.low in
-        omega arith
+    go_under : (d : ℕ → ℕ) → Keeps n cs d → (u : ℕ) → ((u ≡ v) × (get_or (set ks v x) u 0 ≡ x)) ⊎ ((u ≢ v) × (get_or (set ks v x) u 0 ≡ get_or ks u 0)) → get_or (set ks v x) u 0 ≤ d u
+    go_under d k u (inl w) = let z = w.1 in let s : d u ≡ d v = ap d w.0 in let y = low d k in omega arith
     go_under d k u (inr w) = let z = w.1 in let y = r.under d k u in omega arith
 
 -- ---- one constraint
@@ -113,27 +112,39 @@ module _ (s : System) (k : ℕ) {ks : List ℕ} (r : RaisedIn s ks) where
       unfolding constraint_at constraint_of
       taken_still b = taken_met (λ _. let z = here in let y = asks in omega arith)
 
+      -- what it asks is at most what numbers that meet the constraints have there
+      asks-under : v < s.n → (d : ℕ → ℕ) → Keeps s.n (listed s.constraints.now) d → due ≤ d v
+      unfolding constraint_at constraint_of
+      asks-under on d keeps =
+          let a = asks in
+          let w = high in
+          let z : d v ≡ d (get_or s.constraints.now k nothing).high = ap d w in
+          let x = keeps (constraint_at s.constraints.now k) (mem-listed s.constraints.now k h) (omega arith) in
+          let y = r.under d keeps (get_or s.constraints.now k nothing).low in
+          omega arith
+
       -- its higher number would pass n
       pub taken-none : v < s.n → s.n < due → Taken s k ks ks None
-      unfolding constraint_at constraint_of
       taken-none on b = record {
         raised = r;
         none = λ _ d keeps most.
-            let a = asks in
-            let w = high in
-            let x = keeps (constraint_at s.constraints.now k) (mem-listed s.constraints.now k h) (omega arith) in
-            let y = r.under d keeps (get_or s.constraints.now k nothing).low in
-            let z = most (get_or s.constraints.now k nothing).high in
+            let a = asks-under on d keeps in
+            let z = most v in
             omega arith;
         still = λ q. absurd (none_some q);
         more = λ q. absurd (none_some q);
       }
 
+      -- its higher number is raised, but to n at most
+      pub lifted : v < s.n → {x : ℕ} → x ≡ max have (min due s.n) → RaisedIn s (set ks v x)
+      lifted on {x} q =
+          let m = r.most v in
+          raised-set r v x on (omega arith) (λ d keeps. let a = asks-under on d keeps in let y = r.under d keeps v in omega arith)
+
       -- its higher number is raised
       pub taken_up : v < s.n → have < due → due ≤ s.n → Taken s k ks (set ks v due) (Some true)
-      unfolding constraint_at constraint_of
       taken_up on low b = record {
-        raised = raised-up r (constraint_at s.constraints.now k) (mem-listed s.constraints.now k h) v due high on asks b;
+        raised = raised-set r v due on b (asks-under on);
         none = λ q. absurd (some_none q);
         still = λ q. absurd (true≢false (flag q));
         more = λ _. sum-raise ks v due (let z = r.size in let f = r.few in omega arith) (omega arith);
@@ -223,6 +234,23 @@ module _ (s : System) where
       meets-all c i b =
           let (k, l, e) = listed-mem cs c i in
           subst (λ (d : Constraint). get_or ks d.low 0 + d.gap ≤ get_or ks d.high 0) e (m k l (let z : (constraint_at cs k).high ≡ c.high = ap (λ (d : Constraint). d.high) e in omega arith))
+
+-- numbers that meet all constraints meet each
+pub met-each : (s : System) (ks : List ℕ) → true ≡ all (meets ks) (listed s.constraints.now) → (i : ℕ) → i < length s.constraints.now → MetAt s ks i
+unfolding meets
+met-each s ks e i h = λ _. leb-true _ _ (all_of (meets ks) (listed s.constraints.now) (sym e) (constraint_at s.constraints.now i) (mem-listed s.constraints.now i h))
+
+-- and those behind so many
+met-behind : (ks : List ℕ) (k : ℕ) (stored : List Stored) → all (meets ks) (listed stored) ≡ true → all (meets ks) (listed (drop k stored)) ≡ true
+met-behind ks zero stored e = e
+met-behind ks (suc k) [] e = e
+met-behind ks (suc k) (c ∷ cs) e = met-behind ks k cs ((and_yes (meets ks (constraint_of c)) (all (meets ks) (listed cs)) e).1)
+
+-- numbers that the constraints have raised and that meet them all are the answer
+pub settled-kept : (s : System) (ks : List ℕ) (k : ℕ) → RaisedIn s ks → true ≡ all (meets ks) (listed s.constraints.now) → Some ks ≡ kept_at (listed (drop k s.constraints.now)) (numbers_of (solved s.n (listed s.constraints.now)))
+settled-kept s ks k r e =
+    sym (ap (λ (t : Bool). cond t (Some ks) None) (met-behind ks k s.constraints.now (sym e)))
+    ∙ ap (kept_at (listed (drop k s.constraints.now))) (solved-found s ks r (met-each s ks e))
 
 -- of more than 200 numbers all are refused
 pub solved_large : (n : ℕ) (cs : List Constraint) → 200 < n → None ≡ numbers_of (solved n cs)

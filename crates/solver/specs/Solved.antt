@@ -1,8 +1,9 @@
 -- The answer of the solver.
-use Rattle.std.specs.Prelude.{ℕ, List, cond, leb, Option, Some, None}
+use Rattle.std.specs.Prelude.{ℕ, List, Bool, cond, leb, Option, Some, None}
 use Rattle.lists.specs.Spans.{padded}
 use Rattle.model.specs.Outcome.{Outcome, accepted, refused}
-use Rattle.model.specs.Chart.{Constraint, least_numbers}
+use Rattle.lists.specs.Tests.{all}
+use Rattle.model.specs.Chart.{Constraint, meets, least_numbers}
 
 -- The least numbers that meet the constraints, for up to 200 numbers; of more than 200 all are refused
 unfoldable pub solved : ℕ → List Constraint → Outcome (List ℕ)
@@ -12,3 +13,12 @@ solved n cs = cond (leb n 200) (least_numbers n cs) (refused 11 0)
 unfoldable pub numbers_of : Outcome (List ℕ) → Option (List ℕ)
 numbers_of (accepted ks) = Some (padded 200 ks)
 numbers_of (refused k place) = None
+
+-- the numbers of an array, where a test says that it holds some
+abbrev pub found : Bool → List ℕ → Option (List ℕ)
+found t ks = cond t (Some ks) None
+
+-- the numbers found, if they meet the constraints
+abbrev pub kept_at : List Constraint → Option (List ℕ) → Option (List ℕ)
+kept_at cs None = None
+kept_at cs (Some ks) = cond (all (meets ks) cs) (Some ks) None

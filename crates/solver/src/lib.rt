@@ -1,9 +1,9 @@
-// The least solution of difference constraints: a first pass in an order that settles most numbers, then passes over all constraints, forward and back in turn, until no number rises or one passes n.
+// The least solution of difference constraints: a first pass in an order that settles most numbers; where one is not met then, passes over all constraints, forward and back in turn, until no number rises or one passes n.
 #![tactic(auto)]
 
-ghost use Rattle.std.specs.Prelude.{◌≡◌, ◌<◌, length};
+ghost use Rattle.std.specs.Prelude.{◌≡◌, ◌≤◌, ◌<◌, length, drop};
 ghost use Rattle.constraints.specs.Constraints.{listed};
-ghost use Rattle.solver.specs.Solved.{solved, numbers_of};
+ghost use Rattle.solver.specs.Solved.{solved, found, numbers_of, kept_at};
 ghost use Rattle.solver.specs.Relaxing.{RaisedIn, Taken, Passed, place_of};
 
 use constraints::Constraint;
@@ -27,6 +27,22 @@ fn place(back: bool, count: usize, i: usize) -> usize
 }
 
 impl<'a> System<'a> {
+    // Raises the higher number of constraint k to what it asks, or to n where it would pass n.
+    fn lift(&self, at: &mut [u16; 200], k: usize)
+        requires { RaisedIn self.now at.old }
+        ensures { RaisedIn self.now at.new }
+    {
+        let Some(constraint) = self.constraints.get(k) else {
+            return;
+        };
+        let high = usize::from(constraint.high);
+        if high >= self.n {
+            return;
+        }
+        let due = constraint.due(at).min(self.n) as u16;
+        at[high] = at[high].max(due);
+    }
+
     // Takes constraint k: its higher number is raised to what it asks. Whether it rose; none where it would pass n.
     fn raise(&self, at: &mut [u16; 200], k: usize) -> Option<bool>
         requires { RaisedIn self.now at.old }
@@ -64,20 +80,36 @@ impl<'a> System<'a> {
         }
         Some(rose)
     }
+
+    // Raises numbers that the constraints have raised to the least that meet them, by passes until none rises. Are there such numbers?
+    fn settle(&self, at: &mut [u16; 200]) -> bool
+        requires { RaisedIn self.now at.old }
+        ensures { found result at.new ≡ numbers_of (solved self.now.n (listed self.now.constraints.now)) }
+    {
+        let mut back = false;
+        while let Some(rose) = self.pass(at, back) {
+            if !rose {
+                return true;
+            }
+            back = !back;
+        }
+        false
+    }
 }
 
-// The least numbers, n of them, that meet the constraints.
-pub fn solve(n: usize, constraints: &[Constraint]) -> Option<[u16; 200]>
-    ensures { result ≡ numbers_of (solved n (listed constraints.now)) }
+// Puts the least numbers, n of them, that meet the constraints into an array. Are there such numbers, and do they meet the constraints behind so many, whatever number those are on? Mostly the first pass has settled all, and nothing is raised any more.
+pub fn solve(n: usize, constraints: &[Constraint], behind: usize, at: &mut [u16; 200]) -> bool
+    ensures { found result at.new ≡ kept_at (listed (drop behind constraints.now)) (numbers_of (solved n (listed constraints.now))) }
 {
     if 200 < n {
-        return None;
+        return false;
     }
     let system = System { n, constraints };
-    let mut at = first::first_pass(&system);
-    let mut back = false;
-    while system.pass(&mut at, back)? {
-        back = !back;
+    *at = [0; 200];
+    first::first_pass(&system, at);
+    if constraints::all_met(constraints, at) {
+        return true;
     }
-    Some(at)
+    let rest = &constraints[behind.min(constraints.len())..];
+    system.settle(at) && constraints::all_met(rest, at)
 }

@@ -4,16 +4,15 @@ use mathlib.Core.Path.{refl, sym, ap, ◌∙◌}
 use Rattle.model.specs.Plan.{neighbour}
 use Rattle.placement.specs.Asking.{ask_of}
 use Rattle.placement.proofs.Asking.{neighbour_is}
-use Rattle.placement.proofs.Walk.{walks_start, walks_room, walks_at, walks_dart, walks_next, walks_x, walks_y, walks_fit}
+use Rattle.placement.proofs.Walk.{walks_start, walks_room_x, walks_room_y, walks_at, walks_dart, walks_next, walks_x, walks_y, walks_fit_x, walks_fit_y}
 use mathlib.Core.Bool.{true, false}
 use native.Mathlib.Omega.{arith}
-use lib.ListN.{replicate}
 use Rattle.placement.proofs.asks_of.Goals as goal
 
 pub loop-u-init : goal.loop-u-init
 loop-u-init c =
     let r = c.args.rings.now in
-    walks_start r.starts.now r.sizes.now r.entries.now r.n c.args.labels.now (replicate 1188 c.level.result) (replicate 1188 c.level-2.result) refl refl c.level-3.ensures c.level-4.ensures c.level-5.ensures c.level-6.ensures
+    walks_start r.starts.now r.sizes.now r.entries.now r.n c.args.labels.now c.args.x.now c.args.y.now c.requires.room_x c.requires.room_y c.level.ensures c.level-2.ensures c.level-3.ensures c.level-4.ensures
 
 pub label_place-at-requires-clause-dart_at : goal.label_place-at-requires-clause-dart_at
 label_place-at-requires-clause-dart_at c =
@@ -21,22 +20,22 @@ label_place-at-requires-clause-dart_at c =
     let r = c.args.rings.now in
     walks_at r.starts.now r.sizes.now r.entries.now r.n c.args.labels.now c.loop-i.invariant c.size_of-k.ensures.value (omega arith) (omega arith) pre.n_bound pre.n_bound_2 pre.starts_value c.at-entry.ensures (c.neighbour_of-v.ensures ∙ ap neighbour c.from.ensures)
 
-pub bounds-asks-asks : goal.bounds-asks-asks
-bounds-asks-asks c =
+pub bounds-x-count : goal.bounds-x-count
+bounds-x-count c =
     let r = c.args.rings.now in
-    walks_room r.starts.now r.sizes.now r.entries.now r.n c.args.labels.now c.loop-i.invariant c.size_of-k.ensures.value (omega arith) (omega arith) c.requires.n_bound_2
+    walks_room_x r.starts.now r.sizes.now r.entries.now r.n c.args.labels.now c.loop-i.invariant c.size_of-k.ensures.value (omega arith) (omega arith)
 
-pub bounds-asks-asks-in-loop-i : goal.bounds-asks-asks-in-loop-i
-bounds-asks-asks-in-loop-i c =
+pub bounds-y-count : goal.bounds-y-count
+bounds-y-count c =
     let r = c.args.rings.now in
-    walks_room r.starts.now r.sizes.now r.entries.now r.n c.args.labels.now c.loop-i.invariant c.size_of-k.ensures.value (omega arith) (omega arith) c.requires.n_bound_2
+    walks_room_y r.starts.now r.sizes.now r.entries.now r.n c.args.labels.now c.loop-i.invariant c.size_of-k.ensures.value (omega arith) (omega arith)
 
 pub loop-i-preserved : goal.loop-i-preserved
 loop-i-preserved c =
     let pre = c.requires in
     let same = sym (c.neighbour_of-v.ensures ∙ neighbour_is c.from.result ∙ c.from.ensures) in
     let r = c.args.rings.now in
-    walks_dart r.starts.now r.sizes.now r.entries.now r.n c.args.labels.now c.loop-i.invariant c.size_of-k.ensures.value (omega arith) (omega arith) pre.n_bound pre.n_bound_2 pre.starts_value c.at-entry.ensures (c.neighbour_of-v.ensures ∙ ap neighbour c.from.ensures) refl c.label_place-at.ensures.value c.label_place-at.ensures.marked_2 c.label_at-label.ensures (c.ask_of.ensures ∙ ap (ask_of false c.label_at-label.result c.loop-u.u) same) (c.ask_of-in-loop-i.ensures ∙ ap (ask_of true c.label_at-label.result c.loop-u.u) same) (ap (λ (k : ℕ). c.loop-i.asks.count + k) c.kept_of.ensures.value)
+    walks_dart r.starts.now r.sizes.now r.entries.now r.n c.args.labels.now c.loop-i.invariant c.size_of-k.ensures.value (omega arith) (omega arith) pre.n_bound pre.n_bound_2 pre.starts_value c.at-entry.ensures (c.neighbour_of-v.ensures ∙ ap neighbour c.from.ensures) refl c.label_place-at.ensures.value c.label_place-at.ensures.marked_2 c.label_at-label.ensures (c.ask_of.ensures ∙ ap (ask_of false c.label_at-label.result c.loop-u.u) same) (c.ask_of-in-loop-i.ensures ∙ ap (ask_of true c.label_at-label.result c.loop-u.u) same) (ap (λ (k : ℕ). c.loop-i.count + k) c.kept_of-count.ensures.value)
 
 pub loop-u-preserved : goal.loop-u-preserved
 loop-u-preserved c =
@@ -49,5 +48,8 @@ returns-clause-x c = let r = c.args.rings.now in walks_x r.starts.now r.sizes.no
 pub returns-clause-y : goal.returns-clause-y
 returns-clause-y c = let r = c.args.rings.now in walks_y r.starts.now r.sizes.now r.entries.now r.n c.args.labels.now c.loop-u.invariant (omega arith)
 
-pub returns-clause-fits : goal.returns-clause-fits
-returns-clause-fits c = let r = c.args.rings.now in walks_fit r.starts.now r.sizes.now r.entries.now r.n c.args.labels.now c.loop-u.invariant c.requires.n_bound_2
+pub returns-clause-fits_x : goal.returns-clause-fits_x
+returns-clause-fits_x c = let r = c.args.rings.now in walks_fit_x r.starts.now r.sizes.now r.entries.now r.n c.args.labels.now c.loop-u.invariant
+
+pub returns-clause-fits_y : goal.returns-clause-fits_y
+returns-clause-fits_y c = let r = c.args.rings.now in walks_fit_y r.starts.now r.sizes.now r.entries.now r.n c.args.labels.now c.loop-u.invariant
