@@ -1,40 +1,90 @@
 -- Parts of a lent file copied into arrays: what the loops keep, and that the arrays hold what the file holds.
 use Prim.Native.Nat.{ℕ, zero, suc, ◌+◌, ◌-◌, ◌*◌, ◌≤◌, ◌<◌, min}
-use mathlib.Core.Path.{◌≡◌, sym, ap, ◌∙◌}
-use mathlib.Core.List.{List, [], ◌++◌, map, append-nil}
+use mathlib.Core.Path.{◌≡◌, refl, sym, ap, ◌∙◌}
+use mathlib.Core.List.{List, [], ◌∷◌, ◌++◌, append_assoc, append-nil}
 use mathlib.Core.Logic.{◌⊎◌, inl, inr}
 use native.Mathlib.Omega.{arith}
-use lib.ListN.{length, get_or, take, drop, set, replicate, length-take, length-drop, drop_of_length-le}
-use lib.Seq.{ext_get_or, get_or-drop, take_all}
-use Rattle.std.proofs.lemmas.List.{get_or-take}
-use Rattle.lists.specs.Ranges.{from}
+use lib.ListN.{length, get_or, take, drop, set, replicate, length-take, length-drop, length-append, drop_of_length-le}
+use lib.Seq.{ext_get_or, get_or-drop, take_all, take_at, drop_at, set_at, take-suc, drop-cons, append_snoc}
+use borrow.Rule.Slice.PartMut.{put_mid}
+use Rattle.std.proofs.lemmas.List.{get_or-take, drop-replicate}
 use Rattle.lists.specs.Parts.{concat}
 use Rattle.lists.specs.Spans.{stretch, zeros, padded}
-use Rattle.lists.proofs.Loops.{Fills, fills_start, fills_on}
+use Rattle.lists.proofs.Concats.{concat-append}
+use Rattle.lists.proofs.Loops.{padded-none}
 use Rattle.lists.proofs.Ranges.{lt-or-le, length-map-from, get_or-map-from}
 use Rattle.lists.proofs.Padded.{get_or-padded, length-padded}
 use Rattle.lists.proofs.Spans.{past, length-stretch, get_or-stretch}
-use Rattle.lists.proofs.Stretches.{stretch-joined, length-joined-more}
-use Rattle.model.specs.Plan.{entry_count}
+use Rattle.lists.proofs.Stretches.{length-joined-more}
 use Rattle.rings.specs.Tables.{start_of, starts_of}
 use Rattle.rings.specs.Lent.{words_at, body_at, lent}
 use Rattle.rings.proofs.Rows.{start_first, start-more, ring_ends}
 use Rattle.arrays.specs.Parts.{word_of}
-use Rattle.lent.proofs.Rings.{length-words-at, get_or-words-at}
-use Rattle.lent.proofs.Copied.{entry-count-lent}
+use Rattle.lent.proofs.Rings.{length-words-at}
 use Rattle.framing.specs.Layouts.{plan_in}
 
--- a list, entry by entry
-pub list-map : (l : List ℕ) (k : ℕ) → length l ≡ k → map (λ (i : ℕ). get_or l i 0) (from 0 k) ≡ l
-list-map l k e =
-    let f : ℕ → ℕ = λ (i : ℕ). get_or l i 0 in
-    ext_get_or 0 (map f (from 0 k)) l (length-map-from f 0 k ∙ sym e)
-    (λ i h.
-    let b : i < k = let q = length-map-from f 0 k in omega arith in
-    let z : 0 + i ≡ i = omega arith in
-    get_or-map-from f 0 k i 0 b ∙ ap f z)
+-- ---- for i in 0..k { to[i] = word(at + 2 * i); }
+-- one number more
+words_more : (file : List ℕ) (at k : ℕ) → words_at file at (suc k) ≡ words_at file at k ++ (word_of file (at + 2 * k) ∷ [])
+unfolding words_at
+words_more file at zero = ap (λ (j : ℕ). word_of file j ∷ []) (omega arith)
+words_more file at (suc k) = ap (λ (l : List ℕ). word_of file at ∷ l) (words_more file (at + 2) k ∙ ap (λ (j : ℕ). words_at file (at + 2) k ++ (word_of file j ∷ [])) (omega arith))
+
+-- the first i numbers are copied, and what stands behind them is as it was
+pub record Copied (file : List ℕ) (at i : ℕ) (before now : List ℕ) : Type 0 where
+  pub reached : i ≤ length before
+  pub same : now ≡ words_at file at i ++ drop i before
+
+pub copied_start : {file before : List ℕ} {at : ℕ} → Copied file at 0 before before
+unfolding words_at
+copied_start = record { reached = omega arith; same = refl }
+
+module _ {file before now : List ℕ} {at i : ℕ} (inv : Copied file at i before now) where
+  pub copied_on : {x i' : ℕ} {now' : List ℕ} → i < length before → i' ≡ suc i → x ≡ word_of file (at + 2 * i) → now' ≡ set now i x → Copied file at i' before now'
+  copied_on {x} {i'} {now'} h e w p =
+      let front : List ℕ = words_at file at i in
+      let rest : List ℕ = drop (suc i) before in
+      record {
+        reached = omega arith;
+        same =
+            p ∙ ap (λ (l : List ℕ). set l i x) (inv.same ∙ ap (front ++◌) (drop-cons before i 0 h))
+            ∙ set_at front (get_or before i 0) rest x i (length-words-at file at i)
+            ∙ sym (append_snoc front x rest)
+            ∙ ap (λ (y : ℕ). (front ++ (y ∷ [])) ++ rest) w
+            ∙ (λ t. sym (words_more file at i) t ++ rest)
+            ∙ ap (λ (j : ℕ). words_at file at j ++ drop j before) (sym e);
+      }
+
+  pub copied_end : i ≡ length before → now ≡ words_at file at (length before)
+  copied_end e =
+      let whole : length before ≤ length before = omega arith in
+      inv.same ∙ ap (λ (j : ℕ). words_at file at j ++ drop j before) e ∙ ap (words_at file at (length before) ++◌) (drop_of_length-le before whole) ∙ append-nil (words_at file at (length before))
+
+-- all that is left from an offset on, or from the end
+pub rest-from : (s : List ℕ) (at : ℕ) {from : ℕ} → from ≡ min at (length s) → take (length s - from) (drop from s) ≡ drop at s
+rest-from s at {from} e = take_all (length s - from) (drop from s) (omega (arith, length-drop from s)) ∙ go (lt-or-le at (length s))
+  where
+    go : (at < length s) ⊎ (length s ≤ at) → drop from s ≡ drop at s
+    go (inl h) = ap (λ (k : ℕ). drop k s) (omega arith)
+    go (inr h) = drop_of_length-le s (omega arith) ∙ sym (drop_of_length-le s h)
+
+-- so a number there
+pub word_in_rest : (s : List ℕ) (at j : ℕ) {from : ℕ} → from ≡ min at (length s) → word_of (take (length s - from) (drop from s)) j ≡ word_of s (at + j)
+word_in_rest s at j e =
+    let z : at + (j + 1) ≡ at + j + 1 = omega arith in
+    ap (λ (l : List ℕ). word_of l j) (rest-from s at e) ∙ (λ t. get_or-drop at s j 0 t + 256 * (get_or-drop at s (j + 1) 0 ∙ ap (λ (k : ℕ). get_or s k 0) z) t)
 
 -- ---- the entries of all rings
+-- numbers behind those that an array holds
+padded_mid : (m a k : ℕ) (l r : List ℕ) → a ≡ length l → k ≡ length r → a + k ≤ m → put_mid a k (padded m l) r ≡ padded m (l ++ r)
+unfolding padded zeros
+padded_mid m a k l r e f h =
+    let back : List ℕ = zeros (m - length l) in
+    let z : m - length l - k ≡ m - length (l ++ r) = let n = length-append l r in omega arith in
+    let front : take a (l ++ back) ≡ l = take_at l back a (sym e) in
+    let behind : drop k (drop a (l ++ back)) ≡ zeros (m - length (l ++ r)) = ap (drop k) (drop_at l back a (sym e)) ∙ drop-replicate k (m - length l) 0 ∙ ap zeros z in
+    (λ t. front t ++ (r ++ behind t)) ∙ sym (append_assoc l r (zeros (m - length (l ++ r))))
+
 module _ (file sizes : List ℕ) (n : ℕ) where
   abbrev rings : List (List ℕ)
   rings = (plan_in file sizes n).rings
@@ -46,13 +96,13 @@ module _ (file sizes : List ℕ) (n : ℕ) where
   unfolding lent body
   ring-at u h = get_or-map-from body 0 n u [] h ∙ ap body (omega arith)
 
+  rings-size : length rings ≡ n
+  unfolding lent body
+  rings-size = length-map-from body 0 n
+
   body-size : (u : ℕ) → length (body u) ≡ get_or sizes u 0
   unfolding body
   body-size u = length-words-at file (body_at (starts_of sizes) u) (get_or sizes u 0)
-
-  at-word : (u i : ℕ) → i < get_or sizes u 0 → get_or (body u) i 0 ≡ word_of file (body_at (starts_of sizes) u + 2 * i)
-  unfolding body
-  at-word u i l = get_or-words-at file (body_at (starts_of sizes) u) (get_or sizes u 0) i l
 
   -- a ring begins where the rings before it end
   start-at : (u : ℕ) → u ≤ n → length (concat (take u rings)) ≡ start_of sizes u
@@ -64,60 +114,63 @@ module _ (file sizes : List ℕ) (n : ℕ) where
       let k = ap length (ring-at u h) ∙ body-size u in
       omega arith
 
-  -- entry i of u's ring among all entries, and where it stands in the file
-  pub entry_at : (u i : ℕ) → u < n → n ≤ 200 → i < get_or sizes u 0 → get_or (concat rings) (start_of sizes u + i) 0 ≡ word_of file (10 + 4 * u + 2 * (start_of sizes u + i))
-  unfolding body_at starts_of
-  entry_at u i h few l =
-      let r = get_or rings u [] in
-      let size : length r ≡ get_or sizes u 0 = ap length (ring-at u h) ∙ body-size u in
-      let s = start-at u (omega arith) in
+  -- where its entries stand in the file
+  body-there : (u : ℕ) → u < n → n ≤ 200 → body u ≡ words_at file (10 + 4 * u + 2 * start_of sizes u) (get_or sizes u 0)
+  unfolding body body_at starts_of
+  body-there u h few =
       let begin : get_or (starts_of sizes) u 0 ≡ start_of sizes u = get_or-map-from (start_of sizes) 0 200 u 0 (omega arith) ∙ ap (start_of sizes) (omega arith) in
-      let far : body_at (starts_of sizes) u + 2 * i ≡ 10 + 4 * u + 2 * (start_of sizes u + i) = omega arith in
-      (λ t. get_or (sym (append-nil (concat rings)) t) (sym s t + i) 0)
-      ∙ sym (get_or-stretch (concat rings ++ []) (length (concat (take u rings))) (length r) i (omega arith))
-      ∙ ap (λ (m : List ℕ). get_or m i 0) (stretch-joined rings [] u ∙ ring-at u h)
-      ∙ at-word u i l
-      ∙ ap (word_of file) far
+      ap (λ (s : ℕ). words_at file (10 + 4 * u + 2 * s) (get_or sizes u 0)) begin
 
--- ---- for u in 0..n { for _ in 0..size { entries[at] = ..; at += 1; } }
--- i entries of u's ring are copied, and all rings before it
-pub record Copies (file sizes : List ℕ) (n u i at : ℕ) (es : List ℕ) : Type 0 where
-  pub stands : at ≡ start_of sizes u + i
-  pub filled : Fills 1186 (λ (d : ℕ). get_or (concat (plan_in file sizes n).rings) d 0) at es
+  -- one ring more
+  rings-more : (u : ℕ) → u < n → concat (take (suc u) rings) ≡ concat (take u rings) ++ body u
+  rings-more u h =
+      ap concat (take-suc rings u [] (omega (arith, rings-size))) ∙ concat-append (take u rings) (get_or rings u [] ∷ []) ∙ ap (concat (take u rings) ++◌) (append-nil (get_or rings u []) ∙ ring-at u h)
 
-pub copies_start : {file sizes : List ℕ} {n : ℕ} {es : List ℕ} → es ≡ replicate 1186 0 → Copies file sizes n 0 0 0 es
-copies_start {sizes = sizes} e = let z = start_first sizes in record { stands = omega arith; filled = fills_start e }
+-- ---- for u in 0..n { copy_words(&mut entries[at..at + size], ..); at += size; }
+-- the rings before u's are copied
+pub record Copies (file sizes : List ℕ) (n u at : ℕ) (es : List ℕ) : Type 0 where
+  pub reached : u ≤ n
+  pub stands : at ≡ start_of sizes u
+  pub filled : es ≡ padded 1186 (concat (take u (plan_in file sizes n).rings))
 
-module _ {file sizes : List ℕ} {n u i at : ℕ} {es : List ℕ} (inv : Copies file sizes n u i at es) where
-  -- there is room for one more entry of u's ring
-  pub copies_room : {k : ℕ} → start_of sizes n ≤ 1186 → u < n → k ≡ get_or sizes u 0 → i < k → at < 1186
-  copies_room b h q l = let m = ring_ends sizes u n h in let s = inv.stands in omega arith
+pub copies_start : {file sizes : List ℕ} {n : ℕ} {es : List ℕ} → es ≡ replicate 1186 0 → Copies file sizes n 0 0 es
+unfolding zeros
+copies_start {sizes = sizes} e = record { reached = omega arith; stands = start_first sizes; filled = e ∙ sym (padded-none 1186) }
+
+module _ {file sizes : List ℕ} {n u at : ℕ} {es : List ℕ} (inv : Copies file sizes n u at es) (room : start_of sizes n ≤ 1186) where
+  -- there is room for u's ring
+  pub copies_room : {k : ℕ} → u < n → k ≡ get_or sizes u 0 → at + k ≤ 1186
+  copies_room h q = let m = ring_ends sizes u n h in let s = inv.stands in omega arith
+
+  pub copies_fit : {k : ℕ} → u < n → k ≡ get_or sizes u 0 → length es ≡ 1186 → at + k ≤ length es
+  copies_fit h q e = let r = copies_room h q in omega arith
 
   -- it is copied
-  pub copies_entry : {k x i' at' : ℕ} {es' : List ℕ} → start_of sizes n ≤ 1186 → n ≤ 200 → u < n → k ≡ get_or sizes u 0 → i < k → x ≡ word_of file (10 + 4 * u + 2 * at) → es' ≡ set es at x → at' ≡ suc at → i' ≡ suc i → Copies file sizes n u i' at' es'
-  copies_entry {k} {x} {i'} {at'} b few h q l w e f g =
+  pub copies_ring : {k at' u' : ℕ} {es' ws : List ℕ} → n ≤ 200 → u < n → k ≡ get_or sizes u 0 → length es ≡ 1186
+      → ws ≡ words_at file (10 + 4 * u + 2 * at) (length (take (at + k - at) (drop at es))) → es' ≡ put_mid at (at + k - at) es ws → at' ≡ at + k → u' ≡ suc u → Copies file sizes n u' at' es'
+  copies_ring {k} {at'} {u'} {es'} {ws} few h q long w p e r =
       let s = inv.stands in
-      let low : i < get_or sizes u 0 = omega arith in
-      let same : x ≡ get_or (concat (plan_in file sizes n).rings) at 0 =
-      w ∙ ap (λ (j : ℕ). word_of file (10 + 4 * u + 2 * j)) s ∙ sym (entry_at file sizes n u i h few low) ∙ ap (λ (j : ℕ). get_or (concat (plan_in file sizes n).rings) j 0) (sym s) in
-      record { stands = omega arith; filled = fills_on inv.filled (copies_room b h q l) f same e }
-
-  -- u's ring is whole, and the next one begins
-  pub copies_ring : {u' : ℕ} → i ≡ get_or sizes u 0 → u' ≡ suc u → Copies file sizes n u' 0 at es
-  copies_ring {u'} q e =
-      let s = inv.stands in
-      let m = start-more sizes u in
-      let next : start_of sizes u' ≡ start_of sizes (suc u) = ap (start_of sizes) e in
-      record { stands = omega arith; filled = inv.filled }
+      let fits = copies_room h q in
+      let more = start-more sizes u in
+      let b = body-size file sizes n u in
+      let t = length-take (at + k - at) (drop at es) in
+      let d = length-drop at es in
+      let whole : length (take (at + k - at) (drop at es)) ≡ get_or sizes u 0 = omega arith in
+      let next : start_of sizes u' ≡ start_of sizes (suc u) = ap (start_of sizes) r in
+      let l : List ℕ = concat (take u (plan_in file sizes n).rings) in
+      let there : ws ≡ body file sizes n u = w ∙ (λ t. words_at file (10 + 4 * u + 2 * s t) (whole t)) ∙ sym (body-there file sizes n u h few) in
+      record {
+        reached = omega arith;
+        stands = omega arith;
+        filled =
+            p ∙ (λ t. put_mid at (at + k - at) (inv.filled t) (there t))
+            ∙ padded_mid 1186 at (at + k - at) l (body file sizes n u) (s ∙ sym (start-at file sizes n u (omega arith))) (omega arith) (omega arith)
+            ∙ ap (padded 1186) (sym (rings-more file sizes n u h) ∙ ap (λ (v : ℕ). concat (take v (plan_in file sizes n).rings)) (sym r));
+      }
 
   -- all rings are copied
-  pub copies_end : u ≡ n → i ≡ 0 → es ≡ padded 1186 (concat (plan_in file sizes n).rings)
-  unfolding entry_count
-  copies_end h z =
-      let s = inv.stands in
-      let same : start_of sizes u ≡ start_of sizes n = ap (start_of sizes) h in
-      let total = entry-count-lent (starts_of sizes) sizes file n in
-      inv.filled.same ∙ ap (padded 1186) (list-map (concat (plan_in file sizes n).rings) at (omega arith))
+  pub copies_end : n ≤ u → es ≡ padded 1186 (concat (plan_in file sizes n).rings)
+  copies_end h = let q = inv.reached in let z = rings-size file sizes n in inv.filled ∙ ap (λ (l : List (List ℕ)). padded 1186 (concat l)) (take_all u (plan_in file sizes n).rings (omega arith))
 
 -- ---- the label bytes
 -- what is read of a part is what is read of a stretch, and 0 behind it
@@ -135,14 +188,6 @@ part_padded s at k m h =
     let a = length-padded m l (omega (arith, length-take k (drop at s))) in
     let b = length-padded m (stretch s at k) (omega (arith, length-stretch s at k)) in
     ext_get_or 0 (padded m l) (padded m (stretch s at k)) (a ∙ sym b) (λ i p. get_or-padded m l i ∙ part_reads s at k i ∙ sym (get_or-padded m (stretch s at k) i))
-
--- all that is left from an offset on, or from the end
-pub rest-from : (s : List ℕ) (at : ℕ) {from : ℕ} → from ≡ min at (length s) → take (length s - from) (drop from s) ≡ drop at s
-rest-from s at {from} e = take_all (length s - from) (drop from s) (omega (arith, length-drop from s)) ∙ go (lt-or-le at (length s))
-  where
-    go : (at < length s) ⊎ (length s ≤ at) → drop from s ≡ drop at s
-    go (inl h) = ap (λ (k : ℕ). drop k s) (omega arith)
-    go (inr h) = drop_of_length-le s (omega arith) ∙ sym (drop_of_length-le s h)
 
 -- so is what is copied of the rest
 pub labels-copied : (s : List ℕ) (at k m : ℕ) {r b : List ℕ} {j : ℕ} → k ≤ m → r ≡ drop at s → j ≡ min (length r) k → b ≡ take j r ++ replicate (m - j) 0 → b ≡ padded m (stretch s at k)

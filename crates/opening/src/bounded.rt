@@ -1,9 +1,10 @@
 // What is copied from a file into a sheet.
-ghost use Rattle.std.specs.Prelude.{◌≡◌, ◌<◌, ◌≤◌, ◌^◌};
+ghost use Rattle.std.specs.Prelude.{◌≡◌, ◌<◌, ◌≤◌, ◌^◌, length};
 ghost use Rattle.lists.specs.Parts.{concat};
 ghost use Rattle.lists.specs.Spans.{padded};
 ghost use Rattle.model.specs.File.{opened, labelled, charted};
 ghost use Rattle.rings.specs.Tables.{start_of};
+ghost use Rattle.rings.specs.Lent.{words_at};
 ghost use Rattle.framing.specs.Layouts.{plan_in, labels_in, chart_from, laid};
 ghost use Rattle.sheet.specs.Sheets.{packed};
 
@@ -18,6 +19,21 @@ pub struct Bounded<'a> {
     pub ghost room: { start_of layout.now.sizes layout.now.n ≤ 1186 },
 }
 
+// Copies the numbers of two bytes that stand in a file from an offset on, one for each place; what lies past the file's end reads as 0.
+fn copy_words(to: &mut [u16], file: &[u8], from: usize)
+    requires { from < 2 ^ 16 }
+    ensures { to.new ≡ words_at file.now from (length to.old) }
+{
+    let rest = &file[from.min(file.len())..];
+    let whole = to.len().min(rest.len() / 2);
+    for i in 0..whole {
+        to[i] = u16::from_le_bytes([rest[2 * i], rest[2 * i + 1]]);
+    }
+    for i in whole..to.len() {
+        to[i] = arrays::word_at(rest, 2 * i);
+    }
+}
+
 impl<'a> Bounded<'a> {
     // The entries of all rings, in context order.
     fn entries(&self) -> [u16; 1186]
@@ -26,10 +42,9 @@ impl<'a> Bounded<'a> {
         let mut entries = [0u16; 1186];
         let mut at = 0;
         for u in 0..self.layout.n {
-            for i in 0..arrays::num(&self.layout.sizes, u) {
-                entries[at] = arrays::word_at(self.file, 10 + 4 * u + 2 * at);
-                at += 1;
-            }
+            let k = arrays::num(&self.layout.sizes, u);
+            copy_words(&mut entries[at..at + k], self.file, 10 + 4 * u + 2 * at);
+            at += k;
         }
         entries
     }

@@ -1,17 +1,18 @@
 -- The text of each part of a file, by what is put there one after the other, and what a call that writes gives and leaves.
-use Prim.Native.Nat.{ℕ, zero, suc, ◌+◌, ◌*◌, ◌≤◌, ◌<◌}
+use Prim.Native.Nat.{ℕ, zero, suc, ◌+◌, ◌-◌, ◌*◌, ◌≤◌, ◌<◌, min}
 use mathlib.Core.Path.{◌≡◌, refl, sym, ap, ◌∙◌}
 use mathlib.Core.List.{List, [], ◌∷◌, ◌++◌, map, append_assoc, append-nil}
+use mathlib.Core.Logic.{◌⊎◌, inl, inr}
 use native.Mathlib.Omega.{arith}
 use native.Mathlib.Numerals.{add-one}
-use lib.ListN.{length, get_or, drop}
+use lib.ListN.{length, get_or, take, drop}
 use lib.Seq.{sets}
 use borrow.Author.Tests.{le-leb, lt-leb}
 use Rattle.lists.specs.Ranges.{from}
 use Rattle.lists.specs.Spans.{stretch}
 use Rattle.lists.specs.Words.{bytes}
-use Rattle.lists.proofs.Ranges.{get_or-map-from}
-use Rattle.lists.proofs.Spans.{length-stretch}
+use Rattle.lists.proofs.Ranges.{lt-or-le, get_or-map-from}
+use Rattle.lists.proofs.Spans.{past, length-stretch, stretch_part}
 use Rattle.lists.proofs.Stretches.{map-from-more}
 use Rattle.lists.proofs.Words.{length-bytes}
 use Rattle.model.specs.Outcome.{Outcome, accepted, refused}
@@ -22,39 +23,30 @@ use Rattle.rings.proofs.Rows.{start_first, start-more, count-rows}
 use Rattle.std.proofs.Common.{Bor, Ok, Err}
 use Rattle.refusal.specs.declared.Refusal.TheVariants as Refusal
 use Rattle.rings.specs.declared.Table.{Table}
-use Rattle.buffer.proofs.Puts.{sets_front, put-none, put_join}
+use Rattle.buffer.proofs.Puts.{sets_front, bytes_join, put-none, put_join}
 use Rattle.writing.specs.Files.{kept, darts_held, labels_held, chart_held, sheet_with, outcome_of, buffer_after}
 use Rattle.charts.specs.declared.Points.{Points}
 use Rattle.writing.specs.declared.Parts.{Parts}
 use Rattle.writing.proofs.Lengths.{length-body, plan_part, labels_part, chart_part}
 
--- ---- a stretch of numbers: none, and one more
-module _ (l : List ℕ) (i : ℕ) where
-  pub stretch_none : stretch l i 0 ≡ []
-  unfolding stretch
-  stretch_none = refl
-
-  pub words_none : bytes (stretch l i 0) ≡ []
-  unfolding stretch bytes
-  words_none = refl
-
--- one more as it stands, in each of the two spellings of k + 1
+-- ---- a stretch of numbers, and one more
 stretch_suc : (l : List ℕ) (i k : ℕ) → stretch l i (suc k) ≡ stretch l i k ++ (get_or l (i + k) 0 ∷ [])
 unfolding stretch
 stretch_suc l i zero = ap (λ (j : ℕ). get_or l j 0 ∷ []) (omega arith)
 stretch_suc l i (suc k) = ap (λ (m : List ℕ). get_or l i 0 ∷ m) (stretch_suc l (suc i) k ∙ ap (λ (j : ℕ). stretch l (suc i) k ++ (get_or l j 0 ∷ [])) (omega arith))
 
-pub stretch_more : (l : List ℕ) (i k : ℕ) → stretch l i (k + 1) ≡ stretch l i k ++ (get_or l (i + k) 0 ∷ [])
-stretch_more l i k = rw add-one (stretch_suc l i k)
+-- a zero more, behind the end of the list
+pub zero_behind : (l : List ℕ) (i k : ℕ) {k' : ℕ} → length l ≤ i + k → k' ≡ suc k → stretch l i k ++ (0 ∷ []) ≡ stretch l i k'
+zero_behind l i k h e = ap (λ (x : ℕ). stretch l i k ++ (x ∷ [])) (past l (i + k) h) ∙ sym (stretch_suc l i k) ∙ ap (stretch l i) (sym e)
 
--- in two bytes each
-bytes-append : (l m : List ℕ) → bytes (l ++ m) ≡ bytes l ++ bytes m
-unfolding bytes
-bytes-append [] m = refl
-bytes-append (a ∷ l) m = rw (bytes-append l m)
-
-pub words_more : (l : List ℕ) (i k : ℕ) → bytes (stretch l i (k + 1)) ≡ bytes (stretch l i k) ++ bytes (get_or l (i + k) 0 ∷ [])
-words_more l i k = ap bytes (stretch_more l i k) ∙ bytes-append (stretch l i k) (get_or l (i + k) 0 ∷ [])
+-- the part of a list that a stretch begins with
+pub part_held : (l : List ℕ) (i k : ℕ) {s e : ℕ} → s ≡ min i (length l) → e ≡ min (i + k) (length l) → take (e - s) (drop s l) ≡ stretch l i (e - s)
+unfolding stretch
+part_held l i k {s} {e} p q = go (lt-or-le i (length l))
+  where
+    go : (i < length l) ⊎ (length l ≤ i) → take (e - s) (drop s l) ≡ stretch l i (e - s)
+    go (inl h) = let z : s ≡ i = omega arith in sym (stretch_part l i (e - s) (omega arith) ∙ ap (λ (j : ℕ). take (e - s) (drop j l)) (sym z))
+    go (inr h) = let z : e - s ≡ 0 = omega arith in rw z
 
 -- ---- points: none, and one more
 points_suc : (xs ys : List ℕ) (i k : ℕ) → points (stretch xs i (suc k)) (stretch ys i (suc k)) ≡ points (stretch xs i k) (stretch ys i k) ++ (get_or xs (i + k) 0 ∷ get_or ys (i + k) 0 ∷ [])
@@ -67,15 +59,14 @@ module _ (xs ys : List ℕ) where
   unfolding stretch points bytes
   points_none = refl
 
-  pub points_more : (k : ℕ) → bytes (points (stretch xs 0 (k + 1)) (stretch ys 0 (k + 1))) ≡ (bytes (points (stretch xs 0 k) (stretch ys 0 k)) ++ bytes (get_or xs k 0 ∷ [])) ++ bytes (get_or ys k 0 ∷ [])
-  unfolding bytes
+  pub points_more : (k : ℕ) → bytes (points (stretch xs 0 (k + 1)) (stretch ys 0 (k + 1))) ≡ bytes (points (stretch xs 0 k) (stretch ys 0 k)) ++ bytes (get_or xs k 0 ∷ get_or ys k 0 ∷ [])
   points_more k =
       let before = points (stretch xs 0 k) (stretch ys 0 k) in
       let z : 0 + k ≡ k = omega arith in
-      rw add-one (ap bytes (points_suc xs ys 0 k) ∙ bytes-append before (get_or xs (0 + k) 0 ∷ get_or ys (0 + k) 0 ∷ []) ∙ ap (λ (j : ℕ). bytes before ++ bytes (get_or xs j 0 ∷ get_or ys j 0 ∷ [])) z ∙ sym (append_assoc (bytes before) (bytes (get_or xs k 0 ∷ [])) (bytes (get_or ys k 0 ∷ []))))
+      rw add-one (ap bytes (points_suc xs ys 0 k) ∙ bytes_join before (get_or xs (0 + k) 0 ∷ get_or ys (0 + k) 0 ∷ []) ∙ ap (λ (j : ℕ). bytes before ++ bytes (get_or xs j 0 ∷ get_or ys j 0 ∷ [])) z)
 
--- numbers, bytes and points, for the loops that put them
-pub ruleset parts = (put-none, put_join, stretch_none, stretch_more, words_none, words_more, points_none, points_more)
+-- for the loop that puts points
+pub ruleset parts = (put-none, put_join, points_none, points_more)
 
 -- ---- the rings of a table: none, and one more
 rings-append : (rs : List (List ℕ)) (r : List ℕ) → rings_out (rs ++ (r ∷ [])) ≡ rings_out rs ++ entry 2 (bytes r)
@@ -104,11 +95,6 @@ module _ (sizes es : List ℕ) where
 pub ruleset rings = (put-none, put_join, rings_none, rings_more, start_first, start_one)
 
 -- ---- records
--- two numbers
-pub words_two : (a b : ℕ) → bytes (a ∷ b ∷ []) ≡ bytes (a ∷ []) ++ bytes (b ∷ [])
-unfolding bytes
-words_two a b = refl
-
 -- a body behind its head
 pub entry_text : (kind h : ℕ) (body : List ℕ) → h ≡ 2 + length body → bytes (h ∷ kind ∷ []) ++ body ≡ entry kind body
 unfolding entry
@@ -130,7 +116,7 @@ unfolding chart_out chart_held bytes
 chart_text w h xs ys n = sym (entry_text 4 (2 + (4 + 4 * kept n)) (bytes (chart_out (chart_held w h xs ys n))) (omega (arith, length-body w h xs ys n (kept n) refl)))
 
 -- for what puts a record after its parts
-pub ruleset records = (put_join, words_two, entry_text, length-stretch, length-bytes, plan_text, labels_text, chart_text)
+pub ruleset records = (put_join, entry_text, length-stretch, length-bytes, plan_text, labels_text, chart_text)
 
 -- ---- the whole file
 module _ (t : Table) where

@@ -76,24 +76,29 @@ fn chart_length(drawn: &Points, n: usize) -> usize
     8 + 4 * usize::from(kept_of(n))
 }
 
-// Puts the k numbers of a from i on, two bytes each.
+// Puts the k numbers of a from i on, two bytes each, and zeros for those past its end.
 #[tactic(auto, using(crate::proofs::Texts::parts))]
 fn put_words(to: &mut Buffer, a: &[u16], i: usize, k: u8)
     requires { i < 2 ^ 16 }
     ensures { to.new ≡ put to.old (bytes (stretch a.now i k)) }
 {
-    for j in 0..usize::from(k) {
-        to.put_word(arrays::at(a, i + j));
+    let start = i.min(a.len());
+    let behind = (i + usize::from(k)).min(a.len());
+    to.put_words(&a[start..behind]);
+    for _ in behind - start..usize::from(k) {
+        to.put_word(0);
     }
 }
 
-// Puts the first k bytes of a.
+// Puts the first k bytes of a, and zeros for those past its end.
 #[tactic(auto, using(crate::proofs::Texts::parts))]
 fn put_first(to: &mut Buffer, a: &[u8], k: u16)
     ensures { to.new ≡ put to.old (stretch a.now 0 k) }
 {
-    for i in 0..usize::from(k) {
-        to.put_byte(arrays::at(a, i));
+    let held = usize::from(k).min(a.len());
+    to.put_bytes(&a[..held]);
+    for _ in held..usize::from(k) {
+        to.put_byte(0);
     }
 }
 
@@ -103,8 +108,7 @@ fn put_points(to: &mut Buffer, drawn: &Points, k: u16)
     ensures { to.new ≡ put to.old (bytes (points (stretch drawn.now.xs.now 0 k) (stretch drawn.now.ys.now 0 k))) }
 {
     for j in 0..usize::from(k) {
-        to.put_word(arrays::at(drawn.xs, j));
-        to.put_word(arrays::at(drawn.ys, j));
+        to.put_words(&[arrays::at(drawn.xs, j), arrays::at(drawn.ys, j)]);
     }
 }
 
@@ -114,8 +118,7 @@ fn put_head(to: &mut Buffer, kind: Record, k: u16)
     requires { 2 + k < 2 ^ 16 }
     ensures { to.new ≡ put to.old (bytes ((2 + k) ∷ number_of kind ∷ [])) }
 {
-    to.put_word(2 + k);
-    to.put_word(kind.number());
+    to.put_words(&[2 + k, kind.number()]);
 }
 
 // Puts the record of a ring of k entries, which begin at i.
