@@ -11,7 +11,7 @@
  *     cc -Iinclude draw.c target/staticlib/libtouchchart.a -o draw
  *
  * The archive needs memcpy and memset and nothing else. It has no state: any thread may call anything at any time.
- * A call takes at most about 200 KB of stack (measured with this compiler, not proved), and no heap.
+ * A call takes at most about 240 KB of stack (measured with this compiler, not proved), and no heap.
  *
  * SHEETS
  *
