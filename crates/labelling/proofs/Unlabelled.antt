@@ -150,7 +150,7 @@ put_more : (l ys rest rest' : List ℕ) (k : ℕ) → drop k rest ≡ rest' → 
 put_more l ys rest rest' k e = λ i. take_at l rest (length l) refl i ++ (ys ++ (ap (drop k) (drop_at l rest (length l) refl) ∙ e) i)
 
 -- fewer zeros
-drop-zeros : (k n : ℕ) → drop k (zeros n) ≡ zeros (n - k)
+pub drop-zeros : (k n : ℕ) → drop k (zeros n) ≡ zeros (n - k)
 unfolding zeros
 drop-zeros k n = drop-replicate k n 0
 

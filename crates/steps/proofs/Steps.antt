@@ -3,7 +3,7 @@ use Prim.Native.Nat.{ℕ, zero, suc, ◌+◌, ◌-◌, ◌≤◌, ◌<◌}
 use mathlib.Core.Path.{◌≡◌, refl, sym, ap, ◌∙◌, subst}
 use mathlib.Core.Logic.{◌⊎◌, inl, inr}
 use mathlib.Core.List.{List}
-use mathlib.Core.Bool.{Bool, true, false, cond, not, false≢true}
+use mathlib.Core.Bool.{Bool, true, false, cond, not}
 use native.Mathlib.Omega.{arith}
 use lib.ListN.{length}
 use borrow.Author.Tests.{not-true, not-false}
@@ -15,9 +15,8 @@ use Rattle.model.specs.Sweep.{State, first_state, listed, finished, finish, elig
 use Rattle.model.proofs.Choices.{chosen, none_chosen, Chosen}
 use Rattle.model.proofs.LabelCounts.{first_long, from_long}
 use Rattle.frontier.specs.declared.Line as held
-use Rattle.frontier.specs.Run.{Line, line, line_of, whole, kept}
+use Rattle.frontier.specs.Run.{Line, line, line_of, whole}
 use Rattle.frontier.specs.Front.{Sane, Front}
-use Rattle.frontier.proofs.Fails.{kept_none}
 use Rattle.frontier.proofs.Lines.{stretch-all}
 use Rattle.ends.specs.Ends.{first_line, unfinished_by}
 use Rattle.ends.proofs.Beginning.{first-front}
@@ -65,10 +64,6 @@ module _ {p : Plan} {places starts : List ℕ} (g : Guide p places starts) {s : 
     step-front on put = subst (Front (advance p s i j)) (sym (new-is p g.own v i j next r is on put)) (next-front p sane s v fr i j two within good)
 
 -- ---- the steps
--- there is a first frontier
-pub first-whole : {p : Plan} → Sane p → length (ring p 0) ≤ 255 → kept (first_line p) ≡ None → ⊥
-first-whole {p} sane long none = false≢true (sym (kept_none (first_line p) none) ∙ (first-front p sane long).rep.ok)
-
 -- before the first step
 pub running_start : {p : Plan} {n : ℕ} {v : held.Line} {ls : List ℕ} → Sane p → length (ring p 0) ≤ 255 → n ≡ count p → whole v ≡ first_line p → ls ≡ first_labels p v.at v.len → Running p n v ls
 unfolding swept

@@ -25,7 +25,7 @@ fn is_ruled(plan: &Table) -> bool
     fit::total_of(plan.sizes, plan.n) == rings::dart_count(plan.n) && sound::is_sound(plan)
 }
 
-// The labels of the sweep of a plan that fits, by a table of positions of its own: in linear time where the plan is known to keep the rules.
+// The labels of the sweep of a plan that fits, by a table of positions of its own: with few tests where the plan is known to keep the rules.
 fn swept(rings: &Rings, ruled: bool) -> Result<[u8; 1186], Refusal>
     requires starts { rings.now.starts.now ≡ starts_of rings.now.sizes.now }
     requires fits { fit (plan_of rings.now) ≡ true }
@@ -47,7 +47,7 @@ fn swept(rings: &Rings, ruled: bool) -> Result<[u8; 1186], Refusal>
     step::run(&guided)
 }
 
-// The labels of the sweep, before the label rules are tested. A plan that does not fit the arrays is not swept; one that keeps the rules is swept in linear time.
+// The labels of the sweep, before the label rules are tested. A plan that does not fit the arrays is not swept; one that keeps the rules is swept with few tests, any other by the definition.
 pub fn sweep_down(plan: &Table) -> Result<[u8; 1186], Refusal>
     ensures { told result ≡ in_array (steps_of (table_of plan.now)) }
 {

@@ -1,5 +1,5 @@
 -- A list put into a line in place of a part of it: what the array holds after the rest of the line is moved, the list is copied there, and zeros are put behind.
-use Prim.Native.Nat.{ℕ, zero, suc, ◌+◌, ◌-◌, ◌≤◌, ◌<◌}
+use Prim.Native.Nat.{ℕ, ◌+◌, ◌-◌, ◌≤◌, ◌<◌}
 use mathlib.Core.Path.{◌≡◌, refl, sym, ap, ◌∙◌}
 use mathlib.Core.List.{List, ◌++◌, append_assoc}
 use native.Mathlib.Omega.{arith}
@@ -12,14 +12,8 @@ use Rattle.std.proofs.lemmas.Slice.{put_mid-paste}
 use Rattle.lists.specs.Spans.{zeros, padded}
 use Rattle.lists.proofs.Spans.{length-zeros}
 use Rattle.lists.proofs.Padded.{length-padded}
+use Rattle.labelling.proofs.Unlabelled.{drop-zeros}
 use Rattle.swift.specs.Moves.{Spliced}
-
--- fewer zeros
-drop-zeros : (k n : ℕ) → drop k (zeros n) ≡ zeros (n - k)
-unfolding zeros
-drop-zeros zero n = let z : n - 0 ≡ n = omega arith in ap zeros (sym z)
-drop-zeros (suc k) zero = let z : zero - suc k ≡ 0 = omega arith in ap zeros (sym z)
-drop-zeros (suc k) (suc n) = let z : suc n - suc k ≡ n - k = omega arith in drop-zeros k n ∙ ap zeros (sym z)
 
 -- zeros behind zeros
 zeros-join : (n m : ℕ) → zeros n ++ zeros m ≡ zeros (n + m)

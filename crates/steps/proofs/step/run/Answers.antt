@@ -5,7 +5,8 @@ use Rattle.rings.specs.Tables.{plan_of}
 use Rattle.rings.proofs.Rows.{count-rows}
 use Rattle.frontier.proofs.Fails.{kept_is}
 use Rattle.ends.specs.Ends.{first_line}
-use Rattle.steps.proofs.Steps.{first-whole, running_start}
+use Rattle.steps.proofs.Steps.{running_start}
+use Rattle.swift.proofs.Runs.{first_whole}
 use native.Mathlib.Omega.{arith}
 use Rattle.steps.proofs.step.run.Goals as goal
 
@@ -14,7 +15,7 @@ returns-in_err-first c =
     let g = c.args.guided.now.guide in
     let north = c.first_line.ensures.north in
     let none : c.first_line.result ≡ None = grind arith in
-    absurd (first-whole (record { entry = g.small }) (omega arith) (sym c.first_line.ensures.value ∙ none))
+    absurd (first_whole (record { entry = g.small }) (omega arith) (sym c.first_line.ensures.value ∙ none))
 
 pub descend-requires : goal.descend-requires
 descend-requires c =
