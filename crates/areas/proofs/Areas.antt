@@ -14,10 +14,7 @@ use borrow.Author.Tests.{ltb-true, ltb-false, lt-ltb, le-ltb, eq-eqb, ne_eqb}
 use mir.Syntax.{w64}
 use mir.Val.{SFits, to_z, of_z}
 use mir.ValLaws.{to_z-of_z}
-use Rattle.lists.specs.Spans.{stretch}
-use Rattle.lists.proofs.Spans.{get_or-stretch}
 use Rattle.model.specs.Geometry.{positive, is_zero, corner, fan, area}
-use Rattle.charts.specs.Charts.{chart_on}
 use Rattle.areas.specs.Corners.{points, negative, corner_at, ahead, behind, counterclockwise, flat, clockwise, at_points}
 
 -- ---- a difference is a number or the negative of one
@@ -193,14 +190,6 @@ module _ (p q r s : ℤ) (ax ay bx by cx cy : ℕ) (ep : p ≡ sub_ℕ bx ax) (e
 area-three : (xs ys : List ℕ) (a b c : ℕ) → area (points xs ys) (a ∷ b ∷ c ∷ []) ≡ corner_at (get_or xs a 0) (get_or ys a 0) (get_or xs b 0) (get_or ys b 0) (get_or xs c 0) (get_or ys c 0)
 unfolding area fan corner points corner_at
 area-three xs ys a b c = +ℤ_idr (corner_at (get_or xs a 0) (get_or ys a 0) (get_or xs b 0) (get_or ys b 0) (get_or xs c 0) (get_or ys c 0))
-
--- the points of a chart of n contexts have the chart's areas
-pub area_on : (n w h : ℕ) (xs ys : List ℕ) (a b c : ℕ) → a < n → b < n → c < n → area (points xs ys) (a ∷ b ∷ c ∷ []) ≡ area (chart_on n w h xs ys) (a ∷ b ∷ c ∷ [])
-unfolding area fan corner points chart_on
-area_on n w h xs ys a b c i j k = λ t. (sub_ℕ (at xs b j t) (at xs a i t) *ℤ sub_ℕ (at ys c k t) (at ys a i t) -ℤ sub_ℕ (at xs c k t) (at xs a i t) *ℤ sub_ℕ (at ys b j t) (at ys a i t)) +ℤ pos 0
-  where
-    at : (l : List ℕ) (u : ℕ) → u < n → get_or l u 0 ≡ get_or (stretch l 0 n) u 0
-    at l u h = sym (get_or-stretch l 0 n u h ∙ ap (λ (m : ℕ). get_or l m 0) (omega arith))
 
 -- a number that is the difference of the products is the area, and has the sign of the walk
 module _ (xs ys : List ℕ) (a b c : ℕ) {z : ℤ} (e : z ≡ corner_at (get_or xs a 0) (get_or ys a 0) (get_or xs b 0) (get_or ys b 0) (get_or xs c 0) (get_or ys c 0)) where

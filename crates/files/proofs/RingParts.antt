@@ -1,5 +1,5 @@
 -- The ring call on the sheet that a file was opened to, and the part of the file that it hands back.
-use Prim.Native.Nat.{ℕ, suc, ◌+◌, ◌*◌, ◌≤◌, ◌<◌}
+use Prim.Native.Nat.{ℕ, suc, ◌+◌, ◌-◌, ◌*◌, ◌^◌, ◌≤◌, ◌<◌}
 use mathlib.Core.Path.{◌≡◌, refl, sym, ap, ◌∙◌}
 use mathlib.Core.List.Memᴰ
 use mathlib.Core.List.{List, [], ◌∷◌, map}
@@ -17,6 +17,7 @@ use Rattle.model.specs.Plan.{Plan, count, entries}
 use Rattle.model.specs.Labels.{start}
 use Rattle.model.specs.Chart.{Chart}
 use Rattle.model.specs.File as file
+use Rattle.model.specs.File.{entry_offset}
 use Rattle.model.specs.Calls.{plan_of, open_call, ring_start, ring_call, ring_part}
 use Rattle.model.proofs.Outcomes.{not-both, same-value, same-refusal}
 use Rattle.model.proofs.FileWrite.{PlanFits, Fits}
@@ -44,7 +45,7 @@ Named p u = Told (ltb u (count p)) (count p) (ring_start p u) (2 * length (entri
 
 -- the ring that a struct holds
 abbrev Held : Sheet → ℕ → Outcome (ℕ × ℕ)
-Held t u = Told (ltb u t.n) t.n (10 + 4 * u + 2 * start_of t.sizes (min u 200)) (2 * get_or t.sizes u 0)
+Held t u = Told (ltb u t.n) t.n (entry_offset u (start_of t.sizes (min u 200))) (2 * get_or t.sizes u 0)
 
 -- a plan that is packed has the same
 pack-ring : (g : Stage) (p : Plan) (ls : List ℕ) (c : Chart) (u : ℕ) → PlanFits p → Held (pack g p.rings ls c) u ≡ Named p u
@@ -54,7 +55,7 @@ pack-ring g p ls c u fit = go (ltb u (count p)) refl
     sizes : List ℕ
     sizes = padded 200 (map length p.rings)
 
-    go : (b : Bool) → ltb u (count p) ≡ b → Told b (count p) (10 + 4 * u + 2 * start_of sizes (min u 200)) (2 * get_or sizes u 0) ≡ Told b (count p) (ring_start p u) (2 * length (entries p u))
+    go : (b : Bool) → ltb u (count p) ≡ b → Told b (count p) (entry_offset u (start_of sizes (min u 200))) (2 * get_or sizes u 0) ≡ Told b (count p) (ring_start p u) (2 * length (entries p u))
     go false e = refl
     go true e =
         let h = ltb-true u (count p) e in
@@ -62,7 +63,7 @@ pack-ring g p ls c u fit = go (ltb u (count p)) refl
         let begin = ap (start_of sizes) (min-eq_left {n = u} {m = 200} (omega arith)) ∙ start-packed 200 p.rings u (omega arith) in
         λ i. Told true (count p) (here begin i) (2 * size-at 200 p.rings u h i)
       where
-        here : start_of sizes (min u 200) ≡ length (concat (take u p.rings)) → 10 + 4 * u + 2 * start_of sizes (min u 200) ≡ ring_start p u
+        here : start_of sizes (min u 200) ≡ length (concat (take u p.rings)) → entry_offset u (start_of sizes (min u 200)) ≡ ring_start p u
         here q = unfold ring_start start in omega arith
 
 -- ---- the ring call after an open call
@@ -93,8 +94,8 @@ module _ (b : List ℕ) (u : ℕ) (t : Sheet) (e : accepted t ≡ packed_as (ope
   pub ring_missing : t.n ≤ u → refused 17 t.n ≡ ring_call b u
   ring_missing h = rw (le-ltb u t.n h) at (ring_late b u t e)
 
-  pub ring_there : u < t.n → {k : ℕ} → k ≡ start_of t.sizes (min u 200) → accepted (10 + 4 * u + 2 * k, 2 * get_or t.sizes u 0) ≡ ring_call b u
-  ring_there h {k} q = ap (λ (j : ℕ). accepted (10 + 4 * u + 2 * j, 2 * get_or t.sizes u 0)) q ∙ (rw (lt-ltb u t.n h) at (ring_late b u t e))
+  pub ring_there : u < t.n → {k at : ℕ} → k ≡ start_of t.sizes (min u 200) → k < 2 ^ 16 → t.n < 2 ^ 16 → at ≡ min (entry_offset u k) (2 ^ 64 - 1) → accepted (at, 2 * get_or t.sizes u 0) ≡ ring_call b u
+  ring_there h {k} {at} q few bound o = ap (λ (j : ℕ). accepted (j, 2 * get_or t.sizes u 0)) (let same : at ≡ entry_offset u k = omega arith in same ∙ ap (entry_offset u) q) ∙ (rw (lt-ltb u t.n h) at (ring_late b u t e))
 
 -- for the code, step by step
 pub ruleset steps = (ring_early, ring_missing, ring_there)

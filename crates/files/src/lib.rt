@@ -28,7 +28,7 @@ pub fn ring_answer(file: &[u8], context: usize) -> Result<Part, Refusal>
         return Err(Refusal::NoSuchContext(n));
     }
     Ok(Part {
-        at: 10 + 4 * context + 2 * fit::total_of(&opened.sizes, context),
+        at: rings::entry_offset(context, fit::total_of(&opened.sizes, context)),
         size: 2 * arrays::num(&opened.sizes, context),
     })
 }

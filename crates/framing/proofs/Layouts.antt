@@ -5,25 +5,28 @@ use mathlib.Core.List.{List, [], ◌∷◌}
 use mathlib.Core.Bool.{true, false, and-false}
 use mathlib.Core.Logic.{◌⊎◌, inl, inr}
 use native.Mathlib.Omega.{arith}
-use lib.ListN.{drop}
+use lib.ListN.{get_or, drop, replicate, length-replicate}
 use lib.Dec.{eqb}
 use borrow.Author.Tests.{le-leb, lt-leb}
 use Rattle.lists.specs.Tests.{empty}
 use Rattle.lists.specs.Words.{word}
 use Rattle.lists.specs.Spans.{stretch}
+use Rattle.lists.proofs.Ranges.{length-map-from}
 use Rattle.model.specs.Outcome.{Outcome, accepted, refused, ◌>>=◌}
-use Rattle.model.specs.Plan.{Plan, dart_count}
-use Rattle.model.specs.File.{Sheet, charted, frame, frame_rings, frame_rest, optional, chart_in, sheet_of, decode}
+use Rattle.model.specs.Plan.{Plan, count, labels_due}
+use Rattle.model.specs.File.{Sheet, charted, frame, frame_rings, Due, Part, frame_rest, optional, kinds_of, body_of, chart_in, sheet_of, decode}
 use Rattle.framing.specs.declared.layout.Parts.{Parts}
 use Rattle.arrays.specs.Parts.{word_of}
+use Rattle.rings.specs.Tables.{starts_of}
+use Rattle.rings.specs.Lent.{words_at, body_at, lent}
 use Rattle.framing.specs.Offsets.{cursor}
-use Rattle.framing.specs.Layouts.{plan_in, labels_in, sheet_with, bodies_in, plan_from}
+use Rattle.framing.specs.Layouts.{plan_in, labels_in, sheet_with, parts_in, row, plan_from}
 use Rattle.framing.proofs.Offsets.{words-stretch}
 
 -- ---- the records after the rings
 module _ (file : List ℕ) where
   -- at the end nothing follows
-  pub rest_end : (due : List (ℕ × ℕ)) (at : ℕ) → empty (drop at file) ≡ true → accepted [] ≡ frame_rest due (cursor file at)
+  pub rest_end : (due : List Due) (at : ℕ) → empty (drop at file) ≡ true → accepted [] ≡ frame_rest due (cursor file at)
   unfolding frame_rest
   rest_end [] at h = rw h
   rest_end (d ∷ due) at h = rw h
@@ -33,76 +36,52 @@ module _ (file : List ℕ) where
   unfolding frame_rest
   end_refused at k p h e = rw (h, ← e)
 
-  module _ (kind size : ℕ) (due : List (ℕ × ℕ)) (at : ℕ) (h : empty (drop at file) ≡ false) where
+  module _ (kind size : ℕ) (due : List Due) (at : ℕ) (h : empty (drop at file) ≡ false) where
     -- the record that is due is refused
-    pub due-refused : (k p : ℕ) → refused k p ≡ frame (cursor file at) kind (eqb size) → refused k p ≡ frame_rest ((kind, size) ∷ due) (cursor file at)
+    pub due-refused : (k p : ℕ) → refused k p ≡ frame (cursor file at) kind (eqb size) → refused k p ≡ frame_rest (row kind size ∷ due) (cursor file at)
     unfolding frame_rest
     due-refused k p e = rw (h, ← e)
 
     -- it is there, and what follows it is framed
-    pub due_there : (b : List ℕ) (e : ℕ) (o : Outcome (List (List ℕ))) → accepted (b, cursor file e) ≡ frame (cursor file at) kind (eqb size) → o ≡ frame_rest due (cursor file e)
-        → (o >>= λ (bs : List (List ℕ)). accepted (b ∷ bs)) ≡ frame_rest ((kind, size) ∷ due) (cursor file at)
+    pub due_there : (b : List ℕ) (e : ℕ) → accepted (b, cursor file e) ≡ frame (cursor file at) kind (eqb size)
+        → (frame_rest due (cursor file e) >>= λ (parts : List Part). accepted ((kind, b) ∷ parts)) ≡ frame_rest (row kind size ∷ due) (cursor file at)
     unfolding frame_rest
-    due_there b e o f r = rw (h, ← f, ← r)
+    due_there b e f = rw (h, ← f)
 
--- what stands behind the rings of n contexts, step by step: so many labels are due first
-module _ (file : List ℕ) (n at darts : ℕ) (w : darts ≡ dart_count n) (h : empty (drop at file) ≡ false) where
-  abbrev behind : ℕ
-  behind = at + 4 + darts
+-- a part put before those that follow it
+abbrev pub put : ℕ → List ℕ → Outcome (List Part) → Outcome (List Part)
+put kind body o = o >>= λ (parts : List Part). accepted ((kind, body) ∷ parts)
 
-  abbrev numbers : ℕ
-  numbers = 4 + 4 * n
-
-  abbrev last : ℕ
-  last = behind + 4 + numbers
-
-  -- no labels
-  pub labels_off : (k p : ℕ) → refused k p ≡ frame (cursor file at) 3 (eqb darts) → refused k p ≡ frame_rest (optional n) (cursor file at)
+-- what stands behind the rings of a plan of n contexts, which takes so many labels
+module _ (file : List ℕ) (at : ℕ) (p : Plan) {n labels : ℕ} (c : count p ≡ n) (w : labels ≡ labels_due p) where
+  -- the labels are due first
+  pub rest_begun : {o : Outcome (List Part)} → o ≡ frame_rest (row 3 labels ∷ row 4 (4 + 4 * n) ∷ []) (cursor file at) → o ≡ frame_rest (optional p) (cursor file at)
   unfolding optional
-  labels_off k p e = due-refused file 3 darts ((4, numbers) ∷ []) at h k p e ∙ ap (λ (d : ℕ). frame_rest ((3, d) ∷ (4, numbers) ∷ []) (cursor file at)) w
+  rest_begun e = e ∙ λ i. frame_rest (row 3 (w i) ∷ row 4 (4 + 4 * sym c i) ∷ []) (cursor file at)
 
-  module _ (e : accepted (stretch file (at + 4) darts, cursor file behind) ≡ frame (cursor file at) 3 (eqb darts)) where
-    -- labels, and what follows them
-    labels_then : (o : Outcome (List (List ℕ))) → o ≡ frame_rest ((4, numbers) ∷ []) (cursor file behind)
-        → (o >>= λ (bs : List (List ℕ)). accepted (labels_in file n (at + 4) ∷ bs)) ≡ frame_rest (optional n) (cursor file at)
-    unfolding optional
-    labels_then o r =
-        ap (λ (d : ℕ). o >>= λ (bs : List (List ℕ)). accepted (stretch file (at + 4) d ∷ bs)) (sym w)
-        ∙ due_there file 3 darts ((4, numbers) ∷ []) at h (stretch file (at + 4) darts) behind o e r
-        ∙ ap (λ (d : ℕ). frame_rest ((3, d) ∷ (4, numbers) ∷ []) (cursor file at)) w
+  module _ (e : put 3 (stretch file (at + 4) labels) (frame_rest (row 4 (4 + 4 * n) ∷ []) (cursor file (at + 4 + labels))) ≡ frame_rest (row 3 labels ∷ row 4 (4 + 4 * n) ∷ []) (cursor file at)) where
+    -- behind them the chart
+    pub labels_then : {o : Outcome (List Part)} → o ≡ frame_rest (row 4 (4 + 4 * n) ∷ []) (cursor file (at + 4 + labels)) → put 3 (labels_in file p (at + 4)) o ≡ frame_rest (optional p) (cursor file at)
+    labels_then f = (λ i. put 3 (stretch file (at + 4) (sym w i)) (f i)) ∙ rest_begun e
 
-    -- the end
-    pub labels_last : empty (drop behind file) ≡ true → accepted (labels_in file n (at + 4) ∷ []) ≡ frame_rest (optional n) (cursor file at)
-    labels_last g = labels_then (accepted []) (rest_end file ((4, numbers) ∷ []) behind g)
+    -- behind it the end
+    pub chart_then : (at' last : ℕ) {o : Outcome (List Part)} → put 4 (stretch file at' (4 + 4 * n)) (frame_rest [] (cursor file last)) ≡ frame_rest (row 4 (4 + 4 * n) ∷ []) (cursor file (at + 4 + labels))
+        → o ≡ frame_rest [] (cursor file last) → put 3 (labels_in file p (at + 4)) (put 4 (stretch file at' (4 + 4 * count p)) o) ≡ frame_rest (optional p) (cursor file at)
+    chart_then at' last f g = labels_then ((λ i. put 4 (stretch file at' (4 + 4 * c i)) (g i)) ∙ f)
 
-    module _ (g : empty (drop behind file) ≡ false) where
-      -- no chart
-      pub chart_off : (k p : ℕ) → refused k p ≡ frame (cursor file behind) 4 (eqb numbers) → refused k p ≡ frame_rest (optional n) (cursor file at)
-      chart_off k p b = labels_then (refused k p) (due-refused file 4 numbers [] behind g k p b)
+-- at most 200 contexts take at most 1186 labels
+pub few_labels : {n k : ℕ} → n ≤ 200 → ((p : Plan) → count p ≡ n → k ≡ labels_due p) → k ≤ 1186
+few_labels {n} h w =
+    let size = length-replicate n [] in
+    let e = w (record { rings = replicate n [] }) size in
+    omega arith
 
-      module _ (b : accepted (stretch file (behind + 4) numbers, cursor file last) ≡ frame (cursor file behind) 4 (eqb numbers)) where
-        chart_then : (o : Outcome (List (List ℕ))) → o ≡ frame_rest [] (cursor file last)
-            → (o >>= λ (bs : List (List ℕ)). accepted (labels_in file n (at + 4) ∷ stretch file (behind + 4) numbers ∷ bs)) ≡ frame_rest (optional n) (cursor file at)
-        chart_then (accepted bs) r = labels_then (accepted (stretch file (behind + 4) numbers ∷ bs)) (due_there file 4 numbers [] behind g (stretch file (behind + 4) numbers) last (accepted bs) b r)
-        chart_then (refused k p) r = labels_then (refused k p) (due_there file 4 numbers [] behind g (stretch file (behind + 4) numbers) last (refused k p) b r)
-
-        -- a chart that is not the last record
-        pub end_off : (k p : ℕ) → refused k p ≡ frame_rest [] (cursor file last) → refused k p ≡ frame_rest (optional n) (cursor file at)
-        end_off k p r = chart_then (refused k p) r
-
-        -- one that is
-        pub chart_last : accepted [] ≡ frame_rest [] (cursor file last) → accepted (labels_in file n (at + 4) ∷ stretch file (behind + 4) numbers ∷ []) ≡ frame_rest (optional n) (cursor file at)
-        chart_last r = chart_then (accepted []) r
-
--- for the function that frames it
-pub ruleset parts_steps = (rest_end, labels_off, labels_last, chart_off, end_off, chart_last)
-
--- the sheet of a plan and the bodies that the offsets name
-pub sheet_bodies : (file : List ℕ) (n : ℕ) (p : Plan) (parts : Parts) → sheet_with file n p parts ≡ sheet_of p (bodies_in file n parts)
-unfolding sheet_of
-sheet_bodies file n p Parts.Plan = refl
-sheet_bodies file n p (Parts.Labels labels) = refl
-sheet_bodies file n p (Parts.Chart labels chart) = ap (λ (l : List ℕ). charted p (labels_in file n labels) (chart_in l)) (sym (words-stretch file chart (2 + 2 * n) (4 + 4 * n) (omega arith)))
+-- the sheet of a plan and the parts that the offsets name
+pub sheet_parts : (file : List ℕ) (n : ℕ) (p : Plan) (parts : Parts) → count p ≡ n → sheet_with file n p parts ≡ sheet_of p (parts_in file p parts)
+unfolding sheet_of kinds_of body_of
+sheet_parts file n p Parts.Plan c = refl
+sheet_parts file n p (Parts.Labels labels) c = refl
+sheet_parts file n p (Parts.Chart labels chart) c = ap (λ (l : List ℕ). charted p (labels_in file p labels) (chart_in l)) (sym (words-stretch file chart (2 + 2 * n) (4 + 4 * count p) (omega arith)))
 
 -- ---- behind the kind 1 record
 module _ (file : List ℕ) (n : ℕ) where
@@ -115,14 +94,19 @@ module _ (file : List ℕ) (n : ℕ) where
   unfolding plan_from
   plan-refused k p l h e = rw (le-leb 5 n l, le-leb n 200 h, ← e)
 
+  -- as many contexts as it says
+  pub plan_count : (sizes : List ℕ) → count (plan_in file sizes n) ≡ n
+  unfolding lent
+  plan_count sizes = length-map-from (λ (u : ℕ). words_at file (body_at (starts_of sizes) u) (get_or sizes u 0)) 0 n
+
   module _ (sizes : List ℕ) (at : ℕ) (l : 5 ≤ n) (h : n ≤ 200) (e : accepted ((plan_in file sizes n).rings, cursor file at) ≡ frame_rings n n (cursor file 6)) where
-    pub plan-cut : (k p : ℕ) → refused k p ≡ frame_rest (optional n) (cursor file at) → refused k p ≡ plan_from file n
+    pub plan-cut : (k p : ℕ) → refused k p ≡ frame_rest (optional (plan_in file sizes n)) (cursor file at) → refused k p ≡ plan_from file n
     unfolding plan_from
     plan-cut k p f = rw (le-leb 5 n l, le-leb n 200 h, ← e, ← f)
 
-    pub plan_there : (parts : Parts) → accepted (bodies_in file n parts) ≡ frame_rest (optional n) (cursor file at) → accepted (sheet_with file n (plan_in file sizes n) parts) ≡ plan_from file n
+    pub plan_there : (parts : Parts) → accepted (parts_in file (plan_in file sizes n) parts) ≡ frame_rest (optional (plan_in file sizes n)) (cursor file at) → accepted (sheet_with file n (plan_in file sizes n) parts) ≡ plan_from file n
     unfolding plan_from
-    plan_there parts f = ap {B = Outcome Sheet} accepted (sheet_bodies file n (plan_in file sizes n) parts) ∙ rw (le-leb 5 n l, le-leb n 200 h, ← e, ← f)
+    plan_there parts f = ap {B = Outcome Sheet} accepted (sheet_parts file n (plan_in file sizes n) parts (plan_count sizes)) ∙ rw (le-leb 5 n l, le-leb n 200 h, ← e, ← f)
 
 -- ---- the whole file
 pub file_refused : (file : List ℕ) (k p : ℕ) → refused k p ≡ frame (cursor file 0) 1 (eqb 2) → refused k p ≡ decode file

@@ -1,14 +1,15 @@
 -- The layout of a lent file: what it says of the file in the terms of the model.
-use Rattle.std.specs.Prelude.{ℕ, ◌+◌, ◌*◌, List, [], ◌∷◌, ◌&&◌, leb, Result, Ok, Err}
+use Rattle.std.specs.Prelude.{ℕ, ◌+◌, ◌*◌, List, [], ◌∷◌, Bool, false, cond, ◌&&◌, leb, Result, Ok, Err}
 use Rattle.lists.specs.Spans.{stretch}
 use Rattle.model.specs.Outcome.{Outcome, accepted, ◌>>=◌, ◌>>◌, require}
-use Rattle.model.specs.Plan.{Plan, dart_count}
+use Rattle.model.specs.Plan.{Plan, count, labels_due}
 use Rattle.model.specs.Chart.{Chart}
-use Rattle.model.specs.File.{Sheet, opened, labelled, charted, frame_rings, frame_rest, optional, chart_in, sheet_of}
+use Rattle.model.specs.File.{Sheet, opened, labelled, charted, frame_rings, Due, Part, frame_rest, optional, chart_in, sheet_of}
 use Rattle.refusal.specs.declared.Refusal.{Refusal}
 use Rattle.refusal.specs.Refusals.{told}
 use Rattle.rings.specs.Tables.{starts_of}
 use Rattle.rings.specs.Lent.{words_at, lent}
+use Rattle.framing.specs.declared.Cursor as code
 use Rattle.framing.specs.declared.layout.Parts.{Parts}
 use Rattle.framing.specs.declared.layout.Layout.{Layout}
 use Rattle.framing.specs.Offsets.{cursor}
@@ -18,9 +19,9 @@ use Rattle.framing.specs.Parts as parts
 abbrev pub plan_in : List ℕ → List ℕ → ℕ → Plan
 plan_in file sizes n = lent (starts_of sizes) sizes file n
 
--- the label bytes of n contexts from an offset on
-abbrev pub labels_in : List ℕ → ℕ → ℕ → List ℕ
-labels_in file n at = stretch file at (dart_count n)
+-- the label bytes of a plan from an offset on
+abbrev pub labels_in : List ℕ → Plan → ℕ → List ℕ
+labels_in file p at = stretch file at (labels_due p)
 
 -- the chart of n contexts from an offset on
 abbrev pub chart_from : List ℕ → ℕ → ℕ → Chart
@@ -29,8 +30,8 @@ chart_from file n at = chart_in (words_at file at (2 + 2 * n))
 -- a plan with the labels and the chart that the offsets name
 abbrev pub sheet_with : List ℕ → ℕ → Plan → Parts → Sheet
 sheet_with file n p Parts.Plan = opened p
-sheet_with file n p (Parts.Labels labels) = labelled p (labels_in file n labels)
-sheet_with file n p (Parts.Chart labels chart) = charted p (labels_in file n labels) (chart_from file n chart)
+sheet_with file n p (Parts.Labels labels) = labelled p (labels_in file p labels)
+sheet_with file n p (Parts.Chart labels chart) = charted p (labels_in file p labels) (chart_from file n chart)
 
 -- the sheet that a layout finds in its file
 unfoldable pub laid : List ℕ → Layout → Sheet
@@ -44,17 +45,30 @@ sheet_in file r = do
 
 -- ---- what is still to be framed, for the steps of frame_file
 
--- the bodies of the records that follow the rings
-abbrev pub bodies_in : List ℕ → ℕ → Parts → List (List ℕ)
-bodies_in file n Parts.Plan = []
-bodies_in file n (Parts.Labels labels) = labels_in file n labels ∷ []
-bodies_in file n (Parts.Chart labels chart) = labels_in file n labels ∷ stretch file chart (4 + 4 * n) ∷ []
+-- the parts that follow the rings of a plan
+abbrev pub parts_in : List ℕ → Plan → Parts → List Part
+parts_in file p Parts.Plan = []
+parts_in file p (Parts.Labels labels) = (3, labels_in file p labels) ∷ []
+parts_in file p (Parts.Chart labels chart) = (3, labels_in file p labels) ∷ (4, stretch file chart (4 + 4 * count p)) ∷ []
 
--- the records that follow the rings, by their offsets
-abbrev pub parts_of : List ℕ → ℕ → Result Parts Refusal → Outcome (List (List ℕ))
-parts_of file n r = do
-  p ← told r
-  accepted (bodies_in file n p)
+-- the same, by their offsets, or the refusal
+abbrev pub parts_of : List ℕ → Plan → Result Parts Refusal → Outcome (List Part)
+parts_of file p r = do
+  q ← told r
+  accepted (parts_in file p q)
+
+-- a record that may not be skipped
+abbrev pub row : ℕ → ℕ → Due
+row kind size = record { kind = kind; size = size; skippable = false }
+
+-- what stands from here on, where the first row is due: its record and what follows it, or nothing at the end
+abbrev pub rest_of : code.Cursor → Due → List Due → Result Bool Refusal → Outcome (List Part)
+rest_of c d due r =
+    let there = do
+      parts ← frame_rest due (cursor c.file.now (c.at + 4 + d.size))
+      accepted ((d.kind, stretch c.file.now (c.at + 4) d.size) ∷ parts)
+    in
+    told r >>= λ (t : Bool). cond t there (accepted [])
 
 -- their offsets are small numbers
 abbrev pub NearParts : Result Parts Refusal → Type 0
@@ -66,5 +80,6 @@ unfoldable pub plan_from : List ℕ → ℕ → Outcome Sheet
 plan_from file n = do
   require (leb 5 n && leb n 200) 3 0
   (rs, d) ← frame_rings n n (cursor file 6)
-  bs ← frame_rest (optional n) d
-  accepted (sheet_of (record { rings = rs }) bs)
+  let p : Plan = record { rings = rs }
+  parts ← frame_rest (optional p) d
+  accepted (sheet_of p parts)

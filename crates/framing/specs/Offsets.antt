@@ -2,7 +2,7 @@
 use Rattle.std.specs.Prelude.{ℕ, ◌+◌, ◌-◌, ◌*◌, ◌<◌, ◌≤◌, ◌≡◌, List, [], Bool, cond, ◌&&◌, length, drop, leb, Option, Some, None, Result, Ok, Err}
 use Rattle.lists.specs.Spans.{stretch, padded}
 use Rattle.model.specs.Outcome.{Outcome, accepted, ◌>>=◌, ◌>>◌, require}
-use Rattle.model.specs.File.{Cursor, Framed}
+use Rattle.model.specs.File.{Cursor, Framed, Part}
 use Rattle.refusal.specs.declared.Refusal.{Refusal}
 use Rattle.refusal.specs.Refusals.{told}
 use Rattle.arrays.specs.Parts.{word_of}
@@ -39,7 +39,7 @@ abbrev pub due_of : code.Cursor → ℕ → Result (Unit {0}) Refusal → Outcom
 due_of c size r = told r >> accepted (stretch c.file.now (c.at + 4) size, cursor c.file.now (c.at + 4 + size))
 
 -- the end of the file, where no record is due any more
-abbrev pub end_of : Result (Unit {0}) Refusal → Outcome (List (List ℕ))
+abbrev pub end_of : Result (Unit {0}) Refusal → Outcome (List Part)
 end_of r = told r >> accepted []
 
 -- a ring record by the number of its entries

@@ -2,7 +2,7 @@
 
 ghost use Rattle.std.specs.Prelude.{◌≡◌, ◌≤◌};
 ghost use Rattle.lists.specs.Spans.{stretch, padded};
-ghost use Rattle.model.specs.Plan.{dart_count};
+ghost use Rattle.model.specs.Plan.{Plan, count, labels_due};
 ghost use Rattle.framing.specs.Parts.{Near, Near-prop};
 
 // What follows the plan: nothing, labels, or labels and a chart. Each number is an offset: of the label bytes, and of the chart's numbers.
@@ -26,10 +26,11 @@ pub struct Layout {
 }
 
 impl Layout {
-    // How many darts the plan has where it keeps the rules, and so how many labels follow it.
-    pub fn darts(&self) -> usize
-        ensures { result ≡ dart_count self.now.n }
+    // How many labels the plan takes.
+    pub fn labels_due(&self) -> usize
+        ensures value { (p : Plan) → count p ≡ self.now.n → result ≡ labels_due p }
+        ensures upper_bound { result ≤ 1186 }
     {
-        rings::dart_count(self.n)
+        rings::labels_due(self.n as u16)
     }
 }

@@ -3,13 +3,14 @@
 
 mod layout;
 
-ghost use Rattle.std.specs.Prelude.{◌≡◌, [], Bool, ℕ, ◌<◌, ◌≤◌, eqb};
+ghost use Rattle.std.specs.Prelude.{◌≡◌, List, [], ◌∷◌, Bool, ℕ, ◌<◌, ◌≤◌, eqb};
 ghost use Rattle.lists.specs.Tests.{empty};
-ghost use Rattle.model.specs.File.{frame, fits_ring, frame_rings, frame_rest, optional, decode};
+ghost use Rattle.model.specs.Plan.{Plan, count};
+ghost use Rattle.model.specs.File.{frame, fits_ring, frame_rings, Due, frame_rest, optional, decode};
 ghost use Rattle.records.specs.Records.{number_of};
 ghost use Rattle.arrays.specs.Parts.{word_of};
 ghost use Rattle.framing.specs.Offsets.{cursor, here, frame_at, record_of, due_of, end_of, ring_of, RingBelow, walk_of, WalkBounds};
-ghost use Rattle.framing.specs.Layouts.{parts_of, NearParts, plan_from, sheet_in};
+ghost use Rattle.framing.specs.Layouts.{row, rest_of, parts_of, NearParts, plan_from, sheet_in};
 
 pub use layout::{Layout, Parts};
 use records::Record;
@@ -108,30 +109,37 @@ impl<'a> Cursor<'a> {
         }
     }
 
-    // What stands behind the rings, which end here: the end, or labels; behind labels the end, or a chart; behind a chart the end.
-    #[tactic(auto, using(crate::proofs::Layouts::parts_steps))]
-    fn parts(&self, n: usize) -> Result<Parts, Refusal>
-        requires le_n { 5 ≤ n }
-        requires n_bound { n ≤ 200 }
-        requires at_bound { self.now.at ≤ 80406 }
-        ensures value { parts_of self.now.file.now n result ≡ frame_rest (optional n) (here self.now) }
-        ensures near { NearParts result }
+    // A record of one kind and one body size is due here, if any: is it there? No at the end of the file.
+    fn has(&self, kind: Record, size: usize) -> Result<bool, Refusal>
+        ensures { (due : List Due) → rest_of self.now (row (number_of kind) size) due result ≡ frame_rest (row (number_of kind) size ∷ due) (here self.now) }
     {
         if self.is_end() {
+            return Ok(false);
+        }
+        self.due(kind, size)?;
+        Ok(true)
+    }
+
+    // What stands behind the rings of a plan of n contexts, which end here: labels, if any; behind labels a chart, if any; behind a chart the end.
+    fn parts(&self, n: usize) -> Result<Parts, Refusal>
+        requires n_bound { n ≤ 200 }
+        requires at_bound { self.now.at ≤ 80406 }
+        ensures value { (p : Plan) → count p ≡ n → parts_of self.now.file.now p result ≡ frame_rest (optional p) (here self.now) }
+        ensures near { NearParts result }
+    {
+        let due = rings::labels_due(n as u16);
+        if !self.has(Record::Labels, due)? {
             return Ok(Parts::Plan);
         }
-        let darts = rings::dart_count(n);
-        self.due(Record::Labels, darts)?;
         let labels = self.at + 4;
         let behind = Cursor {
-            at: labels + darts,
+            at: labels + due,
             ..*self
         };
-        if behind.is_end() {
+        let numbers = 4 + 4 * n;
+        if !behind.has(Record::Chart, numbers)? {
             return Ok(Parts::Labels { labels });
         }
-        let numbers = 4 + 4 * n;
-        behind.due(Record::Chart, numbers)?;
         let chart = behind.at + 4;
         let last = Cursor {
             at: chart + numbers,

@@ -7,7 +7,7 @@ use mathlib.Core.Logic.{◌⊎◌, inl, inr}
 use native.Mathlib.Omega.{arith}
 use lib.ListN.{length, length-map}
 use Rattle.lists.specs.Parts.{steps, cycle}
-use Rattle.lists.proofs.Sums.{total, total-map, total-most}
+use Rattle.lists.proofs.Sums.{total, total-map}
 use Rattle.lists.proofs.Cycles.{cycle-map, length-cycle}
 use Rattle.lists.proofs.Ranges.{lt-or-le}
 use Rattle.geometry.specs.Points.{Position, Left}
@@ -49,10 +49,7 @@ module _ {A : Type 0} (label : A × A → ℕ) (at : A → Position) where
   abbrev pub corner_angles : List A → ℕ
   corner_angles walk = total between (cycle (cycle walk))
 
-  -- CORNER TURNS: the angles of a turning walk of k darts are at most k quarters, and 2k up to whole turns. So of three darts they are 2.
-  pub angles_most : (walk : List A) → Turning label at walk → corner_angles walk ≤ length walk
-  angles_most walk t = let h = total-most between (cycle (cycle walk)) t.corners in omega (arith, length-cycle (cycle walk), length-cycle walk)
-
+  -- CORNER TURNS: the angles of a turning walk of k darts are 2k quarters up to whole turns. So of three darts, each at most a quarter, they are 2.
   pub angles_sum : (walk : List A) → Turning label at walk → (corner_angles walk + 2 * length walk) % 4 ≡ 0
   angles_sum walk t =
       let labels = map label (cycle walk) in

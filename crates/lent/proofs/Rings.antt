@@ -1,10 +1,12 @@
 -- The ring of a context as it stands in a lent file, look-ups in it, and how many entries all rings have.
-use Prim.Native.Nat.{ℕ, zero, suc, ◌+◌, ◌*◌, ◌/◌, ◌≤◌, ◌<◌}
+use Prim.Native.Nat.{ℕ, zero, suc, ◌+◌, ◌-◌, ◌*◌, ◌^◌, min, ◌≤◌, ◌<◌}
 use mathlib.Core.Path.{◌≡◌, refl, sym, ap, ◌∙◌}
 use mathlib.Core.List.{List, map}
+use mathlib.Core.Logic.{◌⊎◌, inl, inr}
 use native.Mathlib.Omega.{arith}
 use lib.ListN.{length, get_or}
 use Rattle.lists.specs.Spans.{span}
+use Rattle.lists.proofs.Ranges.{lt-or-le}
 use Rattle.lists.proofs.Spans.{past_word}
 use Rattle.lists.proofs.Stretches.{span_whole}
 use Rattle.model.specs.Plan.{count, neighbour, entries, ring}
@@ -27,10 +29,13 @@ get_or-words-at file at zero i h = absurd (omega arith)
 get_or-words-at file at (suc k) zero h = ap (word_of file) (omega arith)
 get_or-words-at file at (suc k) (suc i) h = get_or-words-at file (at + 2) k i (omega arith) ∙ ap (word_of file) (omega arith)
 
--- where the heads of the rings before u's alone reach past the file's end, 0 is read
-pub word-past : (file starts : List ℕ) (u i : ℕ) → length file / 4 < u → 0 ≡ word_of file (body_at starts u + 2 * i)
-unfolding body_at
-word-past file starts u i h = past_word file (body_at starts u + 2 * i) (omega arith)
+-- a number past the file's end is read as 0, so that its offset may be cut at the highest number
+pub word-near : (file : List ℕ) (at k : ℕ) → at ≡ min k (2 ^ 64 - 1) → length file < 2 ^ 64 - 1 → word_of file at ≡ word_of file k
+word-near file at k e h = go (lt-or-le k (2 ^ 64 - 1))
+  where
+    go : (k < 2 ^ 64 - 1) ⊎ (2 ^ 64 - 1 ≤ k) → word_of file at ≡ word_of file k
+    go (inl l) = ap (word_of file) (omega arith)
+    go (inr l) = sym (past_word file at (omega arith)) ∙ past_word file k (omega arith)
 
 -- the words from each body on
 pub lent_reads : (starts file : List ℕ) → Reads (λ (u k : ℕ). words_at file (body_at starts u) k) (λ (u i : ℕ). word_of file (body_at starts u + 2 * i))

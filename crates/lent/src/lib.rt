@@ -35,10 +35,7 @@ impl LentRings<'_> {
         requires { i < 2 ^ 8 }
         ensures { result ≡ get_or self.now.file.now (body_at self.now.starts.now u + 2 * i) 0 + 256 * get_or self.now.file.now (body_at self.now.starts.now u + 2 * i + 1) 0 }
     {
-        if self.file.len() / 4 < u {
-            return 0;
-        }
-        let at = 10 + 4 * u + 2 * arrays::num(self.starts, u) + 2 * i;
+        let at = rings::entry_offset(u, arrays::num(self.starts, u) + i);
         arrays::word_at(self.file, at)
     }
 

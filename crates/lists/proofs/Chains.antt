@@ -25,7 +25,8 @@ use Rattle.lists.specs.Spans.{stretch, span}
 
 -- what `any` gives of the numbers from a up to e, where the closure is a test that leaves what it captures as it is
 pub any_in_range : {F : Type 0} {g : Mut F (ℕ × Unit {0}) Bool} (test : ℕ → Bool) (a e : ℕ) {u : Range ℕ} {f : F} {r : Bool}
-    → (xs : List ℕ) × (o : Option ℕ) × (j : F) × YieldsThen nat_range_steps (record { start = a; end = e }) xs o u × FoldsTo (λ p x q. Called g p (x, tt) false q) f xs j × MatchOption o (r ≡ false) (λ x. (r ≡ true) × ((h : F) × Called g j (x, tt) true h))
+    → (xs : List ℕ) × (o : Option ℕ) × (j : F) × YieldsThen nat_range_steps (record { start = a; end = e }) xs o u × FoldsTo (λ p x q. Called g p (x, tt) false q) f xs j
+    × MatchOption o (r ≡ false) (λ x. (r ≡ true) × ((h : F) × Called g j (x, tt) true h))
     → ((x : ℕ) (b : Bool) (q : F) → Called g f (x, tt) b q → (q ≡ f) × (b ≡ test x))
     → r ≡ list_any test (range_with_len a (e - a))
 any_in_range test a e {u} {f} {r} ran told = any_from_yields_List test u f r ran (YieldsList-from_range a e (e - a) refl refl) told
@@ -42,7 +43,8 @@ any_some q a (suc k) = go (q a) (any_some q (a + 1) k ∙ ap (λ (b : ℕ). some
 
 -- what `any` gives of the numbers from a up to e: whether some of them passes
 pub some_in_range : {F : Type 0} {g : Mut F (ℕ × Unit {0}) Bool} (test : ℕ → Bool) (a e : ℕ) {u : Range ℕ} {f : F} {r : Bool}
-    → (xs : List ℕ) × (o : Option ℕ) × (j : F) × YieldsThen nat_range_steps (record { start = a; end = e }) xs o u × FoldsTo (λ p x q. Called g p (x, tt) false q) f xs j × MatchOption o (r ≡ false) (λ x. (r ≡ true) × ((h : F) × Called g j (x, tt) true h))
+    → (xs : List ℕ) × (o : Option ℕ) × (j : F) × YieldsThen nat_range_steps (record { start = a; end = e }) xs o u × FoldsTo (λ p x q. Called g p (x, tt) false q) f xs j
+    × MatchOption o (r ≡ false) (λ x. (r ≡ true) × ((h : F) × Called g j (x, tt) true h))
     → ((x : ℕ) (b : Bool) (q : F) → Called g f (x, tt) b q → (q ≡ f) × (b ≡ test x))
     → r ≡ some_within test a e
 some_in_range test a e ran told = any_in_range test a e ran told ∙ any_some test a (e - a)

@@ -15,14 +15,6 @@ use Rattle.lists.specs.Folds.{each, through, down, some_of, some_within}
 pub record Goes {A : Type 0} (step : ℕ → A → A) (a e : ℕ) (s₀ : A) (i : ℕ) (s : A) : Type 0 where
   pub same : through step a e s₀ ≡ through step i e s
 
--- before the loop
-pub goes_start : {A : Type 0} {step : ℕ → A → A} {a e : ℕ} {s₀ : A} → Goes step a e s₀ a s₀
-goes_start = record { same = refl }
-
--- before the loop, from equal parts
-pub goes_from : {A : Type 0} {step : ℕ → A → A} {a e i : ℕ} {s₀ s : A} → i ≡ a → s ≡ s₀ → Goes step a e s₀ i s
-goes_from q e = record { same = rw (q, e) }
-
 module _ {A : Type 0} {step : ℕ → A → A} {a e i : ℕ} {s₀ s : A} (inv : Goes step a e s₀ i s) where
   -- after a turn of the loop
   pub goes_on : {s' : A} → i < e → s' ≡ step i s → Goes step a e s₀ (i + 1) s'
@@ -58,10 +50,6 @@ module _ {A : Type 0} {step : ℕ → A → A} {n k : ℕ} {s₀ s : A} (inv : S
 -- ---- for i in a..e { if p(i) { return true; } } false
 pub record Seeks (p : ℕ → Bool) (a e i : ℕ) : Type 0 where
   pub same : some_within p a e ≡ some_within p i e
-
--- before the loop
-pub seeks_start : {p : ℕ → Bool} {a e : ℕ} → Seeks p a e a
-seeks_start = record { same = refl }
 
 module _ {p : ℕ → Bool} {a e i : ℕ} (inv : Seeks p a e i) where
   -- where the number passes

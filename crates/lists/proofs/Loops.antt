@@ -5,7 +5,7 @@ use mathlib.Core.Path.{◌≡◌, refl, sym, ap, ◌∙◌}
 use mathlib.Core.List.{List, [], ◌∷◌, ◌++◌, map, append-nil}
 use mathlib.Core.Bool.{Bool, true, false, cond}
 use native.Mathlib.Omega.{arith}
-use lib.ListN.{length, set, length-append, replicate, length-replicate}
+use lib.ListN.{length, set, length-append, replicate}
 use lib.Seq.{set-append_seam, append_snoc}
 use Rattle.lists.specs.Ranges.{from, first_from, lowest}
 use Rattle.lists.specs.Spans.{zeros, padded}

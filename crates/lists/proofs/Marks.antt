@@ -33,7 +33,10 @@ pub record Marks (k : ℕ) (l : List ℕ) (e i : ℕ) (b : List ℕ) : Type 0 wh
 
 pub marks-start : {k : ℕ} {l : List ℕ} {e : ℕ} {b : List ℕ} → b ≡ replicate k 0 → Marks k l e 0 b
 unfolding zeros
-marks-start {k} {l} {e} {b} q = record { long = ap length q ∙ length-replicate k 0; same = sym (rw (of_none (marked b) (span l 0 e) (λ a m. ne_eqb (get_or b a 0) 1 (λ one. let z = ap (λ (c : List ℕ). get_or c a 0) q ∙ get_or-zeros k a in omega arith)))) }
+marks-start {k} {l} {e} {b} q = record {
+  long = ap length q ∙ length-replicate k 0;
+  same = sym (rw (of_none (marked b) (span l 0 e) (λ a m. ne_eqb (get_or b a 0) 1 (λ one. let z = ap (λ (c : List ℕ). get_or c a 0) q ∙ get_or-zeros k a in omega arith))));
+}
 
 module _ {k : ℕ} {l : List ℕ} {e i : ℕ} {b : List ℕ} (inv : Marks k l e i b) where
   -- the next entry, and those after it

@@ -1,10 +1,10 @@
 -- Spans: how they are gone through entry by entry, which parts of a list they are, and what stands outside an array.
 use Prim.Native.Nat.{ℕ, zero, suc, ◌+◌, ◌-◌, ◌*◌, ◌≤◌, ◌<◌}
 use mathlib.Core.Path.{◌≡◌, refl, sym, ap, ◌∙◌}
-use mathlib.Core.List.{List, [], ◌∷◌}
+use mathlib.Core.List.{List, [], ◌∷◌, ◌++◌}
 use native.Mathlib.Omega.{arith}
 use native.Mathlib.Numerals.{add-one}
-use lib.ListN.{length, get_or, take, drop, get_or-eq_default, length-replicate}
+use lib.ListN.{length, get_or, take, drop, get_or-eq_default, length-replicate, replicate-append-replicate}
 use lib.Seq.{drop-cons}
 use Rattle.lists.specs.Spans.{stretch, span, zeros}
 
@@ -41,6 +41,11 @@ get_or-stretch l i (suc k) (suc j) h = get_or-stretch l (suc i) k j (omega arith
 pub length-zeros : (k : ℕ) → length (zeros k) ≡ k
 unfolding zeros
 length-zeros k = length-replicate k 0
+
+-- zeros and zeros after them
+pub zeros-append : (k m : ℕ) → zeros k ++ zeros m ≡ zeros (k + m)
+unfolding zeros
+zeros-append k m = replicate-append-replicate k m 0
 
 -- inside a list it does not matter what is read outside
 pub get_or-inside : (l : List ℕ) (i a b : ℕ) → i < length l → get_or l i a ≡ get_or l i b

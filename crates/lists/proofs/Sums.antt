@@ -1,12 +1,11 @@
 -- Sums over the entries of a list.
-use Prim.Native.Nat.{ℕ, ◌+◌, ◌≤◌}
+use Prim.Native.Nat.{ℕ, ◌+◌}
 use mathlib.Core.Path.{◌≡◌, refl, sym, ap, ap₂, ◌∙◌}
 use mathlib.Core.List.Memᴰ
 use mathlib.Core.List.{List, [], ◌∷◌, ◌++◌, map, Memᴰ}
 use mathlib.Core.Logic.{◌⊎◌, inl, inr}
 use mathlib.Core.Bool.{Bool, true, false, cond}
 use native.Mathlib.Omega.{arith}
-use lib.ListN.{length}
 use Rattle.lists.specs.Tests.{tally}
 use Rattle.lists.specs.Parts.{concat}
 use Rattle.lists.proofs.Bools.{both}
@@ -34,12 +33,6 @@ module _ {A : Type 0} where
   unfolding total
   total-add f g [] = refl
   total-add f g (a ∷ l) = omega (arith, total-add f g l)
-
-  -- each term at most 1
-  pub total-most : (f : A → ℕ) (l : List A) → ((a : A) → Memᴰ a l → f a ≤ 1) → total f l ≤ length l
-  unfolding total
-  total-most f [] h = omega arith
-  total-most f (a ∷ l) h = let x = h a (Memᴰ.head refl) in let y = total-most f l (λ b i. h b (Memᴰ.tail i)) in omega arith
 
   -- a tally is a sum of ones
   pub tally-total : (t : A → Bool) (l : List A) → tally t l ≡ total (λ a. cond (t a) 1 0) l

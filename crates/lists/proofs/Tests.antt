@@ -100,3 +100,8 @@ repeats-append (k ∷ l) m a b c =
     let (a₀, a₁) = or_no (member k l) (repeats l) a in
     let (c₀, c₁) = or_no (member k m) (any (λ (w : ℕ). member w m) l) c in
     no_or (member k (l ++ m)) (repeats (l ++ m)) (any_append (eqb k) l m ∙ no_or (member k l) (member k m) a₀ c₀) (repeats-append l m a₁ b c₁)
+
+-- no repeat, and so none in the second part
+pub repeats-right : (l m : List ℕ) → repeats (l ++ m) ≡ false → repeats m ≡ false
+repeats-right [] m e = e
+repeats-right (a ∷ l) m e = repeats-right l m (or_no (member a (l ++ m)) (repeats (l ++ m)) e).1

@@ -12,7 +12,7 @@ use Rattle.lists.specs.Tests.{any, all, empty, member, repeats}
 use Rattle.lists.specs.Ranges.{from}
 use Rattle.lists.specs.Parts.{concat, squeeze, squeeze_after}
 use Rattle.lists.proofs.Bools.{and_yes, or_no}
-use Rattle.lists.proofs.Tests.{none_of, all_of}
+use Rattle.lists.proofs.Tests.{none_of}
 use Rattle.lists.proofs.Ranges.{from-mem}
 use Rattle.lists.proofs.Joins.{join_mem}
 use Rattle.model.specs.Plan.{Plan, adjacent, border}
@@ -123,10 +123,6 @@ module _ (p : Plan) (s : State) (i j : ℕ) (o : Positions s i j) (e : eligible 
       let (a, b) = and_yes (all something (from (suc i) (j - suc i))) (not bad) ab in
       let (x, y) = or_no (repeats l || any border l) seen (not-true bad b) in
       (a, (or_no (repeats l) (any border l) x).1, y, c)
-
-  -- each position between has something below
-  pub something-below : (k : ℕ) → i < k → k < j → empty (below p f k) ≡ false
-  something-below k a b = not-true (empty (below p f k)) (all_of something (from (suc i) (j - suc i)) parts.0 k (from-mem (suc i) (j - suc i) k (omega arith) (omega arith)))
 
   -- what is below is listed
   pub below-listed : (k c : ℕ) → i < k → k < j → Memᴰ c (below p f k) → Memᴰ c l

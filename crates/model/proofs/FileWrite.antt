@@ -1,10 +1,11 @@
 -- What is written is read back: the file of a sheet, decoded, is the sheet.
 use Prim.Native.Nat.{ℕ, suc, ◌+◌, ◌-◌, ◌*◌, ◌%◌, ◌≤◌, ◌<◌}
-use mathlib.Core.Path.{◌≡◌, refl, sym, ap, ◌∙◌}
+use mathlib.Core.Path.{◌≡◌, refl, sym, ap, ◌∙◌, subst}
 use mathlib.Core.List.{List, [], ◌∷◌, ◌++◌, map, append_assoc, append-nil, Memᴰ}
-use mathlib.Core.Bool.{Bool, true, false}
+use mathlib.Core.Bool.{Bool, true, false, and-false}
+use mathlib.Core.Logic.{◌⊎◌, inl, inr}
 use native.Mathlib.Omega.{arith}
-use lib.ListN.{length, length-append}
+use lib.ListN.{length, drop, length-append}
 use lib.Seq.{take-append_seam, drop-append_seam}
 use lib.Dec.{eqb, leb}
 use borrow.Author.Tests.{eq-eqb, le-leb}
@@ -13,9 +14,9 @@ use Rattle.lists.specs.Parts.{pairs}
 use Rattle.lists.specs.Words.{word, words, bytes}
 use Rattle.lists.proofs.Words.{rejoined, words-bytes, word_bytes, length-bytes}
 use Rattle.model.specs.Outcome.{accepted}
-use Rattle.model.specs.Plan.{Plan, count, dart_count}
+use Rattle.model.specs.Plan.{Plan, count, labels_due}
 use Rattle.model.specs.Chart.{Chart}
-use Rattle.model.specs.File.{Sheet, fresh, opened, labelled, charted, frame, fits_ring, frame_rings, frame_rest, optional, chart_in, sheet_of, decode, entry, points, chart_out, rings_out, plan_out, encode}
+use Rattle.model.specs.File.{Sheet, fresh, opened, labelled, charted, frame, fits_ring, frame_rings, Due, Part, frame_rest, optional, kinds_of, body_of, chart_in, sheet_of, decode, entry, points, chart_out, rings_out, plan_out, encode}
 
 -- a record: a head of 4 bytes, and its body
 pub length-entry : (kind : ℕ) (body : List ℕ) → length (entry kind body) ≡ 4 + length body
@@ -30,7 +31,7 @@ pub record PlanFits (p : Plan) : Type 0 where
 
 -- a label for each dart
 abbrev pub LabelsFit : Plan → List ℕ → Type 0
-LabelsFit p ls = length ls ≡ dart_count (count p)
+LabelsFit p ls = length ls ≡ labels_due p
 
 -- a point for each context
 pub record ChartFits (p : Plan) (c : Chart) : Type 0 where
@@ -72,41 +73,62 @@ rings_framed n at (r ∷ rs) rest h =
     let (e, q) = rings_framed n (at + 2 + (2 + length (bytes r))) rs rest (λ t m. h t (Memᴰ.tail m)) in
     (e, rw (append_assoc, frame-entry at 2 (bytes r) (rings_out rs ++ rest) (fits_ring n) (rw (even, few)), q, words-bytes))
 
--- The bodies of the records after the rings: their sizes are those that are due, in order, and they may stop early
-abbrev pub Due : List (ℕ × ℕ) → List (List ℕ) → Type 0
-Due due [] = Unit {0}
-Due [] (b ∷ bs) = ⊥
-Due (d ∷ due) (b ∷ bs) = (d.1 ≡ length b) × Due due bs
+-- The parts after the rings stand in the order that is due: each has its row's kind and size, and only rows that may be skipped are. They may stop early.
+abbrev pub InOrder : List Due → List Part → Type 0
+InOrder due [] = Unit {0}
+InOrder [] (q ∷ parts) = ⊥
+InOrder (d ∷ due) (q ∷ parts) = ((d.kind ≡ q.0) × (d.size ≡ length q.1) × InOrder due parts) ⊎ ((d.skippable ≡ true) × (eqb q.0 d.kind ≡ false) × InOrder due (q ∷ parts))
 
 -- those records, written
-abbrev pub rest_out : List (ℕ × ℕ) → List (List ℕ) → List ℕ
-rest_out due [] = []
-rest_out [] (b ∷ bs) = []
-rest_out (d ∷ due) (b ∷ bs) = entry d.0 b ++ rest_out due bs
+abbrev pub parts_out : List Part → List ℕ
+parts_out [] = []
+parts_out (q ∷ parts) = entry q.0 q.1 ++ parts_out parts
 
 not-empty : (kind : ℕ) (body rest : List ℕ) → empty (entry kind body ++ rest) ≡ false
 unfolding entry bytes
 not-empty kind body rest = refl
 
-rest_framed : (due : List (ℕ × ℕ)) (bs : List (List ℕ)) (at : ℕ) → Due due bs → frame_rest due (record { at = at; rest = rest_out due bs }) ≡ accepted bs
+-- a record's kind is read where it stands
+kind-out : (kind : ℕ) (body rest : List ℕ) → word (drop 2 (entry kind body ++ rest)) ≡ kind
+unfolding entry bytes word
+kind-out kind body rest = rejoined kind
+
+-- a record of the first row
+there_framed : (d : Due) (due : List Due) (b : List ℕ) (parts : List Part) (at : ℕ) → d.size ≡ length b
+    → frame_rest due (record { at = at + 2 + (2 + length b); rest = parts_out parts }) ≡ accepted parts
+    → frame_rest (d ∷ due) (record { at = at; rest = entry d.kind b ++ parts_out parts }) ≡ accepted ((d.kind, b) ∷ parts)
+unfolding frame_rest
+there_framed d due b parts at s e =
+    rw (not-empty d.kind b (parts_out parts), kind-out d.kind b (parts_out parts), eq-eqb d.kind d.kind refl, and-false, frame-entry at d.kind b (parts_out parts) (eqb d.size) (eq-eqb d.size (length b) s), e)
+
+-- one of a later row
+skipped_framed : (d : Due) (due : List Due) (q : Part) (parts : List Part) (at : ℕ) → d.skippable ≡ true → eqb q.0 d.kind ≡ false
+    → frame_rest due (record { at = at; rest = parts_out (q ∷ parts) }) ≡ accepted (q ∷ parts)
+    → frame_rest (d ∷ due) (record { at = at; rest = parts_out (q ∷ parts) }) ≡ accepted (q ∷ parts)
+unfolding frame_rest
+skipped_framed d due q parts at s n e = rw (not-empty q.0 q.1 (parts_out parts), kind-out q.0 q.1 (parts_out parts), s, n, e)
+
+rest_framed : (due : List Due) (parts : List Part) (at : ℕ) → InOrder due parts → frame_rest due (record { at = at; rest = parts_out parts }) ≡ accepted parts
 unfolding frame_rest
 rest_framed [] [] at h = refl
-rest_framed [] (b ∷ bs) at h = absurd h
+rest_framed [] (q ∷ parts) at h = absurd h
 rest_framed (d ∷ due) [] at h = refl
-rest_framed (d ∷ due) (b ∷ bs) at h =
-    rw (not-empty d.0 b (rest_out due bs), frame-entry at d.0 b (rest_out due bs) (eqb d.1) (eq-eqb d.1 (length b) h.0), rest_framed due bs (at + 2 + (2 + length b)) h.1)
+rest_framed (d ∷ due) (q ∷ parts) at (inl (k, s, h)) =
+    subst (λ (j : ℕ). frame_rest (d ∷ due) (record { at = at; rest = entry j q.1 ++ parts_out parts }) ≡ accepted ((j, q.1) ∷ parts)) k
+    (there_framed d due q.1 parts at s (rest_framed due parts (at + 2 + (2 + length q.1)) h))
+rest_framed (d ∷ due) (q ∷ parts) at (inr (s, n, h)) = skipped_framed d due q parts at s n (rest_framed due (q ∷ parts) at h)
 
--- a plan and the bodies after its rings come back from their file
-file_decoded : (p : Plan) (bs : List (List ℕ)) → PlanFits p → Due (optional (count p)) bs → decode (plan_out p ++ rest_out (optional (count p)) bs) ≡ accepted (sheet_of p bs)
+-- a plan and the parts after its rings come back from their file
+file_decoded : (p : Plan) (parts : List Part) → PlanFits p → InOrder (optional p) parts → decode (plan_out p ++ parts_out parts) ≡ accepted (sheet_of p parts)
 unfolding decode plan_out
-file_decoded p bs f h =
+file_decoded p parts f h =
     let n = count p in
     let head = bytes (n ∷ []) in
     let size : eqb 2 (length head) ≡ true = rw (length-bytes (n ∷ [])) refl in
     let low : leb 5 n ≡ true = le-leb 5 n f.low in
     let high : leb n 200 ≡ true = le-leb n 200 f.high in
-    let (e, q) = rings_framed n (0 + 2 + (2 + length head)) p.rings (rest_out (optional n) bs) f.short in
-    rw (append_assoc, frame-entry 0 1 head (rings_out p.rings ++ rest_out (optional n) bs) (eqb 2) size, word_bytes n [], low, high, q, rest_framed (optional n) bs e h)
+    let (e, q) = rings_framed n (0 + 2 + (2 + length head)) p.rings (parts_out parts) f.short in
+    rw (append_assoc, frame-entry 0 1 head (rings_out p.rings ++ parts_out parts) (eqb 2) size, word_bytes n [], low, high, q, rest_framed (optional p) parts e h)
 
 -- points that were written two by two come apart
 xs_back : (xs ys : List ℕ) → length xs ≡ length ys → map (λ (t : ℕ × ℕ). t.0) (pairs (points xs ys)) ≡ xs
@@ -143,11 +165,11 @@ length-chart p c f =
 
 -- What was written is read back: no sheet is lost in its file
 pub written_read : (s : Sheet) → Fits s → decode (encode s) ≡ accepted s
-unfolding encode sheet_of optional
+unfolding encode sheet_of optional kinds_of body_of
 written_read fresh f = absurd f
 written_read (opened p) f = rw append-nil at (file_decoded p [] f tt)
-written_read (labelled p ls) f = rw (append-nil (entry 3 ls)) at (file_decoded p (ls ∷ []) f.0 (sym f.1, tt))
+written_read (labelled p ls) f = rw (append-nil (entry 3 ls)) at (file_decoded p ((3, ls) ∷ []) f.0 (inl (refl, sym f.1, tt)))
 written_read (charted p ls c) f =
     let k = bytes (chart_out c) in
-    let q = file_decoded p (ls ∷ k ∷ []) f.0 (sym f.1, (length-chart p c f.2, tt)) in
+    let q = file_decoded p ((3, ls) ∷ (4, k) ∷ []) f.0 (inl (refl, sym f.1, inl (refl, length-chart p c f.2, tt))) in
     rw (append-nil (entry 4 k), ← append_assoc, chart_back p c f.2) at q

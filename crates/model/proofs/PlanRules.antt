@@ -1,5 +1,5 @@
 -- The plan rules 4 to 9 read as statements about neighbours: they pass exactly where these hold.
-use Prim.Native.Nat.{ℕ, ◌+◌, ◌-◌, ◌*◌, ◌%◌, ◌≤◌, ◌<◌}
+use Prim.Native.Nat.{ℕ, ◌+◌, ◌-◌, ◌%◌, ◌≤◌, ◌<◌}
 use mathlib.Core.Path.{◌≡◌, refl, sym, subst, ◌∙◌}
 use mathlib.Core.List.Memᴰ
 use mathlib.Core.List.{List, [], ◌∷◌, ◌++◌, Memᴰ}
@@ -178,15 +178,3 @@ module _ (p : Plan) where
 
     pub border-next : (u : ℕ) → u < 4 → adjacent p u ((u + 1) % 4) ≡ true
     border-next u h = mem-adjacent p u ((u + 1) % 4) (subst (Memᴰ ((u + 1) % 4)) (sym (border_ring u h)) (Memᴰ.head refl))
-
-    pub border_last : (u : ℕ) → u < 4 → adjacent p u ((u + 3) % 4) ≡ true
-    border_last u h =
-        mem-adjacent p u ((u + 3) % 4) (subst (Memᴰ ((u + 3) % 4)) (sym (border_ring u h)) (Memᴰ.tail (Memᴰ.append_right (inner_ring u) (Memᴰ.head refl))))
-
-    -- there are at least the four border contexts
-    pub four : 4 ≤ count p
-    four = s.inside 0 3 (border_last 0 (omega arith))
-
-    -- 7 without subtraction
-    pub total-sum : entry_count p + 14 ≡ 6 * count p
-    total-sum = omega (arith, four, s.total)

@@ -2,22 +2,23 @@
 use Prim.Native.Nat.{ℕ, zero, suc, ◌+◌, ◌*◌, ◌<◌}
 use mathlib.Core.Path.{◌≡◌, refl, sym, ap, ◌∙◌, subst}
 use mathlib.Core.List.{List, [], ◌∷◌, ◌++◌, append_assoc}
-use mathlib.Core.Bool.{Bool, true, false}
+use mathlib.Core.Bool.{Bool, true, false, cond}
 use native.Mathlib.Omega.{arith}
 use lib.ListN.{length, get_or, take, drop, length-append, get_or-eq_default}
 use lib.Seq.{drop-append-add, take_at}
 use lib.Dec.{ltb}
 use borrow.Author.Tests.{ltb-true, ltb-false}
+use Rattle.lists.specs.Tests.{member}
 use Rattle.lists.specs.Parts.{concat}
 use Rattle.lists.specs.Words.{words, bytes}
 use Rattle.lists.proofs.Words.{Bytes, length-bytes, words-bytes}
 use Rattle.model.specs.Outcome.{accepted, passed, ◌>>◌, require}
 use Rattle.model.specs.Plan.{Plan, count, entries}
 use Rattle.model.specs.Labels.{start}
-use Rattle.model.specs.File.{Sheet, sheet_of, decode, entry, rings_out, plan_out, optional}
+use Rattle.model.specs.File.{Sheet, opened, labelled, charted, Part, kinds_of, body_of, chart_in, sheet_of, decode, entry, rings_out, plan_out}
 use Rattle.model.specs.Calls.{plan_of, judge, open_call, ring_start, ring_call, ring_part}
 use Rattle.model.proofs.Outcomes.{same-value, bind_accepted, then_accepted, require-passed}
-use Rattle.model.proofs.FileWrite.{rest_out, length-entry}
+use Rattle.model.proofs.FileWrite.{parts_out, length-entry}
 use Rattle.model.proofs.FileRead.{ReadAs, decoded}
 
 -- u's ring among all rings, written
@@ -45,8 +46,8 @@ in_file p u rest h =
     ap (take (2 * length r)) here ∙ take_at (bytes r) more (2 * length r) (length-bytes r)
 
 -- u's ring in a file that was read
-in_read : (b : List ℕ) (p : Plan) (bs : List (List ℕ)) (u : ℕ) → Bytes b → ReadAs b p bs → u < count p → take (2 * length (entries p u)) (drop (ring_start p u) b) ≡ bytes (entries p u)
-in_read b p bs u y r h = ap (λ (f : List ℕ). take (2 * length (entries p u)) (drop (ring_start p u) f)) (r.written y) ∙ in_file p u (rest_out (optional (count p)) bs) h
+in_read : (b : List ℕ) (p : Plan) (parts : List Part) (u : ℕ) → Bytes b → ReadAs b p parts → u < count p → take (2 * length (entries p u)) (drop (ring_start p u) b) ≡ bytes (entries p u)
+in_read b p parts u y r h = ap (λ (f : List ℕ). take (2 * length (entries p u)) (drop (ring_start p u) f)) (r.written y) ∙ in_file p u (parts_out parts) h
 
 -- a file that was opened decodes to the sheet, and the sheet keeps the rules
 pub open_accepted : (b : List ℕ) (s : Sheet) → open_call b ≡ accepted s → (decode b ≡ accepted s) × (judge s ≡ passed)
@@ -57,11 +58,14 @@ open_accepted b s e =
     let same = same-value g in
     (d ∙ ap accepted same, subst (λ (v : Sheet). judge v ≡ passed) same j)
 
-plan-same : (p q : Plan) (bs : List (List ℕ)) → plan_of (sheet_of p bs) ≡ accepted q → p ≡ q
+plan-same : (p q : Plan) (parts : List Part) → plan_of (sheet_of p parts) ≡ accepted q → p ≡ q
 unfolding plan_of sheet_of
-plan-same p q [] e = same-value e
-plan-same p q (ls ∷ []) e = same-value e
-plan-same p q (ls ∷ k ∷ bs) e = same-value e
+plan-same p q parts e = go (member 4 (kinds_of parts)) (member 3 (kinds_of parts)) e
+  where
+    go : (t u : Bool) → plan_of (cond t (charted p (body_of 3 parts) (chart_in (words (body_of 4 parts)))) (cond u (labelled p (body_of 3 parts)) (opened p))) ≡ accepted q → p ≡ q
+    go true u f = same-value f
+    go false true f = same-value f
+    go false false f = same-value f
 
 -- A ring call that is accepted opened the file, and names where u's ring begins and how long it is
 pub ring-accepted : (b : List ℕ) (u at size : ℕ) → ring_call b u ≡ accepted (at, size)
@@ -78,8 +82,8 @@ ring-accepted b u at size e =
 pub opened_part : (b : List ℕ) (s : Sheet) (p : Plan) (u : ℕ) → Bytes b → open_call b ≡ accepted s → plan_of s ≡ accepted p → u < count p
     → take (2 * length (entries p u)) (drop (ring_start p u) b) ≡ bytes (entries p u)
 opened_part b s p u y o e h =
-    let (q, bs, is, r) = decoded b s (open_accepted b s o).0 in
-    in_read b p bs u y (subst (λ (v : Plan). ReadAs b v bs) (plan-same q p bs (ap plan_of is ∙ e)) r) h
+    let (q, parts, is, r) = decoded b s (open_accepted b s o).0 in
+    in_read b p parts u y (subst (λ (v : Plan). ReadAs b v parts) (plan-same q p parts (ap plan_of is ∙ e)) r) h
 
 -- What the ring call hands back of a file that was opened, read as numbers, is u's ring; of a u that is no context, nothing
 pub ring_handed : (b : List ℕ) (s : Sheet) (p : Plan) (u : ℕ) → Bytes b → open_call b ≡ accepted s → plan_of s ≡ accepted p → words (ring_part b (ring_call b u)) ≡ entries p u

@@ -20,7 +20,7 @@ use Rattle.model.specs.Outcome.{Outcome, accepted, refused, passed, ◌>>=◌, �
 use Rattle.model.specs.Plan.{Plan, count, ring, onward, between, border, north, east, west, plan_rules}
 use Rattle.model.specs.Labels.{label_rules, breaks}
 use Rattle.model.specs.Sweep.{State, top, first_state, below, finished, finish, listed, replaced, chordless, eligible, choices, choose, advance, sweep_from, sweep}
-use Rattle.model.proofs.Outcomes.{not-both, same-value, same-refusal, bind_refused, rule_refuses}
+use Rattle.model.proofs.Outcomes.{not-both, same-refusal, bind_refused, rule_refuses}
 use Rattle.model.proofs.Plans.{mem-adjacent}
 use Rattle.model.proofs.PlanRules.{Sound, sound, inner_ring, border_ring}
 use Rattle.model.proofs.Choices.{NoneEligible, Chosen, chosen, none_chosen, chosen_taken, none-taken}
@@ -103,7 +103,7 @@ module _ (p : Plan) where
       record { some = listed-some f i j h a; once = (or_no (repeats l) (any border l) c).0; new = d }
 
   module _ (r : Sound p) where
-    ring-inside : (u a : ℕ) → Memᴰ a (ring p u) → a < count p
+    pub ring-inside : (u a : ℕ) → Memᴰ a (ring p u) → a < count p
     ring-inside u a m = r.inside u a (mem-adjacent p u a m)
 
     below-inside : (f : List ℕ) (k a : ℕ) → Memᴰ a (below p f k) → a < count p
@@ -214,17 +214,6 @@ module _ (p : Plan) where
     -- n steps are enough: the sweep ends finished or stuck
     pub sweep_ends : Ends p (sweep_from p (count p) (first_state p))
     sweep_ends = let r = sound p rules in ends r (count p) (first_state p) first (let x = first_some r in omega arith)
-
-    -- It finishes exactly where a finished state is reached, with that state's labels
-    pub finished_exactly : (ls : List ℕ) → (sweep_from p (count p) (first_state p) ≡ accepted ls) ↔ ((s : State) × Finished p s × (finish p s ≡ ls))
-    finished_exactly ls = (go sweep_ends, back)
-      where
-        back : ((s : State) × Finished p s × (finish p s ≡ ls)) → swept ≡ accepted ls
-        back h = let (s, f, q) = h in let (k, e) = passes_by (sound p rules) s f.reached in e ∙ at_end k s f.over ∙ (λ i. accepted (q i))
-
-        go : Ends p swept → swept ≡ accepted ls → (s : State) × Finished p s × (finish p s ≡ ls)
-        go (inl h) e = (h.0, h.1, same-value (sym h.2 ∙ e))
-        go (inr h) e = not-both (sym (sym e ∙ h.2))
 
     -- It refuses exactly where a stuck state is reached, and then with 14 at 0
     pub stuck_exactly : (k at : ℕ) → (sweep_from p (count p) (first_state p) ≡ refused k at) ↔ ((k ≡ 14) × (at ≡ 0) × (s : State) × Stuck p s)

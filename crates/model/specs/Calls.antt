@@ -1,14 +1,14 @@
 -- The calls on a sheet: open, offer, sweep, turn, chart, write, scan, same, ring. The stage comes first, then the order of 01's table.
-use Rattle.std.specs.Prelude.{ℕ, suc, ◌+◌, ◌*◌, List, [], ◌++◌, Bool, ◌&&◌, length, take, drop, eqb, ltb, leb}
+use Rattle.std.specs.Prelude.{ℕ, ◌*◌, List, [], ◌++◌, Bool, ◌&&◌, length, take, drop, eqb, ltb, leb}
 use Rattle.std.proofs.Math.Option.{Option}
 use Rattle.model.specs.Outcome.{Outcome, accepted, refused, passed, ◌>>=◌, ◌>>◌, require}
-use Rattle.model.specs.Plan.{Plan, count, entries, dart_count, plan_rules}
+use Rattle.model.specs.Plan.{Plan, count, entries, labels_due, plan_rules}
 use Rattle.model.specs.Labels.{start, label_rules}
 use Rattle.model.specs.Chart.{Chart, chart, same_chart}
 use Rattle.model.specs.Sweep.{sweep}
 use Rattle.model.specs.Turn.{turn}
 use Rattle.model.specs.Scan.{Triple, scan}
-use Rattle.model.specs.File.{Sheet, fresh, opened, labelled, charted, decode, encode}
+use Rattle.model.specs.File.{Sheet, fresh, opened, labelled, charted, decode, encode, entry_offset}
 
 -- Each sheet has a stage
 pub data Stage : Type 0 where
@@ -59,7 +59,7 @@ open_call b = do
 -- the offered labels, if their count is right (2) and they keep the rules (10)
 unfoldable pub offered : Plan → List ℕ → Outcome (List ℕ)
 offered p ls = do
-  require (eqb (length ls) (dart_count (count p))) 2 0
+  require (eqb (length ls) (labels_due p)) 2 0
   label_rules p ls
   accepted ls
 
@@ -113,9 +113,9 @@ same_call s t = do
   (q, d) ← chart_of t
   accepted (eqb (count p) (count q) && same_chart c d)
 
--- where the body of u's ring begins in the file: 6 bytes of kind 1, a head of 4 bytes for each ring up to u's, the entries of the rings before
+-- where the body of u's ring begins in the file
 unfoldable pub ring_start : Plan → ℕ → ℕ
-ring_start p u = 6 + 4 * suc u + 2 * start p u
+ring_start p u = entry_offset u (start p u)
 
 -- ring gives the offset and the length of the ring's body in the file; it refuses as open does, then 17
 unfoldable pub ring_call : List ℕ → ℕ → Outcome (ℕ × ℕ)

@@ -1,10 +1,10 @@
 -- The file: records, framing (1, 2, 3), and what is written.
-use Rattle.std.specs.Prelude.{ℕ, zero, suc, ◌+◌, ◌-◌, ◌*◌, ◌%◌, List, [], ◌∷◌, ◌++◌, map, Bool, false, cond, ◌&&◌, length, get_or, take, drop, eqb, leb}
-use Rattle.lists.specs.Tests.{empty}
+use Rattle.std.specs.Prelude.{ℕ, zero, suc, ◌+◌, ◌-◌, ◌*◌, ◌%◌, List, [], ◌∷◌, ◌++◌, map, Bool, false, cond, not, ◌&&◌, length, get_or, take, drop, eqb, leb}
+use Rattle.lists.specs.Tests.{empty, member}
 use Rattle.lists.specs.Parts.{concat, pairs}
 use Rattle.lists.specs.Words.{word, words, bytes}
 use Rattle.model.specs.Outcome.{Outcome, accepted, ◌>>=◌, ◌>>◌, require}
-use Rattle.model.specs.Plan.{Plan, count, dart_count}
+use Rattle.model.specs.Plan.{Plan, count, labels_due}
 use Rattle.model.specs.Chart.{Chart}
 
 -- What a sheet holds at its stage: EMPTY, OPEN, LABELLED, CHARTED
@@ -46,30 +46,52 @@ frame_rings n (suc k) c = do
   (rs, e) ← frame_rings n k d
   accepted (words r ∷ rs, e)
 
--- The records that may still follow, each a kind and a body length, in this order; then the end, where a whole record is 2
-unfoldable pub frame_rest : List (ℕ × ℕ) → Cursor → Outcome (List (List ℕ))
-frame_rest [] c = cond (empty c.rest) (accepted []) (frame c 0 (λ (m : ℕ). false) >> accepted [])
-frame_rest ((kind, size) ∷ due) c =
-    let more = do
-      (b, d) ← frame c kind (eqb size)
-      bs ← frame_rest due d
-      accepted (b ∷ bs)
-    in
-    cond (empty c.rest) (accepted []) more
+-- A record that may still follow: its kind, its body's length, and whether a later one may follow without it
+pub record Due : Type 0 where
+  pub kind : ℕ
+  pub size : ℕ
+  pub skippable : Bool
 
--- kind 3: 6n − 14 label bytes; after it kind 4: w, h, then x and y per context, 2 bytes each
-unfoldable pub optional : ℕ → List (ℕ × ℕ)
-optional n = (3, dart_count n) ∷ (4, 4 + 4 * n) ∷ []
+-- a record that was framed: its kind and its body
+abbrev pub Part : Type 0
+Part = ℕ × List ℕ
+
+-- The records that may still follow, in this order; then the end, where a whole record is 2.
+-- One that may be skipped is due only where a record of its kind stands.
+unfoldable pub frame_rest : List Due → Cursor → Outcome (List Part)
+frame_rest [] c = cond (empty c.rest) (accepted []) (frame c 0 (λ (m : ℕ). false) >> accepted [])
+frame_rest (d ∷ due) c =
+    let skipped = d.skippable && not (eqb (word (drop 2 c.rest)) d.kind) in
+    let there = do
+      (b, e) ← frame c d.kind (eqb d.size)
+      parts ← frame_rest due e
+      accepted ((d.kind, b) ∷ parts)
+    in
+    cond (empty c.rest) (accepted []) (cond skipped (frame_rest due c) there)
+
+-- What may follow the rings of a plan: kind 3, the label bytes; after it kind 4: w, h, then x and y per context, 2 bytes each
+unfoldable pub optional : Plan → List Due
+optional p = record { kind = 3; size = labels_due p; skippable = false } ∷ record { kind = 4; size = 4 + 4 * count p; skippable = false } ∷ []
+
+-- the kinds of the parts
+unfoldable pub kinds_of : List Part → List ℕ
+kinds_of parts = map (λ (q : Part). q.0) parts
+
+-- the body of the part of a kind; empty where there is none
+unfoldable pub body_of : ℕ → List Part → List ℕ
+body_of kind [] = []
+body_of kind (q ∷ parts) = cond (eqb q.0 kind) q.1 (body_of kind parts)
 
 -- the chart that a list of numbers holds: w, h, then x and y per context
 unfoldable pub chart_in : List ℕ → Chart
 chart_in l = record { w = get_or l 0 0; h = get_or l 1 0; xs = map (λ (t : ℕ × ℕ). t.0) (pairs (drop 2 l)); ys = map (λ (t : ℕ × ℕ). t.1) (pairs (drop 2 l)) }
 
--- the sheet that a plan and the bodies after the rings make; the stage is the last part present
-unfoldable pub sheet_of : Plan → List (List ℕ) → Sheet
-sheet_of p [] = opened p
-sheet_of p (ls ∷ []) = labelled p ls
-sheet_of p (ls ∷ k ∷ bs) = charted p ls (chart_in (words k))
+-- the sheet that a plan and the parts after its rings make; the stage is the last part present
+unfoldable pub sheet_of : Plan → List Part → Sheet
+sheet_of p parts =
+    let ls = body_of 3 parts in
+    let c = chart_in (words (body_of 4 parts)) in
+    cond (member 4 (kinds_of parts)) (charted p ls c) (cond (member 3 (kinds_of parts)) (labelled p ls) (opened p))
 
 -- All records framed in file order; 3 right after the kind 1 record
 unfoldable pub decode : List ℕ → Outcome Sheet
@@ -77,8 +99,9 @@ decode b = do
   (r, c) ← frame (record { at = 0; rest = b }) 1 (eqb 2)
   require (leb 5 (word r) && leb (word r) 200) 3 0
   (rs, d) ← frame_rings (word r) (word r) c
-  bs ← frame_rest (optional (word r)) d
-  accepted (sheet_of (record { rings = rs }) bs)
+  let p : Plan = record { rings = rs }
+  parts ← frame_rest (optional p) d
+  accepted (sheet_of p parts)
 
 -- a record written
 unfoldable pub entry : ℕ → List ℕ → List ℕ
@@ -102,6 +125,10 @@ rings_out rs = concat (map (λ (r : List ℕ). entry 2 (bytes r)) rs)
 unfoldable pub plan_out : Plan → List ℕ
 plan_out p = entry 1 (bytes (count p ∷ [])) ++ rings_out p.rings
 
+-- where an entry of u's ring stands, the k-th of all: behind 6 bytes of kind 1, a head of 4 bytes for each ring up to u's, and the k entries before it
+abbrev pub entry_offset : ℕ → ℕ → ℕ
+entry_offset u k = 6 + 4 * suc u + 2 * k
+
 -- The file of a sheet; a fresh one has none
 unfoldable pub encode : Sheet → List ℕ
 encode fresh = []
@@ -111,5 +138,5 @@ encode (charted p ls c) = plan_out p ++ entry 3 ls ++ entry 4 (bytes (chart_out 
 
 -- who unfolds this unfolds all of the above: for facts that are computed
 unfoldable pub file_computes : Unit {0}
-unfolding word words bytes frame fits_ring frame_rings frame_rest optional chart_in sheet_of decode entry points chart_out rings_out plan_out encode
+unfolding word words bytes frame fits_ring frame_rings frame_rest optional kinds_of body_of chart_in sheet_of decode entry points chart_out rings_out plan_out encode
 file_computes = tt

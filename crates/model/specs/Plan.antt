@@ -114,6 +114,10 @@ entry_count p = length (concat p.rings)
 abbrev pub dart_count : ℕ → ℕ
 dart_count n = 6 * n - 14
 
+-- how many labels a plan takes: one for each of its darts
+abbrev pub labels_due : Plan → ℕ
+labels_due p = dart_count (count p)
+
 -- 8: a border ring begins with the next border context and ends with the one before; the one across is no neighbour
 unfoldable pub bad_border : Plan → ℕ → Bool
 bad_border p u =

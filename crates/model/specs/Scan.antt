@@ -19,9 +19,9 @@ after p a = from (suc a) (count p - suc a)
 unfoldable pub triples : Plan → List Triple
 triples p = concat (map (λ (a : ℕ). concat (map (λ (b : ℕ). map (λ (c : ℕ). (a, b, c)) (after p b)) (after p a))) (contexts p))
 
--- the walk a, b, c is an inner face
+-- the walk a, b, c is an inner face, where a and b are neighbours
 unfoldable pub inner_face : Plan → ℕ → ℕ → ℕ → Bool
-inner_face p a b c = adjacent p a b && on_inner_face p (a, b) && same_list (walk p (a, b)) (a ∷ b ∷ c ∷ [])
+inner_face p a b c = on_inner_face p (a, b) && same_list (walk p (a, b)) (a ∷ b ∷ c ∷ [])
 
 -- mutual neighbours that are no inner face, walked either way
 unfoldable pub enclosing : Plan → Triple → Bool

@@ -14,7 +14,9 @@ use Rattle.lists.specs.Parts.{index_of}
 use Rattle.lists.specs.Spans.{stretch, span}
 use Rattle.lists.proofs.Spans.{length-stretch, get_or-stretch}
 use Rattle.model.specs.Plan.{count, neighbour, entries, ring, onward, next}
-use Rattle.rings.specs.Tables.{sum_of, start_of, size_of, rows, table, held, cell}
+use Rattle.rings.specs.declared.Table as tables
+use Rattle.rings.specs.declared.Rings as rings
+use Rattle.rings.specs.Tables.{sum_of, start_of, starts_of, size_of, rows, table, table_of, plan_of, held, cell}
 use Rattle.rings.proofs.Made.{Reads, entries-made, ring-made, count-made, size-made, past-made, at-made}
 
 -- ---- starts: each ring begins where the one before ends
@@ -130,6 +132,11 @@ module _ (starts sizes es : List ℕ) (n : ℕ) where
   ring_index u v =
       let k : get_or starts u 0 + size_of sizes n u - get_or starts u 0 ≡ size_of sizes n u = omega arith in
       ap (λ (j : ℕ). index_of v (map neighbour (stretch es (get_or starts u 0) j))) k ∙ ap (index_of v) (sym (ring-rows u))
+
+-- the plan of rings that begin where the sizes of a table say is the plan of the table
+pub as_table : (t : tables.Table) (r : rings.Rings) → r.starts.now ≡ starts_of t.sizes.now → r.sizes.now ≡ t.sizes.now → r.entries.now ≡ t.entries.now → r.n ≡ t.n → plan_of r ≡ table_of t
+unfolding table
+as_table t r starts sizes entries n = λ i. rows (starts i) (sizes i) (entries i) (n i)
 
 -- of n contexts, at most 200
 pub held_small : (sizes es : List ℕ) (n : ℕ) → n ≤ 200 → held sizes es n ≡ table sizes es n

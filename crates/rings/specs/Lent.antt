@@ -2,15 +2,16 @@
 use Rattle.std.specs.Prelude.{ℕ, zero, suc, ◌+◌, ◌*◌, List, [], ◌∷◌, map, get_or}
 use Rattle.lists.specs.Ranges.{from}
 use Rattle.model.specs.Plan.{Plan}
+use Rattle.model.specs.File.{entry_offset}
 
 -- k numbers of two bytes from an offset on; what lies outside the file reads as 0
 unfoldable pub words_at : List ℕ → ℕ → ℕ → List ℕ
 words_at file at zero = []
 words_at file at (suc k) = (get_or file at 0 + 256 * get_or file (at + 1) 0) ∷ words_at file (at + 2) k
 
--- where the body of u's ring stands: behind 6 bytes of kind 1, a head of 4 bytes for each ring up to u's, and the entries of the rings before
+-- where the body of u's ring stands, where the rings begin at these starts
 unfoldable pub body_at : List ℕ → ℕ → ℕ
-body_at starts u = 10 + 4 * u + 2 * get_or starts u 0
+body_at starts u = entry_offset u (get_or starts u 0)
 
 -- The plan of n contexts whose rings have these starts and sizes in a file
 unfoldable pub lent : List ℕ → List ℕ → List ℕ → ℕ → Plan

@@ -1,8 +1,9 @@
 // Rings in flat arrays: where they begin, their sizes and their neighbours by place, each equal to a definition of the model on the plan that the arrays hold. Rings wherever they stand (Ringed), and the cell of a pair in a table of 200 rows of 200, are here too.
 #![tactic(auto)]
 
-ghost use Rattle.std.specs.Prelude.{◌≡◌, ◌+◌, ◌<◌, ◌^◌, get_or, length};
-ghost use Rattle.model.specs.Plan.{Plan, count, dart_count, neighbour, ring};
+ghost use Rattle.std.specs.Prelude.{◌≡◌, ◌+◌, ◌-◌, min, ◌<◌, ◌^◌, get_or, length};
+ghost use Rattle.model.specs.Plan.{Plan, count, dart_count, labels_due, neighbour, ring};
+ghost use Rattle.model.specs.File.{entry_offset};
 ghost use Rattle.rings.specs.Tables.{size_of, starts_of, plan_of, cell};
 
 use std::ops::Range;
@@ -64,6 +65,21 @@ pub fn dart_count(n: usize) -> usize
     ensures { result ≡ dart_count n }
 {
     (6 * n).saturating_sub(14)
+}
+
+// How many labels a plan of n contexts takes.
+pub fn labels_due(n: u16) -> usize
+    ensures { (p : Plan) → count p ≡ n → result ≡ labels_due p }
+{
+    dart_count(usize::from(n))
+}
+
+// Where an entry of u's ring stands in a file, the k-th of all; where that is past every file, the highest number.
+pub fn entry_offset(u: usize, k: usize) -> usize
+    ensures { result ≡ min (entry_offset u k) (2 ^ 64 - 1) }
+{
+    let heads = u.saturating_mul(4).saturating_add(10);
+    heads.saturating_add(k.saturating_mul(2))
 }
 
 // The size of u's ring, in a plan of n contexts.

@@ -5,7 +5,7 @@ use mathlib.Core.Logic.{◌⊎◌}
 use Rattle.std.proofs.Common.{rules}
 use Rattle.std.proofs.lemmas.Result.{err_from_is_err_and}
 use Rattle.framing.specs.Layouts.{laid, plan_from}
-use Rattle.framing.proofs.Layouts.{plan-out, plan-refused, plan-cut, plan_there}
+use Rattle.framing.proofs.Layouts.{plan-out, plan-refused, plan_count, plan-cut, plan_there}
 use Rattle.framing.proofs.frame_plan.Goals as goal
 
 pub returns-then-not-contains : goal.returns-then-not-contains
@@ -28,11 +28,13 @@ returns-in_err-parts c =
     let w = c.in_ok-sizes.field-0 in
     let e = c.from_residual-in_err-parts in
     let p = err_from_is_err_and e.result e.ensures.1 in
-    rw (p.1, p.2) (plan-cut f c.from-n.result w.sizes w.at (search rules) (search rules) c.in_ok-sizes.ensures.result_value _ _ c.in_err-parts.ensures.value ∙ is)
+    let all = plan_count f c.from-n.result w.sizes in
+    rw (p.1, p.2) (plan-cut f c.from-n.result w.sizes w.at (search rules) (search rules) c.in_ok-sizes.ensures.result_value _ _ (c.in_err-parts.ensures.value _ all) ∙ is)
 
 pub returns : goal.returns
 unfolding laid
 returns c =
     let f = c.args.file.now in
     let w = c.in_ok-sizes.field-0 in
-    plan_there f c.from-n.result w.sizes w.at (search rules) (search rules) c.in_ok-sizes.ensures.result_value c.in_ok-parts.parts c.in_ok-parts.ensures.value ∙ ap (plan_from f) (c.from-n.ensures ∙ c.word_at.ensures)
+    let all = plan_count f c.from-n.result w.sizes in
+    plan_there f c.from-n.result w.sizes w.at (search rules) (search rules) c.in_ok-sizes.ensures.result_value c.in_ok-parts.parts (c.in_ok-parts.ensures.value _ all) ∙ ap (plan_from f) (c.from-n.ensures ∙ c.word_at.ensures)
