@@ -15,8 +15,7 @@ use Rattle.model.proofs.LabelRules.{labels_exactly}
 use Rattle.model.proofs.Placements.{placed, chart-is}
 use Rattle.guarantee.specs.Verdicts.{draws, present}
 use Rattle.guarantee.specs.Guarantee.{Owed, Guarantee}
-use Rattle.guarantee.proofs.Faces.{inner_faces}
-use Rattle.guarantee.proofs.Drawing.{placement_draws}
+use Rattle.plan_theory.proofs.Drawing.{placement_draws}
 use Rattle.guarantee.proofs.Agreement.{ledger_follows, same-answers}
 use Rattle.guarantee.proofs.Kept.{Kept, run-kept, stands_after}
 use Rattle.guarantee.proofs.Sized.{fresh_good}
@@ -26,10 +25,8 @@ use Rattle.guarantee.proofs.Struct.{left-reads, left-packed, told_same}
 owed : (p : Plan) (ls : List ℕ) (c : Chart) → plan_rules p ≡ passed → label_rules p ls ≡ passed → chart p ls ≡ accepted c → Owed p ls c
 unfolding chart
 owed p ls c rules labels e =
-    let s = sound p rules in
     let least = chart-is slope p ls c e in
-    let d = placement_draws p s ls ((labels_exactly p ls).0 labels) slope c (placed slope p ls c least.keeps) in
-    record { least = least; each_positive = d.each_positive; areas_sum = d.areas_sum; one_face = d.one_face; inner_faces = inner_faces p s }
+    record { least = least; drawn = placement_draws p (sound p rules) ls ((labels_exactly p ls).0 labels) slope c (placed slope p ls c least.keeps) }
 
 -- the chart of a sheet that keeps the rules
 stored : (s : Sheet) → Kept s → (g : Ledger) → plan_and_labels s ≡ g → (c : Chart) → standing s ≡ some c → (p : Plan) × (ls : List ℕ) × (g ≡ both p ls) × Owed p ls c

@@ -1,10 +1,3 @@
-pub mod Rings
-pub mod Darts
-pub mod Faces
-pub mod Runs
-pub mod Headings
-pub mod Placing
-pub mod Drawing
 pub mod Records
 pub mod Agreement
 pub mod Kept

@@ -2,15 +2,15 @@
 use Prim.Native.Nat.{ℕ, zero, suc, ◌+◌, ◌≤◌, ◌<◌}
 use mathlib.Core.Path.{◌≡◌, refl, sym, ap, ◌∙◌, subst}
 use mathlib.Core.List.{List, [], ◌∷◌}
-use mathlib.Core.Bool.{Bool, true, false, cond, ◌&&◌, ◌||◌, false≢true}
+use mathlib.Core.Bool.{Bool, true, false, cond, not, ◌&&◌, ◌||◌, false≢true}
 use native.Mathlib.Omega.{arith}
 use lib.ListN.{length, drop, length-drop}
 use lib.Dec.{eqb, leb}
 use Rattle.lists.specs.Tests.{empty, member}
-use Rattle.lists.specs.Words.{word}
+use Rattle.lists.specs.Words.{word, words}
 use Rattle.model.specs.Outcome.{Outcome, accepted, refused, ◌>>=◌, ◌>>◌, require}
 use Rattle.model.specs.Plan.{Plan}
-use Rattle.model.specs.File.{Sheet, Cursor, Framed, frame, fits_ring, frame_rings, frame_rest, optional, sheet_of, decode}
+use Rattle.model.specs.File.{Sheet, opened, labelled, charted, Cursor, Framed, frame, fits_ring, frame_rings, Due, Part, frame_rest, optional, kinds_of, body_of, chart_in, sheet_of, decode}
 use Rattle.model.specs.Calls.{open_call}
 use Rattle.model.specs.CallLists.{standing, kinds, holds_chart}
 use Rattle.model.proofs.Outcomes.{same-value, not-both, bind_accepted, then_accepted}
@@ -49,38 +49,37 @@ finds_rings n (suc k) c r t e f =
     finds_record c 2 (fits_ring n) q t e₁ (finds_rings n k q.1 u t e₂ (subst (λ (z : List (List ℕ) × Cursor). Finds z.1.rest t) (sym (same-value h)) f))
 
 -- the records after the rings: one of those that were read is of kind 4
-found : List (ℕ × ℕ) → List (List ℕ) → Bool
-found due [] = false
-found [] (b ∷ bs) = false
-found (d ∷ due) (b ∷ bs) = eqb 4 d.0 || found due bs
+finds_end : (c : Cursor) (parts : List Part) → empty c.rest ≡ true → accepted [] ≡ accepted parts → Finds c.rest (member 4 (kinds_of parts))
+unfolding kinds_of
+finds_end c parts y e = subst (λ (l : List Part). Finds c.rest (member 4 (kinds_of l))) (same-value e) (finds_none c.rest y)
 
-finds_end : (due : List (ℕ × ℕ)) (c : Cursor) (bs : List (List ℕ)) → empty c.rest ≡ true → accepted [] ≡ accepted bs → Finds c.rest (found due bs)
-unfolding found
-finds_end due c bs y e = subst (λ (l : List (List ℕ)). Finds c.rest (found due l)) (same-value e) (finds_none c.rest y)
-
-finds_rest : (due : List (ℕ × ℕ)) (c : Cursor) (bs : List (List ℕ)) → frame_rest due c ≡ accepted bs → Finds c.rest (found due bs)
-unfolding frame_rest found
-finds_rest [] c bs e = go (empty c.rest) refl (frame c 0 (λ (m : ℕ). false)) refl e
+finds_rest : (due : List Due) (c : Cursor) (parts : List Part) → frame_rest due c ≡ accepted parts → Finds c.rest (member 4 (kinds_of parts))
+unfolding frame_rest kinds_of
+finds_rest [] c parts e = go (empty c.rest) refl (frame c 0 (λ (m : ℕ). false)) refl e
   where
-    go : (t : Bool) → empty c.rest ≡ t → (o : Outcome Framed) → frame c 0 (λ (m : ℕ). false) ≡ o → cond t (accepted []) (o >> accepted []) ≡ accepted bs → Finds c.rest (found [] bs)
-    go true y o q e = finds_end [] c bs y e
+    go : (t : Bool) → empty c.rest ≡ t → (o : Outcome Framed) → frame c 0 (λ (m : ℕ). false) ≡ o → cond t (accepted []) (o >> accepted []) ≡ accepted parts → Finds c.rest (member 4 (kinds_of parts))
+    go true y o q e = finds_end c parts y e
     go false y (accepted r) q e = absurd (false≢true (frame-says c 0 (λ (m : ℕ). false) r q).fitted)
     go false y (refused k at) q e = not-both e
-finds_rest (d ∷ due) c bs e = go (finds_rest due) (empty c.rest) refl e
+finds_rest (d ∷ due) c parts e = go (finds_rest due) (empty c.rest) refl (d.skippable && not (eqb (word (drop 2 c.rest)) d.kind)) e
   where
-    go : ((e : Cursor) (l : List (List ℕ)) → frame_rest due e ≡ accepted l → Finds e.rest (found due l)) → (t : Bool) → empty c.rest ≡ t
-        → cond t (accepted []) (frame c d.0 (eqb d.1) >>= λ (f : Framed). frame_rest due f.1 >>= λ (l : List (List ℕ)). accepted (f.0 ∷ l)) ≡ accepted bs → Finds c.rest (found (d ∷ due) bs)
-    go later true y e = finds_end (d ∷ due) c bs y e
-    go later false y e =
-        let (f, e₁, g) = bind_accepted (frame c d.0 (eqb d.1)) _ bs e in
-        let (l, e₂, h) = bind_accepted (frame_rest due f.1) _ bs g in
-        subst (λ (m : List (List ℕ)). Finds c.rest (found (d ∷ due) m)) (same-value h) (finds_record c d.0 (eqb d.1) f (found due l) e₁ (later f.1 l e₂))
+    go : ((e : Cursor) (l : List Part) → frame_rest due e ≡ accepted l → Finds e.rest (member 4 (kinds_of l))) → (t : Bool) → empty c.rest ≡ t → (s : Bool)
+        → cond t (accepted []) (cond s (frame_rest due c) (frame c d.kind (eqb d.size) >>= λ (f : Framed). frame_rest due f.1 >>= λ (l : List Part). accepted ((d.kind, f.0) ∷ l))) ≡ accepted parts → Finds c.rest (member 4 (kinds_of parts))
+    go later true y s e = finds_end c parts y e
+    go later false y true e = later c parts e
+    go later false y false e =
+        let (f, e₁, g) = bind_accepted (frame c d.kind (eqb d.size)) _ parts e in
+        let (l, e₂, h) = bind_accepted (frame_rest due f.1) _ parts g in
+        subst (λ (m : List Part). Finds c.rest (member 4 (kinds_of m))) (same-value h) (finds_record c d.kind (eqb d.size) f (member 4 (kinds_of l)) e₁ (later f.1 l e₂))
 
-found-chart : (n : ℕ) (p : Plan) (bs : List (List ℕ)) → found (optional n) bs ≡ present (standing (sheet_of p bs))
-unfolding found optional sheet_of standing present
-found-chart n p [] = refl
-found-chart n p (ls ∷ []) = refl
-found-chart n p (ls ∷ k ∷ bs) = refl
+found-chart : (p : Plan) (parts : List Part) → member 4 (kinds_of parts) ≡ present (standing (sheet_of p parts))
+unfolding sheet_of standing present
+found-chart p parts = go (member 4 (kinds_of parts)) (member 3 (kinds_of parts))
+  where
+    go : (t u : Bool) → t ≡ present (standing (cond t (charted p (body_of 3 parts) (chart_in (words (body_of 4 parts)))) (cond u (labelled p (body_of 3 parts)) (opened p))))
+    go true u = refl
+    go false true = refl
+    go false false = refl
 
 finds_file : (b : List ℕ) (s : Sheet) → decode b ≡ accepted s → Finds b (present (standing s))
 unfolding decode
@@ -90,10 +89,10 @@ finds_file b s e =
     let n = word f.0 in
     let (_, q₂) = then_accepted (require (leb 5 n && leb n 200) 3 0) _ s q₁ in
     let (g, e₂, q₃) = bind_accepted (frame_rings n n f.1) _ s q₂ in
-    let (bs, e₃, q₄) = bind_accepted (frame_rest (optional n) g.1) _ s q₃ in
     let p : Plan = record { rings = g.0 } in
-    let chart_there : found (optional n) bs ≡ present (standing s) = found-chart n p bs ∙ ap (λ (z : Sheet). present (standing z)) (same-value q₄) in
-    finds_record start 1 (eqb 2) f (present (standing s)) e₁ (finds_rings n n f.1 g (present (standing s)) e₂ (subst (Finds g.1.rest) chart_there (finds_rest (optional n) g.1 bs e₃)))
+    let (parts, e₃, q₄) = bind_accepted (frame_rest (optional p) g.1) _ s q₃ in
+    let chart_there : member 4 (kinds_of parts) ≡ present (standing s) = found-chart p parts ∙ ap (λ (z : Sheet). present (standing z)) (same-value q₄) in
+    finds_record start 1 (eqb 2) f (present (standing s)) e₁ (finds_rings n n f.1 g (present (standing s)) e₂ (subst (Finds g.1.rest) chart_there (finds_rest (optional p) g.1 parts e₃)))
 
 -- A file that is opened holds a chart exactly when one stands afterwards
 pub opened_holds : (b : List ℕ) (s : Sheet) → open_call b ≡ accepted s → present (standing s) ≡ holds_chart b

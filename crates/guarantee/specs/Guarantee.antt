@@ -1,29 +1,21 @@
 -- Demand 3: what holds after every list of open, offer, sweep, turn and chart calls on a fresh sheet, refused calls included.
-use Rattle.std.specs.Prelude.{ℕ, ◌*◌, ◌<◌, ◌≡◌, true, false, pos}
-use mathlib.Core.List.{List, Memᴰ}
+use Rattle.std.specs.Prelude.{ℕ, ◌≡◌}
+use mathlib.Core.List.{List}
 use Rattle.std.proofs.Math.Option.{none, some}
-use Rattle.lists.specs.Tests.{tally}
-use Rattle.model.specs.Plan.{Plan, Face, faces}
+use Rattle.model.specs.Plan.{Plan}
 use Rattle.model.specs.Chart.{Chart, IsChart, slope}
-use Rattle.model.specs.Geometry.{Point, positive, area, areas, in_rectangle, on_some_line, in_face}
 use Rattle.model.specs.CallLists.{Call, standing, plan_and_labels, neither, both, ledger}
+use Rattle.plan_theory.specs.Draws.{Draws}
 use Rattle.sheet.specs.Sheets.{reads, packed}
 use Rattle.guarantee.specs.Engine.{start, left, told}
 use Rattle.guarantee.specs.Verdicts.{judgements, last_accepted, draws, present}
-use Rattle.guarantee.specs.InnerFaces.{InnerFaces}
 
 -- What is owed of a chart c that stands. Lines and inner faces are those of the ledger's plan p; ls are the ledger's labels.
 pub record Owed (p : Plan) (ls : List ℕ) (c : Chart) : Type 0 where
   -- The chart is, among the placements that keep the compass rules, the one in which every x, every y, w and h is least.
   pub least : IsChart slope p ls c
-  -- Every inner face has positive doubled area.
-  pub each_positive : (f : Face) → Memᴰ f (faces p) → positive (area c f) ≡ true
-  -- These areas sum to 2 × width × height.
-  pub areas_sum : areas c (faces p) ≡ pos (2 * c.w * c.h)
-  -- Every point with rational coordinates that is strictly inside the rectangle and on no line lies strictly inside exactly one inner face.
-  pub one_face : (t : Point) → 0 < t.d → in_rectangle c t ≡ true → on_some_line c p t ≡ false → tally (in_face c t) (faces p) ≡ 1
-  -- These three-dart walks are the inner faces, walked counterclockwise: `faces p` has each of them exactly once.
-  pub inner_faces : InnerFaces p (faces p)
+  -- It draws the plan: each inner face has positive doubled area, these sum to 2 × width × height, and each rational point strictly inside and on no line lies strictly inside exactly one.
+  pub drawn : Draws p c
 
 -- Demand 3 for a list of calls
 pub record Guarantee (calls : List Call) : Type 0 where

@@ -19,12 +19,12 @@ use Rattle.lists.proofs.Ranges.{lt-or-le}
 use Rattle.model.specs.Plan.{Plan, Dart, neighbour, entries, ring, adjacent, next, outer}
 use Rattle.model.specs.Labels.{unlabelled, turned, start, labels_around, label_of}
 use Rattle.model.specs.Transversal.{Transversal}
-use Rattle.model.proofs.Plans.{adjacent-mem, mem-adjacent, adjacent-from}
+use Rattle.model.proofs.Plans.{next-mem, adjacent-mem, mem-adjacent, adjacent-from, says-outer}
 use Rattle.model.proofs.PlanRules.{Sound}
 use Rattle.geometry.specs.Compass.{angle}
-use Rattle.guarantee.proofs.Rings.{next-mem, next-on-cycle}
-use Rattle.guarantee.proofs.Runs.{Onward, runs-onward}
-use Rattle.guarantee.proofs.Darts.{dart, below_four, says-outer, once-ring}
+use Rattle.plan_theory.proofs.Rings.{next-on-cycle}
+use Rattle.plan_theory.proofs.Runs.{Onward, runs-onward}
+use Rattle.plan_theory.proofs.Darts.{dart, below_four, once-ring}
 
 -- East to North and South to West up, South to East and West to North right; their reverses two quarters on
 unfoldable pub heading : Plan → List ℕ → ℕ → ℕ → ℕ

@@ -1,31 +1,15 @@
--- The entry after another in a ring.
+-- The entry after another in a ring, on the ring as a cycle.
 use Prim.Native.Nat.{ℕ, suc, ◌+◌}
 use mathlib.Core.Path.{◌≡◌, refl, sym, ap, ◌∙◌, subst}
-use mathlib.Core.List.Memᴰ
 use mathlib.Core.List.{List, [], ◌∷◌, ◌++◌, Memᴰ}
-use mathlib.Core.Logic.{◌⊎◌, inl, inr}
 use native.Mathlib.Omega.{arith}
 use lib.ListN.{length, get_or, take, drop, take-append-drop}
 use lib.Seq.{drop-cons, take-append_seam, drop-append-add}
 use borrow.Author.Tests.{eq-eqb, ne_eqb}
 use Rattle.lists.specs.Parts.{index_of, cycle}
-use Rattle.lists.proofs.Members.{mem-take, mem-drop}
 use Rattle.lists.proofs.Places.{index_below, index_is}
 use Rattle.lists.proofs.Cycles.{cycle_rotated}
 use Rattle.model.specs.Plan.{onward, next}
-
--- it is an entry
-pub next-mem : (a : ℕ) (r : List ℕ) → Memᴰ a r → Memᴰ (next a r) r
-unfolding next onward
-next-mem a r m = go (onward a r) (λ b i. back b (Memᴰ.append_cases (drop (suc (index_of a r)) r) i))
-  where
-    back : (b : ℕ) → Memᴰ b (drop (suc (index_of a r)) r) ⊎ Memᴰ b (take (index_of a r) r) → Memᴰ b r
-    back b (inl i) = mem-drop (suc (index_of a r)) r b i
-    back b (inr i) = mem-take (index_of a r) r b i
-
-    go : (l : List ℕ) → ((b : ℕ) → Memᴰ b l → Memᴰ b r) → Memᴰ (get_or l 0 a) r
-    go [] h = m
-    go (b ∷ l) h = h b (Memᴰ.head refl)
 
 abbrev pair : ℕ → ℕ → ℕ × ℕ
 pair a b = (a, b)

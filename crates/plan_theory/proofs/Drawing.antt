@@ -7,7 +7,7 @@ use native.Mathlib.Omega.{arith}
 use lib.IntN.{ℤ, pos, negsuc}
 use lib.Dec.{ltb, leb}
 use borrow.Author.Tests.{lt-ltb, le-ltb, ltb-true, le-leb}
-use Rattle.lists.specs.Tests.{all, tally}
+use Rattle.lists.specs.Tests.{all}
 use Rattle.lists.specs.Parts.{steps, cycle}
 use Rattle.lists.proofs.Bools.{and_yes, yes_and, both}
 use Rattle.lists.proofs.Tests.{none_of}
@@ -23,10 +23,11 @@ use Rattle.geometry.specs.Points.{Position, area_plus, area_minus, left, OnSegme
 use Rattle.geometry.proofs.Signed.{Difference, Says, says_as, says-zero, says-sum, says_pos, says-area}
 use Rattle.geometry.proofs.Walks.{along, against, cancels}
 use Rattle.geometry.proofs.Crossings.{triangle_crossings, box_crossings, left-scaled}
-use Rattle.guarantee.specs.InnerFaces.{InnerFace}
-use Rattle.guarantee.proofs.Darts.{border-walk}
-use Rattle.guarantee.proofs.Faces.{closed_map, inner_faces}
-use Rattle.guarantee.proofs.Placing.{place, face_left, three-entries}
+use Rattle.plan_theory.specs.InnerFaces.{InnerFace}
+use Rattle.plan_theory.specs.Draws.{Draws}
+use Rattle.plan_theory.proofs.Darts.{border-walk}
+use Rattle.plan_theory.proofs.Faces.{closed_map, inner_faces}
+use Rattle.plan_theory.proofs.Placing.{place, face_left, three-entries}
 
 -- ---- tests on signed numbers
 says-positive : {z : ℤ} {a b : ℕ} → Says z a b → positive z ≡ ltb b a
@@ -107,12 +108,7 @@ module _ (c : Chart) (t : Point) where
   unfolding on_some_line
   clear_of p off u v a o = both (on_line c t (u, v)) (line_tested (u, v) o) (none_of (on_line c t) (darts p) off (u, v) (darts-mem p u v a))
 
--- ---- what every placement is
-pub record Draws (p : Plan) (c : Chart) : Type 0 where
-  pub each_positive : (f : Face) → Memᴰ f (faces p) → positive (area c f) ≡ true
-  pub areas_sum : areas c (faces p) ≡ pos (2 * c.w * c.h)
-  pub one_face : (t : Point) → 0 < t.d → in_rectangle c t ≡ true → on_some_line c p t ≡ false → tally (in_face c t) (faces p) ≡ 1
-
+-- ---- every placement
 module _ (p : Plan) (s : Sound p) (ls : List ℕ) (tr : Transversal p ls) (slope : ℕ) (c : Chart) (k : Placed slope p ls c) where
   face_positive : (f : Face) → InnerFace p f → positive (area c f) ≡ true
   unfolding total product place
@@ -186,4 +182,5 @@ module _ (p : Plan) (s : Sound p) (ls : List ℕ) (tr : Transversal p ls) (slope
     each_positive = λ f m. face_positive f ((inner_faces p s).each_inner f m);
     areas_sum = says_pos (2 * c.w * c.h) (areas_say c (faces p)) all-areas;
     one_face = λ t some within off. tally-total (in_face c t) (faces p) ∙ one_holds t some within off;
+    inner_faces = inner_faces p s;
   }

@@ -4,15 +4,15 @@ use mathlib.Core.Path.{◌≡◌, refl, sym, ap, ◌∙◌, subst}
 use mathlib.Core.List.{List, [], ◌∷◌, ◌++◌, map, Memᴰ}
 use mathlib.Core.Bool.{Bool, true, false}
 use native.Mathlib.Omega.{arith}
-use lib.Dec.{eqb, ltb}
-use borrow.Author.Tests.{eqb-true, eq-eqb, ltb-true, lt-ltb}
+use lib.Dec.{eqb}
+use borrow.Author.Tests.{eqb-true, eq-eqb}
 use Rattle.lists.specs.Parts.{cycle}
 use Rattle.lists.proofs.Bools.{and_yes, both}
 use Rattle.lists.proofs.Once.{Once, once-apart, once_join, once-map, once-from, no_repeat_once}
 use Rattle.model.specs.Plan.{Plan, Dart, count, contexts, ring, adjacent, darts_from, darts, same_dart, next, step, outer, closes}
-use Rattle.model.proofs.Plans.{adjacent-mem, mem-adjacent}
+use Rattle.model.proofs.Plans.{next-mem, adjacent-mem, mem-adjacent, outer-says, says-outer}
 use Rattle.model.proofs.PlanRules.{Sound, inner_ring, border_ring}
-use Rattle.guarantee.proofs.Rings.{next-mem, next_last}
+use Rattle.plan_theory.proofs.Rings.{next_last}
 
 -- a dart, and when two are the same
 abbrev pub dart : ℕ → ℕ → Dart
@@ -23,15 +23,6 @@ same-dart d e h = let (a, b) = and_yes (eqb d.0 e.0) (eqb d.1 e.1) h in λ i. (e
 
 pub dart-same : (d e : Dart) → d ≡ e → same_dart d e ≡ true
 dart-same d e h = rw (eq-eqb d.0 e.0 (ap (λ (c : Dart). c.0) h), eq-eqb d.1 e.1 (ap (λ (c : Dart). c.1) h))
-
--- ---- the four outer darts
-pub outer-says : (d : Dart) → outer d ≡ true → (d.0 < 4) × (d.1 ≡ (d.0 + 1) % 4)
-unfolding outer
-outer-says d o = let (h, k) = and_yes (ltb d.0 4) (eqb d.1 ((d.0 + 1) % 4)) o in (ltb-true d.0 4 h, eqb-true d.1 ((d.0 + 1) % 4) k)
-
-pub says-outer : (u v : ℕ) → u < 4 → v ≡ (u + 1) % 4 → outer (u, v) ≡ true
-unfolding outer
-says-outer u v h e = rw (lt-ltb u 4 h, eq-eqb v ((u + 1) % 4) e)
 
 -- a fact about the numbers below 4
 pub below_four : (P : ℕ → Type 0) → P 0 → P 1 → P 2 → P 3 → (k : ℕ) → k < 4 → P k

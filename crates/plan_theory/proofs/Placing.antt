@@ -19,9 +19,9 @@ use Rattle.model.proofs.Placements.{Placed}
 use Rattle.geometry.specs.Points.{Position, Left}
 use Rattle.geometry.specs.Compass.{Heads, angle, Turning}
 use Rattle.geometry.proofs.Corners.{triangle_positive}
-use Rattle.guarantee.specs.InnerFaces.{InnerFace}
-use Rattle.guarantee.proofs.Darts.{below_four, Inner, step_inner, third-dart}
-use Rattle.guarantee.proofs.Headings.{heading, Kind, inner_edge_lem, to_next, to_last, kind_of, heading_inner, heading-next, heading_last, heading-small, border_label_lem, corner-angle}
+use Rattle.plan_theory.specs.InnerFaces.{InnerFace}
+use Rattle.plan_theory.proofs.Darts.{below_four, Inner, step_inner, third-dart}
+use Rattle.plan_theory.proofs.Headings.{heading, Kind, inner_edge_lem, to_next, to_last, kind_of, heading_inner, heading-next, heading_last, heading-small, border_label_lem, corner-angle}
 
 -- where a chart puts a context
 unfoldable pub place : Chart → ℕ → Position

@@ -1,0 +1,2 @@
+pub mod InnerFaces
+pub mod Draws
