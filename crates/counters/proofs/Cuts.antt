@@ -17,6 +17,8 @@ use Rattle.lists.proofs.Ranges.{lt-or-le, from-mem}
 use Rattle.lists.proofs.Joins.{join_mem}
 use Rattle.lists.proofs.Members.{mem-squeeze}
 use Rattle.lists.proofs.Once.{Once, once-apart, no_repeat_once}
+use Rattle.lists.proofs.Parts.{squeeze-before}
+use Rattle.lists.proofs.Tests.{repeats-right}
 use Rattle.model.specs.Plan.{Plan, ring, adjacent, next}
 use Rattle.model.specs.Sweep.{State, below, listed, chordless, eligible}
 use Rattle.model.proofs.PlanRules.{Sound}
@@ -26,7 +28,7 @@ use Rattle.counters.proofs.Faces.{Fan}
 use Rattle.counters.proofs.Lines.{at, fan_at, once-below}
 use Rattle.counters.proofs.Strips.{raw, Listed, strip_of}
 use Rattle.counters.proofs.Eligibility.{some_in, Fits, fits, fits_eligible}
-use Rattle.counters.proofs.Squeezes.{raw_split, squeeze-before, apart, repeats_end, chordless_end, last_end}
+use Rattle.counters.proofs.Squeezes.{raw_split, apart, chordless_end, last_end}
 use Rattle.counters.proofs.Frontiers.{Above, Flat, new_below}
 
 -- a list of one or more, up to its last entry, and what precedes b in a fan
@@ -245,7 +247,7 @@ module _ (p : Plan) (sound : Sound p) (s : State) (h : Flat p s) (i j : ℕ) (o 
         let (r, q) = ends in
         record {
           full = full;
-          once = repeats_end r m (ap repeats (sym q) ∙ t.once);
+          once = repeats-right r m (ap repeats (sym q) ∙ t.once);
           inner = λ c n. t.inner c (m_l c n);
           new = λ c n. t.new c (m_l c n);
           among = chordless_end p r m (ap (chordless p) (sym q) ∙ t.among);

@@ -1,6 +1,6 @@
 -- What is below a range of positions, and what is left of it when repeats in a row are dropped: parts of it, and contexts that stand apart.
 use Prim.Native.Nat.{ℕ, zero, suc, ◌+◌, ◌-◌, ◌<◌}
-use mathlib.Core.Path.{◌≡◌, refl, sym, ap, ◌∙◌, subst}
+use mathlib.Core.Path.{◌≡◌, sym, ap, ◌∙◌, subst}
 use mathlib.Core.List.Memᴰ
 use mathlib.Core.List.{List, [], ◌∷◌, ◌++◌, append_assoc, Memᴰ}
 use mathlib.Core.Bool.{Bool, true, false, cond, not}
@@ -9,11 +9,12 @@ use native.Mathlib.Omega.{arith}
 use lib.ListN.{length, drop, length-append}
 use lib.Seq.{get_or-append-add}
 use lib.Dec.{eqb}
-use borrow.Author.Tests.{eqb-true, ne_eqb}
-use Rattle.lists.specs.Tests.{any, member, repeats}
+use borrow.Author.Tests.{ne_eqb}
+use Rattle.lists.specs.Tests.{any}
 use Rattle.lists.specs.Parts.{squeeze, squeeze_after}
-use Rattle.lists.proofs.Bools.{or_no, and_yes}
+use Rattle.lists.proofs.Bools.{and_yes}
 use Rattle.lists.proofs.Once.{Once, once-right}
+use Rattle.lists.proofs.Parts.{squeeze-before}
 use Rattle.model.specs.Plan.{Plan, adjacent}
 use Rattle.model.specs.Sweep.{below, chordless}
 use Rattle.model.proofs.Eligible.{squeeze-mem}
@@ -28,26 +29,6 @@ raw_split p f a (suc x) y =
     let z : suc x + y ≡ suc (x + y) = omega arith in
     let w : suc a + x ≡ a + suc x = omega arith in
     ap (raw p f a) z ∙ ap (λ (l : List ℕ). below p f a ++ l) (raw_split p f (suc a) x y) ∙ sym (append_assoc (below p f a) (raw p f (suc a) x) (raw p f (suc a + x) y)) ∙ ap (λ (b : ℕ). below p f a ++ raw p f (suc a) x ++ raw p f b y) w
-
--- ---- the end of a squeezed list
-before_more : (a : ℕ) (l m : List ℕ) → (r : List ℕ) × (a ∷ squeeze_after a (l ++ m) ≡ r ++ squeeze m)
-before_more a [] [] = (a ∷ [], refl)
-before_more a [] (b ∷ m) = go (eqb a b) refl
-  where
-    go : (t : Bool) → eqb a b ≡ t → (r : List ℕ) × (a ∷ cond t (squeeze_after a m) (b ∷ squeeze_after b m) ≡ r ++ (b ∷ squeeze_after b m))
-    go true e = let q = eqb-true a b e in ([], (λ i. q i ∷ squeeze_after (q i) m))
-    go false e = (a ∷ [], refl)
-before_more a (b ∷ l) m = go (eqb a b) (before_more a l m) (before_more b l m)
-  where
-    go : (t : Bool) → (r : List ℕ) × (a ∷ squeeze_after a (l ++ m) ≡ r ++ squeeze m) → (r : List ℕ) × (b ∷ squeeze_after b (l ++ m) ≡ r ++ squeeze m)
-        → (r : List ℕ) × (a ∷ cond t (squeeze_after a (l ++ m)) (b ∷ squeeze_after b (l ++ m)) ≡ r ++ squeeze m)
-    go true h k = h
-    go false h k = let (r, e) = k in (a ∷ r, ap {B = List ℕ} (λ x. a ∷ x) e)
-
--- what is squeezed of a longer list ends with what is squeezed of its end
-pub squeeze-before : (l m : List ℕ) → (r : List ℕ) × (squeeze (l ++ m) ≡ r ++ squeeze m)
-squeeze-before [] m = ([], refl)
-squeeze-before (a ∷ l) m = before_more a l m
 
 -- ---- a squeezed list without repeats
 -- c comes again after another context
@@ -70,10 +51,6 @@ apart a d b c o i n m =
     (once-right r (squeeze (c ∷ y ++ (d ∷ b))) (subst Once (ap squeeze whole ∙ e) o)).0 (again c y d b n m)
 
 -- ---- the end of a list
-pub repeats_end : (r m : List ℕ) → repeats (r ++ m) ≡ false → repeats m ≡ false
-repeats_end [] m e = e
-repeats_end (a ∷ r) m e = repeats_end r m (or_no (member a (r ++ m)) (repeats (r ++ m)) e).1
-
 pub chordless_end : (p : Plan) (r m : List ℕ) → chordless p (r ++ m) ≡ true → chordless p m ≡ true
 unfolding chordless
 chordless_end p [] m e = e

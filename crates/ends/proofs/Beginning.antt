@@ -2,8 +2,9 @@
 use Prim.Native.Nat.{ℕ, zero, suc, ◌+◌, ◌-◌, ◌≤◌, ◌<◌}
 use mathlib.Core.Path.{◌≡◌, refl, sym, ap, ◌∙◌, subst}
 use mathlib.Core.List.{List, [], ◌∷◌, ◌++◌, reverse, append-nil, Memᴰ}
-use mathlib.Core.Bool.{Bool, true, false, ◌||◌, or-false}
+use mathlib.Core.Bool.{Bool, true, false, ◌||◌, or-false, false≢true}
 use native.Mathlib.Omega.{arith}
+use Rattle.std.specs.Prelude.{None}
 use lib.ListN.{length, get_or, set, take, drop, length-append, length-drop, length-take, length-reverse}
 use lib.Seq.{slice, take-nil, append_snoc, get_or-drop}
 use lib.Dec.{eqb}
@@ -22,6 +23,7 @@ use Rattle.rings.proofs.Rows.{ring-size}
 use Rattle.lists.specs.Folds.{each, down}
 use Rattle.frontier.specs.Front.{Small, Sane, Rep, Marks, Front}
 use Rattle.frontier.proofs.Lines.{small-append, mem-small, small-get_or, push_rep, marks-same, marks-set, fresh-rep, stretch-all}
+use Rattle.frontier.proofs.Fails.{kept_none}
 use Rattle.frontier.proofs.Under.{back_suc}
 use Rattle.frontier.specs.Run as run
 use Rattle.ends.specs.Ends.{front, marked, first_line}
@@ -42,8 +44,10 @@ marks-list : (f : List ℕ) (a k : ℕ) (m : List ℕ) (q : ℕ → Bool) → ((
 unfolding each stretch
 marks-list f a zero m q h n = n
 marks-list f a (suc k) m q h n =
-    marks-same (λ (c : ℕ). member c (stretch f (suc a) k) || (eqb c (get_or f a 0) || q c)) (λ (c : ℕ). eqb c (get_or f a 0) || member c (stretch f (suc a) k) || q c) (λ c. or_swap (member c (stretch f (suc a) k)) (eqb c (get_or f a 0)) (q c))
-    (marks-list f (suc a) k (set m (get_or f a 0) 1) (λ (c : ℕ). eqb c (get_or f a 0) || q c) h (marks-set q (get_or f a 0) 1 (let s = h a in omega arith) (omega arith) n))
+    let more : ℕ → Bool = λ c. eqb c (get_or f a 0) || q c in
+    let later : ℕ → Bool = λ c. member c (stretch f (suc a) k) in
+    marks-same (λ (c : ℕ). later c || more c) (λ (c : ℕ). eqb c (get_or f a 0) || later c || q c) (λ c. or_swap (later c) (eqb c (get_or f a 0)) (q c))
+    (marks-list f (suc a) k (set m (get_or f a 0) 1) more h (marks-set q (get_or f a 0) 1 (let s = h a in omega arith) (omega arith) n))
 
 -- the marks of a frontier are those of its contexts
 front-marks : (f : List ℕ) → Small f → Marks (marked (padded 512 f) (length f)) (λ (c : ℕ). member c f)
@@ -80,8 +84,8 @@ module _ (p : Plan) where
   unfolding top
   top-is = let z : length r - 1 - 1 ≡ length r - 2 = omega arith in ap reverse (slice_drop (length r - 1) r ∙ ap (λ (n : ℕ). take n (drop 1 r)) z)
 
-  -- North's inner neighbours are no more than its ring
-  length-top : length (top p) ≤ length r
+  -- they are two fewer than its ring
+  length-top : length (top p) ≤ length r - 2
   length-top = let a = ap length top-is ∙ length-reverse (take (length r - 2) (drop 1 r)) ∙ length-take (length r - 2) (drop 1 r) in omega arith
 
   -- a line that these are put on holds them
@@ -120,14 +124,6 @@ module _ (p : Plan) where
       small-append (top p) (east ∷ []) (mem-small (top p) (λ a m. sane.entry 0 a (mem-drop 1 r a (mem-take (length r - 2) (drop 1 r) a (mem-reverse (take (length r - 2) (drop 1 r)) a (subst (Memᴰ a) top-is m)))))) (omega arith, tt),
     )
 
-    -- the first frontier is short
-    front_long : length first_front ≤ 255
-    front_long =
-        let a = ap length top-is ∙ length-reverse (take (length r - 2) (drop 1 r)) ∙ length-take (length r - 2) (drop 1 r) in
-        let b = length-append (top p) (east ∷ []) in
-        let c = length-drop 1 r in
-        omega arith
-
     -- The first line holds the frontier of the first state
     pub first-front : Front (first_state p) (first_line p)
     unfolding first_state first_line
@@ -135,22 +131,16 @@ module _ (p : Plan) where
         let h = front-rep in
         record {
           rep = record { ok = h.ok; len = h.len; at = h.at; short = h.short };
-          marks = subst (λ (l : List ℕ). Marks (marked l (front p).len) (λ (c : ℕ). member c first_front)) (sym h.at) (subst (λ (n : ℕ). Marks (marked (padded 512 first_front) n) (λ (c : ℕ). member c first_front)) (sym h.len) (front-marks first_front front-small));
+          marks = subst (λ (m : List ℕ). Marks m (λ (c : ℕ). member c first_front)) (λ d. marked (sym h.at d) (sym h.len d)) (front-marks first_front front-small);
           small = front-small;
           news = [];
           olds = first_front;
           parts = refl;
           once = refl;
           few = tt;
-          room = let z = front_long in omega arith;
+          room = let a = length-top in let b = length-append (top p) (east ∷ []) in omega arith;
         }
 
-    -- the array of the first line
-    pub first-at : (first_line p).at ≡ padded 512 first_front
-    unfolding first_line
-    first-at = front-rep.at
-
-    -- the length of the first line
-    pub first-len : (first_line p).len ≡ length first_front
-    unfolding first_line
-    first-len = front-rep.len
+    -- there is room for it
+    pub first_whole : run.kept (first_line p) ≡ None → ⊥
+    first_whole none = false≢true (sym (kept_none (first_line p) none) ∙ first-front.rep.ok)

@@ -1,11 +1,13 @@
 // Where the sweep begins and where it ends: the first frontier, and whether a frontier is finished.
 #![tactic(auto)]
 
-ghost use Rattle.std.specs.Prelude.{◌≡◌, ◌<◌, ◌^◌, length};
-ghost use Rattle.model.specs.Plan.{ring};
+ghost use Rattle.std.specs.Prelude.{◌≡◌, ◌<◌, ◌^◌, [], ◌∷◌, length};
+ghost use Rattle.lists.specs.Tests.{same_list};
+ghost use Rattle.model.specs.Plan.{ring, south};
+ghost use Rattle.model.specs.Sweep.{below};
 ghost use Rattle.rings.specs.Tables.{plan_of};
 ghost use Rattle.frontier.specs.Run.{kept};
-ghost use Rattle.ends.specs.Ends.{front, marked, first_line, done_by, unfinished_by};
+ghost use Rattle.ends.specs.Ends.{front, marked, first_line, unfinished};
 
 use frontier::{Front, Line};
 use rings::Rings;
@@ -54,18 +56,18 @@ pub fn first_line(rings: &Rings) -> Option<Line>
     Some(line)
 }
 
-// Is South alone below position k, by a table of positions?
+// Is South alone below position k?
 #[tactic(auto, using(crate::proofs::Finishing::done_yes, crate::proofs::Finishing::done_no))]
 fn is_done(front: &Front, k: usize) -> bool
-    ensures { result ≡ done_by front.now.located.places.now (plan_of front.now.located.rings) front.now.f.now k }
+    ensures { result ≡ same_list (below (plan_of front.now.located.rings) front.now.f.now k) (south ∷ []) }
 {
     let below = front.below(k);
-    below.len() == 1 && below.at(0) == rings::SOUTH
+    below.is_one() && below.at(0) == rings::SOUTH
 }
 
-// Has some inner context of a frontier of m more than South below, by a table of positions?
+// Has some inner context of a frontier of m more than South below?
 pub fn is_unfinished(front: &Front, m: usize) -> bool
-    ensures { result ≡ unfinished_by front.now.located.places.now (plan_of front.now.located.rings) front.now.f.now m }
+    ensures { result ≡ unfinished (plan_of front.now.located.rings) front.now.f.now m }
 {
     (1..m.saturating_sub(1)).any(|k| !is_done(front, k))
 }

@@ -9,14 +9,11 @@ use lib.ListN.{length, get_or, take, drop, length-append, length-drop, length-ta
 use lib.Seq.{get_or-append-add, get_or-drop, get_or-take}
 use Rattle.lists.specs.Parts.{index_of}
 use Rattle.lists.specs.Ranges.{first_from, lowest}
-use Rattle.model.specs.Plan.{Plan, neighbour, ring, onward}
-use Rattle.places.specs.Places.{places_of}
-use Rattle.places.proofs.Look.{index_told}
-use Rattle.places.specs.declared.Located.{Located}
+use Rattle.model.specs.Plan.{neighbour, ring}
 use Rattle.rings.specs.Tables.{plan_of, size_of}
 use Rattle.rings.proofs.Rows.{ring-size, ring-at}
 use Rattle.frontier.specs.declared.below.Below.{Below}
-use Rattle.frontier.specs.Run.{turned_at, below_of, reads, depth_of, turn, turn_by, depth, depth_from, gap, under}
+use Rattle.frontier.specs.Run.{turned_at, reads}
 
 -- ---- a ring read from a place on
 module _ (x : ℕ) (r : List ℕ) {q d : ℕ} (size : q ≡ length r) (rest : d ≡ q - (x + 1)) where
@@ -81,45 +78,6 @@ module _ (b : Below) {q : ℕ} (size : q ≡ size_of b.rings.sizes.now b.rings.n
     -- how many entries are read
     pub read_all : {e : ℕ} → e ≡ min b.x q → d + e ≡ length (reads b)
     read_all h = turned_long b.x (ring (plan_of b.rings) b.u) whole_ring (rest ∙ ap (λ (i : ℕ). i - b.x) less) h
-
-module _ (a : ℕ) (r : List ℕ) {x : ℕ} (at : x ≡ index_of a r) where
-  -- a ring read onward from an entry is read from the place of the entry
-  pub onward-turned : turned_at x r ≡ onward a r
-  unfolding turned_at onward
-  onward-turned = ap (λ (k : ℕ). drop (suc k) r ++ take k r) at
-
--- the ring of position k from the entry after its right frontier neighbour on
-pub under-turned : (p : Plan) (f : List ℕ) (k : ℕ) {u x : ℕ} → u ≡ get_or f k 0 → x ≡ turn p f k → turned_at x (ring p u) ≡ under p f k
-unfolding turn under
-under-turned p f k {u} {x} e at = ap (λ (w : ℕ). turned_at x (ring p w)) e ∙ onward-turned (get_or f (suc k) 0) (ring p (get_or f k 0)) at
-
--- ---- by the plan's own table
-module _ (p : Plan) {t : List ℕ} (own : t ≡ places_of p) (f : List ℕ) (k : ℕ) {x : ℕ} (at : x ≡ turn_by t p f k) where
-  -- where the right frontier neighbour stands
-  pub turn-told : x ≡ turn p f k
-  unfolding turn_by turn
-  turn-told = index_told p own (get_or f k 0) (get_or f (suc k) 0) at
-
-  -- how many contexts are below
-  pub depth-told : {q : ℕ} → q ≡ depth_from p f k x → q ≡ depth p f k
-  unfolding turn depth_from depth gap
-  depth-told e = e ∙ ap (index_of (get_or f (k - 1) 0)) (onward-turned (get_or f (suc k) 0) (ring p (get_or f k 0)) turn-told)
-
--- ---- what is below a position
-module _ (l : Located) (f : List ℕ) (k : ℕ) {b : Below} (is : b ≡ below_of l f k) where
-  -- by the plan's own table what is read is the ring from the entry after the right frontier neighbour on
-  pub reads-under : l.places.now ≡ places_of (plan_of l.rings) → reads b ≡ under (plan_of l.rings) f k
-  reads-under own = ap reads is ∙ under-turned (plan_of l.rings) f k refl (turn-told (plan_of l.rings) own f k refl)
-
-  module _ {q : ℕ} (long : q ≡ depth_of b) where
-    -- how many entries are below
-    pub deep-by : q ≡ depth_from (plan_of l.rings) f k (turn_by l.places.now (plan_of l.rings) f k)
-    unfolding depth_from
-    deep-by = long ∙ ap depth_of is
-
-    -- the same by the plan's own table
-    pub deep-told : l.places.now ≡ places_of (plan_of l.rings) → q ≡ depth (plan_of l.rings) f k
-    deep-told own = depth-told (plan_of l.rings) own f k refl deep-by
 
 -- ---- (0..e).find(|t| b == l[t]).unwrap_or(e)
 -- of the k numbers from suc a on, the first that passes is one more than of those from a on the first whose next passes

@@ -3,18 +3,17 @@ use Prim.Native.Nat.{ℕ, zero, suc, ◌+◌, ◌-◌, ◌≤◌, ◌<◌}
 use mathlib.Core.Path.{◌≡◌, refl, sym, ap, ◌∙◌}
 use mathlib.Core.List.{List, [], ◌∷◌, ◌++◌, reverse}
 use native.Mathlib.Omega.{arith}
-use lib.ListN.{length, get_or, set, take, drop, take-append-drop, length-take}
+use lib.ListN.{length, get_or, set, take, drop, length-take}
 use lib.Seq.{take-append_seam}
 use Rattle.std.proofs.lemmas.List.{length-reverse}
+use Rattle.model.specs.Plan.{ring, onward, between}
 use Rattle.model.specs.Sweep.{below}
-use Rattle.places.specs.Places.{places_of}
-use Rattle.places.specs.declared.Located.{Located}
+use Rattle.rings.specs.declared.Rings.{Rings}
 use Rattle.rings.specs.Tables.{plan_of}
 use Rattle.rings.proofs.Rows.{index_le}
 use Rattle.frontier.specs.declared.below.Below.{Below}
-use Rattle.frontier.specs.Run.{below_of, reads, depth_of}
-use Rattle.frontier.proofs.Moves.{reads-under, deep-told}
-use Rattle.frontier.proofs.Under.{back_suc, below-is}
+use Rattle.frontier.specs.Run.{turned_at, below_of, reads, depth_of}
+use Rattle.frontier.proofs.Under.{back_suc, before-take}
 
 -- the last of the entries taken, set to x
 set-taken : (l m : List ℕ) (k x : ℕ) → k < length l → set (take (suc k) l ++ m) k x ≡ take k l ++ (x ∷ m)
@@ -26,32 +25,18 @@ set-taken (a ∷ l) m (suc k) x h = ap {B = List ℕ} (λ r. a ∷ r) (set-taken
 pub record Puts (q : ℕ) (old l : List ℕ) (t : ℕ) (list : List ℕ) : Type 0 where
   pub same : list ≡ take (q - t) old ++ (reverse (take t l) ++ drop q old)
 
-module _ {q : ℕ} {old l : List ℕ} where
-  -- before the loop
-  pub puts_from : {t : ℕ} {list : List ℕ} → t ≡ 0 → list ≡ old → Puts q old l t list
-  puts_from {t} z e =
-      let w : q - t ≡ q = omega arith in
-      record { same = e ∙ sym (take-append-drop q old) ∙ (λ i. take (sym w i) old ++ (reverse (take (sym z i) l) ++ drop q old)) }
-
-  module _ {t : ℕ} {list : List ℕ} (inv : Puts q old l t list) where
-    -- after a turn of the loop
-    pub puts_on : {list' : List ℕ} {k x : ℕ} → t < q → q ≤ length old → t < length l → k ≡ q - 1 - t → x ≡ get_or l t 0 → list' ≡ set list k x → Puts q old l (t + 1) list'
-    puts_on {k = k} {x} h room long at is e =
-        let w : q - t ≡ suc k = omega arith in
-        let v : k ≡ q - (t + 1) = omega arith in
-        let u : suc t ≡ t + 1 = omega arith in
-        let rest : List ℕ = reverse (take t l) ++ drop q old in
-        record {
-          same = e ∙ ap (λ (m : List ℕ). set m k x) (inv.same ∙ ap (λ (n : ℕ). take n old ++ rest) w) ∙ set-taken old rest k x (omega arith)
-              ∙ (λ i. take (v i) old ++ (is i ∷ rest)) ∙ ap (λ (m : List ℕ). take (q - (t + 1)) old ++ (m ++ drop q old)) (sym (back_suc l t long) ∙ ap (λ (n : ℕ). reverse (take n l)) u);
-        }
-
-    -- after the loop
-    pub puts_end : q ≤ t → t ≤ q → list ≡ reverse (take q l) ++ drop q old
-    puts_end h k =
-        let z : q - t ≡ 0 = omega arith in
-        let w : t ≡ q = omega arith in
-        inv.same ∙ (λ i. take (z i) old ++ (reverse (take (w i) l) ++ drop q old))
+-- after a turn of the loop
+pub puts_on : {q : ℕ} {old l : List ℕ} {t : ℕ} {list : List ℕ} → Puts q old l t list
+    → {list' : List ℕ} {k x : ℕ} → t < q → q ≤ length old → t < length l → k ≡ q - 1 - t → x ≡ get_or l t 0 → list' ≡ set list k x → Puts q old l (t + 1) list'
+puts_on {q} {old} {l} {t} {list} inv {k = k} {x} h room long at is e =
+    let w : q - t ≡ suc k = omega arith in
+    let v : k ≡ q - (t + 1) = omega arith in
+    let u : suc t ≡ t + 1 = omega arith in
+    let rest : List ℕ = reverse (take t l) ++ drop q old in
+    record {
+      same = e ∙ ap (λ (m : List ℕ). set m k x) (inv.same ∙ ap (λ (n : ℕ). take n old ++ rest) w) ∙ set-taken old rest k x (omega arith)
+          ∙ (λ i. take (v i) old ++ (is i ∷ rest)) ∙ ap (λ (m : List ℕ). take (q - (t + 1)) old ++ (m ++ drop q old)) (sym (back_suc l t long) ∙ ap (λ (n : ℕ). reverse (take n l)) u);
+    }
 
 -- ---- what then stands in the list
 module _ (l m : List ℕ) {q : ℕ} {list : List ℕ} (put : list ≡ reverse (take q l) ++ m) (room : q ≤ length l) where
@@ -62,18 +47,19 @@ module _ (l m : List ℕ) {q : ℕ} {list : List ℕ} (put : list ≡ reverse (t
       let z : q ≡ length (reverse (take q l)) = omega (arith, length-reverse (take q l)) in
       ap (take q) put ∙ ap (λ (n : ℕ). take n (reverse (take q l) ++ m)) z ∙ take-append_seam (reverse (take q l)) m
 
--- what is read of what is below a position of the frontier is the model's list of it, by the plan's own table
-module _ (v : Located) (f : List ℕ) (k : ℕ) {b : Below} (is : b ≡ below_of v f k) (own : v.places.now ≡ places_of (plan_of v.rings)) where
-  pub below_read : reverse (take (depth_of b) (reads b)) ≡ below (plan_of v.rings) f k
-  below_read = (λ i. reverse (take (deep-told v f k is refl own i) (reads-under v f k is own i))) ∙ sym (below-is (plan_of v.rings) f k)
+-- what is read of what is below a position of the frontier is the model's list of it
+module _ (r : Rings) (f : List ℕ) (k : ℕ) {b : Below} (is : b ≡ below_of r f k) where
+  pub below_read : reverse (take (depth_of b) (reads b)) ≡ below (plan_of r) f k
+  unfolding turned_at below between onward
+  below_read = ap (λ (b : Below). reverse (take (depth_of b) (reads b))) is ∙ ap reverse (sym (before-take (get_or f (k - 1) 0) (onward (get_or f (suc k) 0) (ring (plan_of r) (get_or f k 0)))))
 
   -- how many that are
-  pub deep_below : depth_of b ≡ length (below (plan_of v.rings) f k)
+  pub deep_below : depth_of b ≡ length (below (plan_of r) f k)
   deep_below =
       let z = length-take (depth_of b) (reads b) in
       let h = index_le b.left (reads b) in
       omega (arith, length-reverse (take (depth_of b) (reads b)), ap length below_read)
 
   -- it stands in the front of a list on which it was put
-  pub put_below : (m : List ℕ) {q : ℕ} {list : List ℕ} → q ≡ depth_of b → list ≡ reverse (take (depth_of b) (reads b)) ++ m → take q list ≡ below (plan_of v.rings) f k
+  pub put_below : (m : List ℕ) {q : ℕ} {list : List ℕ} → q ≡ depth_of b → list ≡ reverse (take (depth_of b) (reads b)) ++ m → take q list ≡ below (plan_of r) f k
   put_below m {q} {list} e put = ap (λ (n : ℕ). take n list) e ∙ put_front (reads b) m put (index_le b.left (reads b)) ∙ below_read

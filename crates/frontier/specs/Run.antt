@@ -3,9 +3,8 @@ use Rattle.std.specs.Prelude.{ℕ, suc, ◌+◌, ◌-◌, List, ◌++◌, Option
 use Rattle.std.specs.Option.{unwrap_or}
 use Rattle.lists.specs.Parts.{index_of}
 use Rattle.lists.specs.Spans.{zeros}
-use Rattle.model.specs.Plan.{Plan, ring, onward}
-use Rattle.places.specs.Places.{index_by}
-use Rattle.places.specs.declared.Located.{Located}
+use Rattle.model.specs.Plan.{ring}
+use Rattle.rings.specs.declared.Rings.{Rings}
 use Rattle.rings.specs.Tables.{plan_of}
 use Rattle.frontier.specs.declared.below.Below.{Below}
 use Rattle.frontier.specs.declared.Line as held
@@ -56,33 +55,9 @@ fresh marks = line true 0 (zeros 512) marks
 unfoldable pub turned_at : ℕ → List ℕ → List ℕ
 turned_at x r = drop (suc x) r ++ take x r
 
--- how many entries stand strictly between a and b in u's ring
-unfoldable pub gap : Plan → ℕ → ℕ → ℕ → ℕ
-gap p u a b = index_of b (onward a (ring p u))
-
--- where the right frontier neighbour of position k stands in its ring
-unfoldable pub turn : Plan → List ℕ → ℕ → ℕ
-turn p f k = index_of (get_or f (suc k) 0) (ring p (get_or f k 0))
-
--- the same, by a table of positions
-unfoldable pub turn_by : List ℕ → Plan → List ℕ → ℕ → ℕ
-turn_by t p f k = index_by t p (get_or f k 0) (get_or f (suc k) 0)
-
--- how many contexts are below position k, where its right frontier neighbour stands at place x
-unfoldable pub depth_from : Plan → List ℕ → ℕ → ℕ → ℕ
-depth_from p f k x = index_of (get_or f (k - 1) 0) (turned_at x (ring p (get_or f k 0)))
-
--- how many contexts are below position k
-unfoldable pub depth : Plan → List ℕ → ℕ → ℕ
-depth p f k = gap p (get_or f k 0) (get_or f (suc k) 0) (get_or f (k - 1) 0)
-
--- the ring of position k from the entry after its right frontier neighbour on
-unfoldable pub under : Plan → List ℕ → ℕ → List ℕ
-under p f k = onward (get_or f (suc k) 0) (ring p (get_or f k 0))
-
--- what is below position k, by a table of positions: the ring of position k is read from the entry after its right frontier neighbour on, up to its left frontier neighbour
-abbrev pub below_of : Located → List ℕ → ℕ → Below
-below_of l f k = record { rings = l.rings; u = get_or f k 0; x = turn_by l.places.now (plan_of l.rings) f k; left = get_or f (k - 1) 0 }
+-- what is below position k: the ring of position k is read from the entry after its right frontier neighbour on, up to its left frontier neighbour
+abbrev pub below_of : Rings → List ℕ → ℕ → Below
+below_of r f k = record { rings = r; u = get_or f k 0; x = index_of (get_or f (suc k) 0) (ring (plan_of r) (get_or f k 0)); left = get_or f (k - 1) 0 }
 
 -- what is read there
 abbrev pub reads : Below → List ℕ

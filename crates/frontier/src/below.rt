@@ -38,9 +38,8 @@ impl<'a> Front<'a> {
     }
 
     // What is below position k.
-    #[tactic(auto, unfolding(crate::specs::Run::turn_by))]
     pub fn below(&self, k: usize) -> Below<'a>
-        ensures value { result ≡ run.below_of self.now.located self.now.f.now k }
+        ensures value { result ≡ run.below_of self.now.located.rings self.now.f.now k }
         ensures x_bound { result.x < 2 ^ 8 }
     {
         let u = arrays::num(self.f, k);

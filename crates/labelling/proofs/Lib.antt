@@ -1,3 +1,5 @@
+pub mod Draws
+pub mod Puts
 pub mod Arrays
 pub mod Unlabelled
 pub mod Frontiers

@@ -4,17 +4,17 @@ use mathlib.Core.Path.{◌≡◌, refl, sym, ap, ◌∙◌}
 use mathlib.Core.List.{List, map}
 use mathlib.Core.Bool.{Bool, true, false}
 use native.Mathlib.Omega.{arith}
-use lib.ListN.{length, get_or, set, take, drop, length-append, length-take, get_or-eq_default}
+use lib.ListN.{length, get_or, take, drop, length-append, length-take, get_or-eq_default}
 use lib.Seq.{get_or-take, get_or-drop}
 use lib.Dec.{ltb}
-use borrow.Author.Tests.{ltb-true, ltb-false, lt-ltb, le-ltb}
+use borrow.Author.Tests.{ltb-true, ltb-false}
 use Rattle.lists.specs.Ranges.{from}
 use Rattle.lists.specs.Parts.{concat, index_of}
 use Rattle.lists.specs.Spans.{stretch}
 use Rattle.lists.proofs.Ranges.{get_or-map-from}
 use Rattle.lists.proofs.Spans.{length-stretch}
 use Rattle.model.specs.Plan.{Plan, entries, ring, adjacent}
-use Rattle.model.specs.Labels.{unlabelled, start, labels_around, label_of, put}
+use Rattle.model.specs.Labels.{unlabelled, start, labels_around, label_of}
 use Rattle.rings.specs.Tables.{start_of, starts_of, size_of, rows, table}
 use Rattle.rings.proofs.Rows.{start_first, start-more, size_outside, entries-rows, ring-size, member_index}
 
@@ -103,12 +103,3 @@ module _ (starts sizes es : List ℕ) (n : ℕ) (same : starts ≡ starts_of siz
     -- s + i is the place of its label
     pub place_there : i < k → s + i ≡ start (table sizes es n) u + index_of v (ring (table sizes es n) u)
     place_there h = (λ j. begins h j + at j) ∙ ap (λ (p : Plan). start p u + index_of v (ring p u)) is-table
-
-    -- a label put on that dart is put at s + i
-    pub put_there : (ls : List ℕ) (l : ℕ) → i < k → set ls (s + i) l ≡ put (table sizes es n) u v l ls
-    unfolding put
-    put_there ls l h = (λ j. set ls (begins h j + at j) l) ∙ sym (rw (is_dart ∙ lt-ltb i k h)) ∙ ap (λ (p : Plan). put p u v l ls) is-table
-
-    pub put-none : (ls : List ℕ) (l : ℕ) → k ≤ i → ls ≡ put (table sizes es n) u v l ls
-    unfolding put
-    put-none ls l h = sym (rw (is_dart ∙ le-ltb i k h)) ∙ ap (λ (p : Plan). put p u v l ls) is-table

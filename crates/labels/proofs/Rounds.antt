@@ -8,7 +8,7 @@ use native.Mathlib.Omega.{arith}
 use lib.ListN.{length, get_or, take, drop, take-append-drop, length-append, length-take, drop_of_length-le}
 use lib.Seq.{slice, drop-cons, take_all, drop-append_seam, take-append_seam}
 use lib.Dec.{eqb, ltb}
-use borrow.Author.Tests.{eqb-true, eq-eqb, ne_eqb, ltb-true, ltb-false, lt-ltb, le-ltb}
+use borrow.Author.Tests.{eqb-true, eqb-false, eq-eqb, ne_eqb, ltb-true, ltb-false, lt-ltb}
 use Rattle.std.proofs.lemmas.List.{drop-take}
 use Rattle.lists.specs.Tests.{same_list}
 use Rattle.lists.specs.Ranges.{from}
@@ -41,19 +41,6 @@ weight_same a b e = rw (eq-eqb a b e)
 weight_next : (a b : ℕ) → b ≡ suc a → b < 4 → change_weight a b ≡ 1
 unfolding change_weight
 weight_next a b e h = rw (ne_eqb a b (λ q. omega arith), lt-ltb a 4 (omega arith), eq-eqb b ((a + 1) % 4) (omega arith))
-
-module _ (a b : ℕ) (apart : a ≡ b → ⊥) where
-  pub weight_high : 4 ≤ a → 5 ≡ change_weight a b
-  unfolding change_weight
-  weight_high h = sym (rw (ne_eqb a b apart, le-ltb a 4 h))
-
-  pub weight_one : a < 4 → b ≡ (a + 1) % 4 → 1 ≡ change_weight a b
-  unfolding change_weight
-  weight_one h e = sym (rw (ne_eqb a b apart, lt-ltb a 4 h, eq-eqb b ((a + 1) % 4) e))
-
-  pub weight_other : a < 4 → (b ≡ (a + 1) % 4 → ⊥) → 5 ≡ change_weight a b
-  unfolding change_weight
-  weight_other h e = sym (rw (ne_eqb a b apart, lt-ltb a 4 h, ne_eqb b ((a + 1) % 4) e))
 
 data Change (a b : ℕ) : Type 0 where
   none : a ≡ b → change_weight a b ≡ 0 → Change a b
@@ -233,19 +220,10 @@ same_bool false false f g = refl
 pub runs_exactly : (r : List ℕ) → four_runs r ≡ eqb (round_sum r) 4
 runs_exactly r = same_bool (four_runs r) (eqb (round_sum r) 4) (λ e. eq-eqb (round_sum r) 4 (runs_weigh r e)) (λ e. weigh_runs r (eqb-true (round_sum r) 4 e))
 
--- a change that weighs more than 1 weighs more than 4
-weight_heavy : (a b : ℕ) → 1 < change_weight a b → 4 < change_weight a b
-weight_heavy a b h = go (change_of a b)
-  where
-    go : Change a b → 4 < change_weight a b
-    go (none s w) = absurd (omega arith)
-    go (next lo s w) = absurd (omega arith)
-    go (other w) = omega arith
-
--- ---- let mut last = r[r.len() - 1]; for label in r { let w = weight_of(last, label); if w > 1 { return false; } weight += w; last = label; } weight == 4
+-- ---- for label in r { changes = min(changes + change_weight(last, label), 5); last = label; } changes == 4
 pub record Weighs (r : List ℕ) (i last weight : ℕ) : Type 0 where
-  pub light : weight ≤ i
-  pub same : round_sum r ≡ weight + change_sum last (drop i r)
+  pub few : weight ≤ 5
+  pub same : min (round_sum r) 5 ≡ min (weight + change_sum last (drop i r)) 5
 
 last_at : (a : ℕ) (l : List ℕ) → 0 < length l → last_of a l ≡ get_or l (length l - 1) a
 unfolding last_of
@@ -258,30 +236,30 @@ last_at a (b ∷ c ∷ l) h =
 pub weighs_start : {r : List ℕ} {last : ℕ} → 0 < length r → last ≡ get_or r (length r - 1) 0 → Weighs r 0 last 0
 unfolding round_sum
 weighs_start {r} {last} h q =
-    record { light = omega arith; same = ap (λ (b : ℕ). change_sum b r) (last_at 5 r h ∙ get_or-inside r (length r - 1) 5 0 (omega arith) ∙ sym q) ∙ omega arith }
+    let begun : round_sum r ≡ change_sum last r = ap (λ (b : ℕ). change_sum b r) (last_at 5 r h ∙ get_or-inside r (length r - 1) 5 0 (omega arith) ∙ sym q) in
+    record { few = omega arith; same = omega arith }
 
 module _ {r : List ℕ} {i last weight : ℕ} (inv : Weighs r i last weight) where
   -- one label more
-  weighs_more : {label w : ℕ} → i < length r → label ≡ get_or r i 0 → w ≡ change_weight last label → round_sum r ≡ weight + w + change_sum label (drop (i + 1) r)
+  pub weighs_on : {label w weight' : ℕ} → i < length r → label ≡ get_or r i 0 → w ≡ change_weight last label → weight' ≡ min (weight + w) 5 → Weighs r (i + 1) label weight'
   unfolding change_sum
-  weighs_more {label} {w} h q p =
+  weighs_on {label} {w} h q p e =
       let z : suc i ≡ i + 1 = omega arith in
       let cut : drop i r ≡ label ∷ drop (i + 1) r = drop-cons r i 0 h ∙ (λ j. sym q j ∷ drop (z j) r) in
-      let s = inv.same ∙ ap (λ (m : List ℕ). weight + change_sum last m) cut in
-      omega arith
-
-  pub weighs_on : {label w : ℕ} → w ≡ change_weight last label → label ≡ get_or r i 0 → i < length r → w ≤ 1 → Weighs r (i + 1) label (weight + w)
-  weighs_on p q h k = record { light = let l = inv.light in omega arith; same = weighs_more h q p }
-
-  pub weighs_heavy : {label w : ℕ} {s : List ℕ} → w ≡ change_weight last label → r ≡ s → label ≡ get_or r i 0 → i < length r → 1 < w → false ≡ four_runs s
-  weighs_heavy {label} p is q h k = let s = weighs_more h q p in let m = weight_heavy last label (omega arith) in sym (runs_exactly r ∙ ne_eqb (round_sum r) 4 (λ z. omega arith)) ∙ ap four_runs is
+      let s = inv.same ∙ ap (λ (m : List ℕ). min (weight + change_sum last m) 5) cut in
+      record { few = omega arith; same = omega arith }
 
   pub weighs_end : {s : List ℕ} → r ≡ s → length r ≤ i → eqb weight 4 ≡ four_runs s
   unfolding change_sum
   weighs_end is h =
       let gone : drop i r ≡ [] = drop_of_length-le r {i = i} h in
-      let s : round_sum r ≡ weight = inv.same ∙ ap (λ (m : List ℕ). weight + change_sum last m) gone ∙ omega arith in
-      ap (λ (k : ℕ). eqb k 4) (sym s) ∙ sym (runs_exactly r) ∙ ap four_runs is
+      let few = inv.few in
+      let s : min (round_sum r) 5 ≡ weight = inv.same ∙ ap (λ (m : List ℕ). min (weight + change_sum last m) 5) gone ∙ omega arith in
+      go (eqb weight 4) refl s ∙ sym (runs_exactly r) ∙ ap four_runs is
+    where
+      go : (t : Bool) → eqb weight 4 ≡ t → min (round_sum r) 5 ≡ weight → t ≡ eqb (round_sum r) 4
+      go true e s = let z = eqb-true weight 4 e in sym (eq-eqb (round_sum r) 4 (omega arith))
+      go false e s = sym (ne_eqb (round_sum r) 4 (λ z. eqb-false weight 4 e (omega arith)))
 
 -- ---- the labels up to the last
 slice_end : (l : List ℕ) (a e end : ℕ) → end ≡ min e (length l) → slice a end l ≡ slice a e l

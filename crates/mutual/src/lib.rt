@@ -6,17 +6,17 @@ ghost use Rattle.model.specs.Outcome.{rule};
 ghost use Rattle.model.specs.Plan.{adjacent, unreturned};
 ghost use Rattle.refusal.specs.Refusals.{told};
 ghost use Rattle.lent.specs.Plans.{lent_of};
-ghost use Rattle.places.specs.Places.{places_of};
+ghost use Rattle.places.specs.Places.{Finds};
 
 use lent::LentRings;
 use refusal::Refusal;
 
-// Rings in a lent file, with the table of their positions.
+// Rings in a lent file, with a table in which the place of each of their entries stands.
 #[derive(Clone, Copy)]
 struct Located<'a> {
     rings: LentRings<'a>,
     places: &'a [u8],
-    ghost placed: { places.now ≡ places_of (lent_of rings) },
+    ghost own: { Finds places.now (lent_of rings) },
 }
 
 impl Located<'_> {

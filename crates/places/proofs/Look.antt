@@ -1,85 +1,44 @@
--- Look-ups by a table of positions, case by case as the code makes them; by the plan's own table they are the look-ups in its rings.
-use Prim.Native.Nat.{ℕ, suc, ◌-◌, ◌<◌}
+-- What the cell of an entry holds in a table that finds the entries, and what the entry's place says of it.
+use Prim.Native.Nat.{ℕ, suc, ◌-◌}
 use mathlib.Core.Path.{◌≡◌, refl, sym, ap, ◌∙◌}
 use mathlib.Core.List.{List}
+use mathlib.Core.Logic.{◌⊎◌, inl, inr, ⊎_elim}
 use mathlib.Core.Bool.{Bool, true, false, not}
 use native.Mathlib.Omega.{arith}
 use lib.ListN.{length, get_or}
-use lib.Dec.{eqb, ltb}
-use borrow.Author.Tests.{ltb-true, ltb-false, lt-ltb, eq-eqb, ne_eqb}
+use lib.Dec.{eqb}
+use Rattle.std.specs.Prelude.{Option, Some}
+use borrow.Author.Tests.{ltb-false, eq-eqb, ne_eqb}
 use Rattle.lists.specs.Tests.{member}
 use Rattle.lists.specs.Parts.{index_of}
 use Rattle.model.specs.Plan.{Plan, ring, adjacent}
-use Rattle.rings.proofs.Rows.{index_le, member_index}
-use Rattle.places.specs.Places.{place, cell, tabled, places_of, placed, index_by, adjacent_by}
-use Rattle.places.proofs.Notes.{places_cell, place_absent, place-present}
+use Rattle.rings.specs.Tables.{cell}
+use Rattle.rings.proofs.Rows.{index_le, member_index, cell_some}
+use Rattle.places.specs.Places.{place, Finds}
+use Rattle.places.proofs.Notes.{place_absent, place-present}
 
-module _ (t : List ℕ) (p : Plan) (u v : ℕ) where
-  -- there is no cell: the ring is searched
-  pub index_off : tabled u v ≡ false → index_of v (ring p u) ≡ index_by t p u v
-  unfolding index_by
-  index_off h = sym (rw h)
+-- the cell of a pair, where it has one, holds the place
+pub cell-told : (p : Plan) (t : List ℕ) → Finds t p → (u v : ℕ) {o : Option ℕ} {at x : ℕ} → o ≡ cell u v → o ≡ Some at → x ≡ get_or t at 0 → x ≡ place v (ring p u)
+cell-told p t finds u v is some read = let (h, k, e) = cell_some u v is some in read ∙ ap (λ (at : ℕ). get_or t at 0) e ∙ finds u v h k
 
-  -- the cell is 0: the ring's length
-  pub index_none : {x : ℕ} → x ≡ get_or t (cell u v) 0 → u < 200 → v < 200 → x ≡ 0 → length (ring p u) ≡ index_by t p u v
-  unfolding index_by placed
-  index_none q h k z = sym (rw (lt-ltb u 200 h, lt-ltb v 200 k, eq-eqb (get_or t (cell u v) 0) 0 (sym q ∙ z)))
-
-  -- the cell holds an index and one
-  pub index_some : {x : ℕ} → x ≡ get_or t (cell u v) 0 → u < 200 → v < 200 → (x ≡ 0 → ⊥) → x - 1 ≡ index_by t p u v
-  unfolding index_by placed
-  index_some q h k f = ap (λ (y : ℕ). y - 1) q ∙ sym (rw (lt-ltb u 200 h, lt-ltb v 200 k, ne_eqb (get_or t (cell u v) 0) 0 (λ z. f (q ∙ z))))
-
-  -- the same of whether u lists v: no cell
-  pub adjacent_off : tabled u v ≡ false → adjacent p u v ≡ adjacent_by t p u v
-  unfolding adjacent_by
-  adjacent_off h = sym (rw h)
-
-  -- a cell, which is not 0 where u lists v
-  pub adjacent-cell : {x : ℕ} → x ≡ get_or t (cell u v) 0 → u < 200 → v < 200 → not (eqb x 0) ≡ adjacent_by t p u v
-  unfolding adjacent_by
-  adjacent-cell q h k = ap (λ (y : ℕ). not (eqb y 0)) q ∙ sym (rw (lt-ltb u 200 h, lt-ltb v 200 k))
-
--- an entry that is not there has the length for its index
-index_absent : (v : ℕ) (l : List ℕ) → member v l ≡ false → index_of v l ≡ length l
-index_absent v l e = let h = ltb-false (index_of v l) (length l) (sym (member_index v l) ∙ e) in let k = index_le v l in omega arith
-
--- the cases of a look-up: no cell, a cell
-by-cell {ℓ} : {A : Type ℓ} (u v : ℕ) → (tabled u v ≡ false → A) → (u < 200 → v < 200 → A) → A
-by-cell {A = A} u v off inside = go (ltb u 200) (ltb v 200) refl refl
+-- the place of an entry by whether it is there; one that is not has the length for its index
+place-cases : (v : ℕ) (l : List ℕ) → (member v l ≡ true) × (place v l ≡ suc (index_of v l)) ⊎ (member v l ≡ false) × (place v l ≡ 0) × (index_of v l ≡ length l)
+place-cases v l = go (member v l) refl
   where
-    go : (x y : Bool) → ltb u 200 ≡ x → ltb v 200 ≡ y → A
-    go false y e f = off (rw e)
-    go true false e f = off (rw (e, f))
-    go true true e f = inside (ltb-true u 200 e) (ltb-true v 200 f)
+    go : (b : Bool) → member v l ≡ b → (member v l ≡ true) × (place v l ≡ suc (index_of v l)) ⊎ (member v l ≡ false) × (place v l ≡ 0) × (index_of v l ≡ length l)
+    go true e = inl (e, place-present v l e)
+    go false e = let h = ltb-false (index_of v l) (length l) (sym (member_index v l) ∙ e) in let k = index_le v l in inr (e, place_absent v l e, omega arith)
 
--- By the plan's own table the index is the index in the ring
-pub index_places : (p : Plan) (u v : ℕ) → index_by (places_of p) p u v ≡ index_of v (ring p u)
-index_places p u v = by-cell u v (λ h. sym (index_off (places_of p) p u v h)) (λ h k. inside h k (member v (ring p u)) refl)
-  where
-    inside : u < 200 → v < 200 → (b : Bool) → member v (ring p u) ≡ b → index_by (places_of p) p u v ≡ index_of v (ring p u)
-    inside h k true e =
-        let q = places_cell p u v h k ∙ place-present v (ring p u) e in
-        sym (index_some (places_of p) p u v (sym q) h k (λ z. omega arith)) ∙ omega arith
-    inside h k false e =
-        let q = places_cell p u v h k ∙ place_absent v (ring p u) e in
-        sym (index_none (places_of p) p u v (sym q) h k refl) ∙ sym (index_absent v (ring p u) e)
+module _ (p : Plan) (u v : ℕ) {x : ℕ} (is : x ≡ place v (ring p u)) where
+  -- u lists v where the place is not 0
+  pub adjacent-cell : not (eqb x 0) ≡ adjacent p u v
+  unfolding adjacent
+  adjacent-cell = ⊎_elim (λ t. ap not (ne_eqb x 0 (λ z. let q = t.1 in omega arith)) ∙ sym t.0) (λ t. ap not (eq-eqb x 0 (is ∙ t.1)) ∙ sym t.0) (place-cases v (ring p u))
 
--- By the plan's own table u lists v where it does
-pub adjacent_places : (p : Plan) (u v : ℕ) → adjacent_by (places_of p) p u v ≡ adjacent p u v
-unfolding adjacent
-adjacent_places p u v = by-cell u v (λ h. sym (adjacent_off (places_of p) p u v h)) (λ h k. sym (adjacent-cell (places_of p) p u v refl h k) ∙ ap (λ (y : ℕ). not (eqb y 0)) (places_cell p u v h k) ∙ inside (member v (ring p u)) refl)
-  where
-    inside : (b : Bool) → member v (ring p u) ≡ b → not (eqb (place v (ring p u)) 0) ≡ member v (ring p u)
-    inside true e = ap (λ (y : ℕ). not (eqb y 0)) (place-present v (ring p u) e) ∙ ap not (ne_eqb (suc (index_of v (ring p u))) 0 (λ z. omega arith)) ∙ sym e
-    inside false e = ap (λ (y : ℕ). not (eqb y 0)) (place_absent v (ring p u) e) ∙ sym e
+  -- its index is the ring's length where the place is 0
+  pub index_none : x ≡ 0 → index_of v (ring p u) ≡ length (ring p u)
+  index_none z = ⊎_elim (λ t. let q = t.1 in absurd (omega arith)) (λ t. t.2) (place-cases v (ring p u))
 
--- ---- what a look-up says, where the table is the plan's own
-module _ (p : Plan) {t : List ℕ} (own : t ≡ places_of p) where
-  -- where v stands in u's ring
-  pub index_told : (u v : ℕ) {r : ℕ} → r ≡ index_by t p u v → r ≡ index_of v (ring p u)
-  index_told u v e = e ∙ ap (λ (s : List ℕ). index_by s p u v) own ∙ index_places p u v
-
-  -- whether u lists v
-  pub adjacent-told : (u v : ℕ) {r : Bool} → r ≡ adjacent_by t p u v → r ≡ adjacent p u v
-  adjacent-told u v e = e ∙ ap (λ (s : List ℕ). adjacent_by s p u v) own ∙ adjacent_places p u v
+  -- else it is one less than the place
+  pub index_some : (x ≡ 0 → ⊥) → x - 1 ≡ index_of v (ring p u)
+  index_some f = ⊎_elim (λ t. let q = t.1 in omega arith) (λ t. absurd (f (is ∙ t.1))) (place-cases v (ring p u))

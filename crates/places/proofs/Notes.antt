@@ -5,7 +5,7 @@ use mathlib.Core.List.{List, [], ◌∷◌, ◌++◌, map}
 use mathlib.Core.Bool.{Bool, true, false, cond, ◌&&◌, ◌||◌, false≢true}
 use native.Mathlib.Omega.{arith}
 use Rattle.std.specs.List.{slice_range}
-use lib.ListN.{length, get_or, get_or-eq_default, set, take, drop, replicate, length-set, length-replicate}
+use lib.ListN.{length, get_or, set, take, drop, replicate, length-set, length-replicate}
 use lib.Seq.{ext_get_or, take-suc, take_all, take-nil, length-take-le, get_or-set_same, get_or-set_other}
 use lib.Arith.{lt_of_le-ne}
 use lib.Dec.{eqb, ltb}
@@ -19,10 +19,11 @@ use Rattle.lists.proofs.Tests.{any_append}
 use Rattle.lists.proofs.Spans.{past, stretch_part, get_or-stretch}
 use Rattle.lists.proofs.Ranges.{length-map-from, get_or-map-from}
 use Rattle.lists.proofs.Padded.{get_or-zeros}
-use Rattle.model.specs.Plan.{Plan, count, neighbour, entries, ring}
+use Rattle.model.specs.Plan.{Plan, count, neighbour, ring}
+use Rattle.model.proofs.Plans.{ring_outside}
 use Rattle.rings.specs.Tables.{size_of, rows}
 use Rattle.rings.proofs.Rows.{ring-at}
-use Rattle.places.specs.Places.{place, cell, tabled, places_of, noted, over, filled}
+use Rattle.places.specs.Places.{place, cell, tabled, places_of, noted, over, filled, Finds}
 
 -- ---- the table cell by cell
 -- the table's length
@@ -86,6 +87,10 @@ module _ (v : ℕ) (l : List ℕ) where
       go : (t : Bool) → member v l ≡ t → place v (l ++ (w ∷ [])) ≡ place v l
       go true e = place_kept (w ∷ []) e
       go false e = rw (any_append (eqb v) l (w ∷ []), e, ne_eqb v w h)
+
+-- past the last context there are no entries
+bare : (p : Plan) (a v : ℕ) → count p ≤ a → place v (ring p a) ≡ 0
+bare p a v h = ap (place v) (ring_outside p a h) ∙ place_absent v [] refl
 
 -- ---- a number noted
 module _ (t : List ℕ) (u v x : ℕ) where
@@ -153,6 +158,10 @@ over_zero x = go (eqb x 0) refl
     go true e = over_none 0 (eqb-true x 0 e) ∙ sym (eqb-true x 0 e)
     go false e = over-some 0 (eqb-false x 0 e)
 
+-- nor to the place of an entry where there are none
+over_bare : (x v : ℕ) → over x (place v []) ≡ x
+over_bare x v = ap (over x) (place_absent v [] refl) ∙ over_zero x
+
 -- ---- of a table's cells that are 0, those of the rings before u's are noted, of u's ring those of the first i entries, of the rings after it none
 pub record Notes (p : Plan) (t₀ : List ℕ) (u i : ℕ) (t : List ℕ) : Type 0 where
   pub long : length t ≡ length t₀
@@ -163,12 +172,26 @@ pub record Notes (p : Plan) (t₀ : List ℕ) (u i : ℕ) (t : List ℕ) : Type 
 
 -- nothing is noted yet
 pub notes_start : {p : Plan} {t : List ℕ} → Notes p t 0 0 t
-notes_start {p} {t} = record { long = refl; done = λ a v h k f l. absurd (omega arith); here = λ v h k f. sym (ap (over (get_or t (cell 0 v) 0)) (place_absent v [] refl) ∙ over_zero (get_or t (cell 0 v) 0)); later = λ a v h k l. refl; beyond = λ k h. refl }
+notes_start {p} {t} =
+    record {
+      long = refl;
+      done = λ a v h k f l. absurd (omega arith);
+      here = λ v h k f. sym (over_bare (get_or t (cell 0 v) 0) v);
+      later = λ a v h k l. refl;
+      beyond = λ k h. refl;
+    }
 
 module _ {p : Plan} {t₀ : List ℕ} {u i : ℕ} {t : List ℕ} (inv : Notes p t₀ u i t) where
   -- the next entry of u's ring
   pub notes_on : {w x i' : ℕ} {t' : List ℕ} → u < 200 → i < length (ring p u) → w ≡ get_or (ring p u) i 0 → i' ≡ suc i → x ≡ i' → t' ≡ noted t u w x → Notes p t₀ u i' t'
-  notes_on {w} {x} {i'} {t'} hu hi ew ei ex et = record { long = ap length et ∙ noted_long t u w x ∙ inv.long; done = λ a v h k f l. apart a v k (omega arith) ∙ inv.done a v h k f l; here = λ v h k f. ap (λ (s : List ℕ). get_or s (cell u v) 0) et ∙ same v k f (eqb v w) refl ∙ ap (λ (l : List ℕ). over (get_or t₀ (cell u v) 0) (place v l)) (sym more); later = λ a v h k l. apart a v k (omega arith) ∙ inv.later a v h k l; beyond = λ k h. ap (λ (s : List ℕ). get_or s k 0) et ∙ noted-apart t u w x k hu (λ b e. absurd (omega arith)) ∙ inv.beyond k h }
+  notes_on {w} {x} {i'} {t'} hu hi ew ei ex et =
+      record {
+        long = ap length et ∙ noted_long t u w x ∙ inv.long;
+        done = λ a v h k f l. apart a v k (omega arith) ∙ inv.done a v h k f l;
+        here = λ v h k f. ap (λ (s : List ℕ). get_or s (cell u v) 0) et ∙ same v k f (eqb v w) refl ∙ ap (λ (l : List ℕ). over (get_or t₀ (cell u v) 0) (place v l)) (sym more);
+        later = λ a v h k l. apart a v k (omega arith) ∙ inv.later a v h k l;
+        beyond = λ k h. ap (λ (s : List ℕ). get_or s k 0) et ∙ noted-apart t u w x k hu (λ b e. absurd (omega arith)) ∙ inv.beyond k h;
+      }
     where
       r : List ℕ
       r = ring p u
@@ -183,7 +206,8 @@ module _ {p : Plan} {t₀ : List ℕ} {u i : ℕ} {t : List ℕ} (inv : Notes p 
       apart a v k d = ap (λ (s : List ℕ). get_or s (cell a v) 0) et ∙ noted-apart t u w x (cell a v) hu (λ b. other_ring a u v w k b d)
 
       -- the entry itself: its cell was not 0, or the entry stood in the ring before, or did not
-      entry : (v : ℕ) → v < 200 → cell u v < length t₀ → (b m : Bool) → eqb (get_or t₀ (cell u v) 0) 0 ≡ b → member v (take i r) ≡ m → get_or (noted t u v x) (cell u v) 0 ≡ over (get_or t₀ (cell u v) 0) (place v (take i r ++ (v ∷ [])))
+      entry : (v : ℕ) → v < 200 → cell u v < length t₀ → (b m : Bool) → eqb (get_or t₀ (cell u v) 0) 0 ≡ b → member v (take i r) ≡ m
+          → get_or (noted t u v x) (cell u v) 0 ≡ over (get_or t₀ (cell u v) 0) (place v (take i r ++ (v ∷ [])))
       entry v k f false m e q =
           let full = eqb-false (get_or t₀ (cell u v) 0) 0 e in
           let old = inv.here v hu k f ∙ over-some (place v (take i r)) full in
@@ -213,42 +237,46 @@ module _ {p : Plan} {t₀ : List ℕ} {u i : ℕ} {t : List ℕ} (inv : Notes p 
 
   -- u's ring is passed
   pub notes_next : {u' : ℕ} → length (ring p u) ≤ i → u' ≡ suc u → Notes p t₀ u' 0 t
-  notes_next {u'} h e = record { long = inv.long; done = λ a v k l f m. passed a v k l f m (eqb a u) refl; here = λ v k l f. inv.later u' v k l (omega arith) ∙ sym (ap (over (get_or t₀ (cell u' v) 0)) (place_absent v [] refl) ∙ over_zero (get_or t₀ (cell u' v) 0)); later = λ a v k l m. inv.later a v k l (omega arith); beyond = inv.beyond }
+  notes_next {u'} h e =
+      record {
+        long = inv.long;
+        done = λ a v k l f m. passed a v k l f m (eqb a u) refl;
+        here = λ v k l f. inv.later u' v k l (omega arith) ∙ sym (over_bare (get_or t₀ (cell u' v) 0) v);
+        later = λ a v k l m. inv.later a v k l (omega arith);
+        beyond = inv.beyond;
+      }
     where
       passed : (a v : ℕ) → a < 200 → v < 200 → cell a v < length t₀ → a < u' → (b : Bool) → eqb a u ≡ b → get_or t (cell a v) 0 ≡ over (get_or t₀ (cell a v) 0) (place v (ring p a))
       passed a v k l f m true q =
           let z = eqb-true a u q in
-          ap (λ (c : ℕ). get_or t (cell c v) 0) z ∙ inv.here v (omega arith) l (omega arith) ∙ ap (λ (r : List ℕ). over (get_or t₀ (cell u v) 0) (place v r)) (take_all i (ring p u) h) ∙ ap (λ (c : ℕ). over (get_or t₀ (cell c v) 0) (place v (ring p c))) (sym z)
+          let whole = ap (λ (r : List ℕ). over (get_or t₀ (cell u v) 0) (place v r)) (take_all i (ring p u) h) in
+          ap (λ (c : ℕ). get_or t (cell c v) 0) z ∙ inv.here v (omega arith) l (omega arith) ∙ whole ∙ ap (λ (c : ℕ). over (get_or t₀ (cell c v) 0) (place v (ring p c))) (sym z)
       passed a v k l f m false q = inv.done a v k l f (lt_of_le-ne {i = a} {k = u} (omega arith) (eqb-false a u q))
 
   -- all rings are passed that the table has room for
   pub notes_end : min (count p) 200 ≤ u → t ≡ filled p t₀
-  unfolding filled ring entries
-  notes_end last = ext_get_or 0 t (map fresh (from 0 (length t₀))) (inv.long ∙ sym (length-map-from fresh 0 (length t₀))) (λ k h. each-cell k h (ltb k 40000) refl ∙ sym (get_or-map-from fresh 0 (length t₀) k 0 (let l = inv.long in omega arith) ∙ ap fresh (omega arith)))
+  unfolding filled
+  notes_end last =
+      ext_get_or 0 t (map fresh (from 0 (length t₀))) (inv.long ∙ sym (length-map-from fresh 0 (length t₀)))
+      (λ k h. each-cell k h (ltb k 40000) refl ∙ sym (get_or-map-from fresh 0 (length t₀) k 0 (let l = inv.long in omega arith) ∙ ap fresh (omega arith)))
     where
       fresh : ℕ → ℕ
       fresh k = over (get_or t₀ k 0) (get_or (places_of p) k 0)
 
-      -- there is no such ring
-      no-ring : (a : ℕ) → u ≤ a → a < 200 → ring p a ≡ []
-      no-ring a h k = ap (map neighbour) (get_or-eq_default p.rings [] (omega arith))
-
       none : (a v : ℕ) → u ≤ a → a < 200 → (j : ℕ) → place v (take j (ring p a)) ≡ 0
-      none a v h k j = ap (λ (l : List ℕ). place v (take j l)) (no-ring a h k) ∙ ap (place v) (take-nil j) ∙ place_absent v [] refl
-
-      bare : (a v : ℕ) → u ≤ a → a < 200 → place v (ring p a) ≡ 0
-      bare a v h k = ap (place v) (no-ring a h k) ∙ place_absent v [] refl
+      none a v h k j = ap (λ (l : List ℕ). place v (take j l)) (ring_outside p a (omega arith)) ∙ ap (place v) (take-nil j) ∙ place_absent v [] refl
 
       by_ring : (a v : ℕ) → a < 200 → v < 200 → cell a v < length t₀ → (x y : Bool) → ltb a u ≡ x → eqb a u ≡ y → get_or t (cell a v) 0 ≡ over (get_or t₀ (cell a v) 0) (place v (ring p a))
       by_ring a v h k f true y e g = inv.done a v h k f (ltb-true a u e)
       by_ring a v h k f false true e g =
           let z = eqb-true a u g in
           let l = ltb-false a u e in
-          ap (λ (c : ℕ). get_or t (cell c v) 0) z ∙ inv.here v (omega arith) k (omega arith) ∙ ap (over (get_or t₀ (cell u v) 0)) (none u v (omega arith) (omega arith) i ∙ sym (bare a v l h)) ∙ ap (λ (c : ℕ). over (get_or t₀ (cell c v) 0) (place v (ring p a))) (sym z)
+          let nothing = none u v (omega arith) (omega arith) i ∙ sym (bare p a v (omega arith)) in
+          ap (λ (c : ℕ). get_or t (cell c v) 0) z ∙ inv.here v (omega arith) k (omega arith) ∙ ap (over (get_or t₀ (cell u v) 0)) nothing ∙ ap (λ (c : ℕ). over (get_or t₀ (cell c v) 0) (place v (ring p a))) (sym z)
       by_ring a v h k f false false e g =
           let l = ltb-false a u e in
           let d = eqb-false a u g in
-          inv.later a v h k (lt_of_le-ne {i = u} {k = a} l (λ q. d (sym q))) ∙ sym (ap (over (get_or t₀ (cell a v) 0)) (bare a v l h) ∙ over_zero (get_or t₀ (cell a v) 0))
+          inv.later a v h k (lt_of_le-ne {i = u} {k = a} l (λ q. d (sym q))) ∙ sym (ap (over (get_or t₀ (cell a v) 0)) (bare p a v (omega arith)) ∙ over_zero (get_or t₀ (cell a v) 0))
 
       each-cell : (k : ℕ) → k < length t → (b : Bool) → ltb k 40000 ≡ b → get_or t k 0 ≡ fresh k
       each-cell k h true e =
@@ -257,25 +285,34 @@ module _ {p : Plan} {t₀ : List ℕ} {u i : ℕ} {t : List ℕ} (inv : Notes p 
           let s : 200 * (k / 200) + k % 200 ≡ k = omega arith in
           let a : k / 200 < 200 = omega arith in
           let b : k % 200 < 200 = omega arith in
-          ap (λ (j : ℕ). get_or t j 0) (sym s) ∙ by_ring (k / 200) (k % 200) a b (omega arith) (ltb (k / 200) u) (eqb (k / 200) u) refl refl ∙ ap (λ (j : ℕ). over (get_or t₀ j 0) (place (k % 200) (ring p (k / 200)))) s ∙ ap (over (get_or t₀ k 0)) (sym (places_at p k m))
+          let here = by_ring (k / 200) (k % 200) a b (omega arith) (ltb (k / 200) u) (eqb (k / 200) u) refl refl in
+          ap (λ (j : ℕ). get_or t j 0) (sym s) ∙ here ∙ ap (λ (j : ℕ). over (get_or t₀ j 0) (place (k % 200) (ring p (k / 200)))) s ∙ ap (over (get_or t₀ k 0)) (sym (places_at p k m))
       each-cell k h false e =
           let m = ltb-false k 40000 e in
           let l = length_places p in
           inv.beyond k m ∙ sym (ap (over (get_or t₀ k 0)) (sym (past (places_of p) k (omega arith))) ∙ over_zero (get_or t₀ k 0))
 
--- A table of 40000 zeros, filled, is the table of positions
-pub filled-zeros : (p : Plan) {t : List ℕ} → t ≡ replicate 40000 0 → filled p t ≡ places_of p
+-- A table that was all 0 finds the entries once it is filled, where it has a row for each context, or 200 rows
+pub finds-filled : (p : Plan) {n k : ℕ} {old t : List ℕ} → n ≡ count p → 200 * min n 200 ≤ k → old ≡ replicate k 0 → t ≡ filled p old → Finds t p
 unfolding filled zeros
-filled-zeros p {t} q = ext_get_or 0 (map fresh (from 0 (length t))) (places_of p) (size ∙ long ∙ sym (length_places p)) (λ k h. get_or-map-from fresh 0 (length t) k 0 (omega (arith, size)) ∙ ap fresh (omega arith) ∙ over_none (get_or (places_of p) k 0) (ap (λ (s : List ℕ). get_or s k 0) q ∙ get_or-zeros 40000 k))
+finds-filled p {k = k} {old} {t} size room none is u v h l = ap (λ (t : List ℕ). get_or t (cell u v) 0) is ∙ go (ltb (cell u v) k) refl
   where
     fresh : ℕ → ℕ
-    fresh k = over (get_or t k 0) (get_or (places_of p) k 0)
+    fresh c = over (get_or old c 0) (get_or (places_of p) c 0)
 
-    size : length (map fresh (from 0 (length t))) ≡ length t
-    size = length-map-from fresh 0 (length t)
+    long : length old ≡ k
+    long = ap length none ∙ length-replicate {A = ℕ} k 0
 
-    long : length t ≡ 40000
-    long = ap length q ∙ length-replicate {A = ℕ} 40000 0
+    go : (b : Bool) → ltb (cell u v) k ≡ b → get_or (map fresh (from 0 (length old))) (cell u v) 0 ≡ place v (ring p u)
+    go true e =
+        let m = ltb-true (cell u v) k e in
+        get_or-map-from fresh 0 (length old) (cell u v) 0 (omega (arith, long))
+        ∙ ap fresh (let z : 0 + cell u v ≡ cell u v = omega arith in z)
+        ∙ over_none (get_or (places_of p) (cell u v) 0) (ap (λ (s : List ℕ). get_or s (cell u v) 0) none ∙ get_or-zeros k (cell u v))
+        ∙ places_cell p u v h l
+    go false e =
+        let m = ltb-false (cell u v) k e in
+        sym (past (map fresh (from 0 (length old))) (cell u v) (omega (arith, length-map-from fresh 0 (length old), long))) ∙ sym (bare p u v (omega arith))
 
 -- an entry of u's ring, in the part of the entries that is the ring
 pub part-at : (starts sizes es : List ℕ) (n u : ℕ) {a k i : ℕ} {l : List ℕ} → a ≡ get_or starts u 0 → k ≡ size_of sizes n u → a + k ≤ length es

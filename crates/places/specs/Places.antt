@@ -1,9 +1,9 @@
--- The table of positions of a plan: where each entry stands in each ring, for rings and entries below 200; and look-ups by such a table.
-use Rattle.std.specs.Prelude.{ℕ, suc, ◌+◌, ◌-◌, ◌*◌, ◌/◌, ◌%◌, List, map, Bool, cond, not, ◌&&◌, get_or, set, length, eqb, ltb}
+-- The table of positions of a plan: where each entry stands in each ring, for rings and entries below 200.
+use Rattle.std.specs.Prelude.{ℕ, suc, ◌+◌, ◌*◌, ◌/◌, ◌%◌, ◌<◌, ◌≡◌, List, map, Bool, cond, ◌&&◌, get_or, set, length, eqb, ltb}
 use Rattle.lists.specs.Tests.{member}
 use Rattle.lists.specs.Ranges.{from}
 use Rattle.lists.specs.Parts.{index_of}
-use Rattle.model.specs.Plan.{Plan, ring, adjacent}
+use Rattle.model.specs.Plan.{Plan, ring}
 
 -- one more than v's first index in a ring; 0 where v is not in it
 unfoldable pub place : ℕ → List ℕ → ℕ
@@ -33,14 +33,6 @@ over x y = cond (eqb x 0) y x
 unfoldable pub filled : Plan → List ℕ → List ℕ
 filled p t = map (λ (k : ℕ). over (get_or t k 0) (get_or (places_of p) k 0)) (from 0 (length t))
 
--- an index from the number of a cell, in a ring of k
-unfoldable pub placed : ℕ → ℕ → ℕ
-placed k x = cond (eqb x 0) k (x - 1)
-
--- where v stands in u's ring, by a table; the ring's size if it does not
-unfoldable pub index_by : List ℕ → Plan → ℕ → ℕ → ℕ
-index_by t p u v = cond (tabled u v) (placed (length (ring p u)) (get_or t (cell u v) 0)) (index_of v (ring p u))
-
--- u lists v, by a table
-unfoldable pub adjacent_by : List ℕ → Plan → ℕ → ℕ → Bool
-adjacent_by t p u v = cond (tabled u v) (not (eqb (get_or t (cell u v) 0) 0)) (adjacent p u v)
+-- The law of a table: in the cell of a ring below 200 and an entry below 200 the entry's place stands; past its end a table reads 0
+abbrev pub Finds : List ℕ → Plan → Type 0
+Finds t p = (u v : ℕ) → u < 200 → v < 200 → get_or t (cell u v) 0 ≡ place v (ring p u)

@@ -2,20 +2,23 @@
 #![tactic(auto)]
 
 ghost use Rattle.std.specs.Prelude.{◌≡◌, ◌<◌, ◌^◌};
+ghost use Rattle.lists.specs.Parts.{index_of};
+ghost use Rattle.model.specs.Plan.{ring, adjacent};
 ghost use Rattle.rings.specs.Tables.{plan_of};
-ghost use Rattle.places.specs.Places.{places_of, noted, filled, index_by, adjacent_by};
+ghost use Rattle.places.specs.Places.{noted, filled, Finds};
 
 use rings::{Ringed, Rings};
 
-// Rings with a table of positions.
+// Rings with a table in which the place of each of their entries stands.
 #[derive(Clone, Copy)]
 pub struct Located<'a> {
     pub rings: Rings<'a>,
     pub places: &'a [u8],
+    pub ghost own: { Finds places.now (plan_of rings) },
 }
 
 // A number noted for the entry v of u's ring, where none is noted yet; rings and entries from 200 on are passed over.
-pub fn note(table: &mut [u8], u: usize, v: usize, x: u8)
+fn note(table: &mut [u8], u: usize, v: usize, x: u8)
     ensures { table.new ≡ noted table.old u v x }
 {
     if let Some(at) = rings::cell(u, v) {
@@ -61,9 +64,9 @@ fn fill_from<R: Ringed>(table: &mut [u8], rings: &R)
     }
 }
 
-// The table of positions of the rings' plan.
+// A table in which the place of each of the rings' entries stands.
 pub fn table<R: Ringed>(rings: &R) -> [u8; 40000]
-    ensures { result ≡ places_of (R.plan rings.now) }
+    ensures { Finds result (R.plan rings.now) }
 {
     let mut table = [0u8; 40000];
     fill_from(&mut table, rings);
@@ -71,9 +74,9 @@ pub fn table<R: Ringed>(rings: &R) -> [u8; 40000]
 }
 
 impl Located<'_> {
-    // Where v stands in u's ring by the table; the ring's size if it does not.
+    // Where v stands in u's ring; the ring's size if it does not.
     pub fn index_of(&self, u: usize, v: usize) -> usize
-        ensures value { result ≡ index_by self.now.places.now (plan_of self.now.rings) u v }
+        ensures value { result ≡ index_of v (ring (plan_of self.now.rings) u) }
         ensures upper_bound { result < 2 ^ 8 }
     {
         let Some(cell) = rings::cell(u, v) else {
@@ -85,9 +88,9 @@ impl Located<'_> {
         i
     }
 
-    // Is v in u's ring, by the table?
+    // Is v in u's ring?
     pub fn is_adjacent(&self, u: usize, v: usize) -> bool
-        ensures { result ≡ adjacent_by self.now.places.now (plan_of self.now.rings) u v }
+        ensures { result ≡ adjacent (plan_of self.now.rings) u v }
     {
         match rings::cell(u, v) {
             Some(at) => arrays::num(self.places, at) != 0,

@@ -1,4 +1,4 @@
 pub mod Arrays
-pub mod Steps
+pub mod Endings
 pub mod Ruled
 pub mod Down

@@ -1,14 +1,10 @@
--- The steps of the sweep as the engine runs them, on arrays.
-use Rattle.std.specs.Prelude.{ℕ, ◌+◌, ◌≤◌, ◌<◌, ◌≡◌, List, Option, MatchOption, Bool, true, cond, ◌&&◌, eqb}
+-- The sweep before the label rules are tested: of which plans, and how.
+use Rattle.std.specs.Prelude.{ℕ, List, Bool, cond, ◌&&◌, eqb}
 use Rattle.model.specs.Outcome.{Outcome, refused}
 use Rattle.model.specs.Plan.{Plan, count, entry_count, dart_count}
-use Rattle.model.specs.Sweep.{State, eligible, advance, sweep_from}
 use Rattle.fit.specs.Fits.{fit}
 use Rattle.sound.specs.Sound.{sound}
-use Rattle.frontier.specs.declared.Line as held
-use Rattle.frontier.specs.Run.{whole}
-use Rattle.frontier.specs.Front.{Front}
-use Rattle.labelling.specs.Labelling.{Labelled, swept}
+use Rattle.labelling.specs.Labelling.{swept}
 
 -- the plan keeps the rules 4 to 9, as the quick test tells with the count of 7
 unfoldable pub ruled : Plan → Bool
@@ -17,18 +13,3 @@ ruled p = eqb (entry_count p) (dart_count (count p)) && sound p
 -- the sweep before the label rules are tested, of a plan that fits; one that does not is not swept
 unfoldable pub steps_of : Plan → Outcome (List ℕ)
 steps_of p = cond (fit p) (swept p) (refused 13 0)
-
--- what a step of positions i and j gives: there is a line, and it and the labels hold the next state
-abbrev pub Taken : Plan → State → ℕ → ℕ → List ℕ → Option held.Line → Type 0
-Taken p s i j ls r = MatchOption r ⊥ (λ (next : held.Line). Front (advance p s i j) (whole next) × Labelled p (advance p s i j) ls)
-
--- it does so for each state that the line and the labels hold, where the pair is eligible
-abbrev pub Takes : Plan → held.Line → List ℕ → ℕ → ℕ → List ℕ → Option held.Line → Type 0
-Takes p v old i j new r = (s : State) → Front s (whole v) → Labelled p s old → i + 2 ≤ j → j < v.len → eligible p s i j ≡ true → Taken p s i j new r
-
--- what the sweep has come to, with k steps to go
-pub record Running (p : Plan) (k : ℕ) (v : held.Line) (ls : List ℕ) : Type 0 where
-  pub state : State
-  pub front : Front state (whole v)
-  pub labels : Labelled p state ls
-  pub same : swept p ≡ sweep_from p k state

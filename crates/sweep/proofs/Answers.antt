@@ -21,7 +21,7 @@ use Rattle.rings.specs.Tables.{starts_of, table}
 use Rattle.rings.proofs.Rows.{count-rows, held_small}
 use Rattle.rings.specs.Tables.{held}
 use Rattle.fit.proofs.Fits.{fit-says}
-use Rattle.steps.proofs.Steps.{swept_14, swept_long}
+use Rattle.steps.proofs.Endings.{swept_14, swept_long}
 
 -- ---- the answer
 -- an outcome with labels

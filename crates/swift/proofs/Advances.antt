@@ -15,9 +15,8 @@ use Rattle.model.specs.Sweep.{State, listed, replaced, advance}
 use Rattle.frontier.specs.Front.{Sane, Rep, Marks, Front}
 use Rattle.frontier.specs.Run.{line, whole}
 use Rattle.frontier.proofs.Lines.{marks-same}
-use Rattle.pairs.proofs.Dirt.{clean_once, clean_new}
-use Rattle.pairs.proofs.Pairs.{news-fit, gathered, next-front}
-use Rattle.edges.specs.Edges.{Guide}
+use Rattle.sweep_by_definition.proofs.Dirt.{clean_once, clean_new}
+use Rattle.sweep_by_definition.proofs.Pairs.{news-fit, gathered, next-front}
 use Rattle.labelling.specs.Labelling.{step_labels, Labelled}
 use Rattle.labelling.proofs.Frontiers.{step_labelled}
 use Rattle.counters.specs.Counter.{counted}
@@ -25,10 +24,6 @@ use Rattle.swift.specs.declared.course.Course.{Course}
 use Rattle.swift.specs.Courses.{Counts, Holds}
 use Rattle.swift.specs.Moves.{Steps, Spliced}
 use Rattle.counters.proofs.Tells.{counted_size}
-
--- the entries of the rings of a guided plan are below 200
-pub sane_of : {p : Plan} {t starts : List ℕ} → Guide p t starts → Sane p
-sane_of g = record { entry = g.small }
 
 module _ {p : Plan} (sane : Sane p) {s : State} {cnt l : List ℕ} {v : Course} {i j : ℕ} (t : Steps p s cnt v l i j) where
   -- there is room for the list

@@ -1,7 +1,7 @@
 -- What the arrays hold before the first step.
-use Prim.Native.Nat.{ℕ, ◌-◌, ◌≤◌, ◌<◌, min}
+use Prim.Native.Nat.{ℕ, ◌-◌, ◌≤◌, min}
 use mathlib.Core.Path.{◌≡◌, refl, sym, ap, ◌∙◌, subst}
-use mathlib.Core.List.{List, Memᴰ}
+use mathlib.Core.List.{List}
 use mathlib.Core.Bool.{Bool, true, false, cond, not}
 use native.Mathlib.Omega.{arith}
 use lib.ListN.{length, get_or, take}
@@ -9,10 +9,10 @@ use Rattle.std.proofs.Math.Seq.{take-append_seam}
 use Rattle.lists.specs.Spans.{zeros, padded}
 use Rattle.lists.proofs.Spans.{length-zeros}
 use Rattle.lists.proofs.Padded.{get_or-zeros}
-use Rattle.model.specs.Plan.{Plan, count, ring}
+use Rattle.model.specs.Plan.{Plan, count}
 use Rattle.model.specs.Sweep.{first_state, chordless, sweep_from}
-use Rattle.model.proofs.Plans.{mem-adjacent}
 use Rattle.model.proofs.PlanRules.{Sound}
+use Rattle.model.proofs.SweepEnds.{ring-inside}
 use Rattle.frontier.specs.Run.{whole}
 use Rattle.frontier.specs.Front.{Front}
 use Rattle.labelling.specs.Labelling.{Labelled, first_labels, swept}
@@ -45,10 +45,6 @@ module _ {p : Plan} (rules : Sound p) where
   abbrev f : List ℕ
   f = (first_state p).frontier
 
-  -- every ring entry is a context
-  inside : (u a : ℕ) → Memᴰ a (ring p u) → a < count p
-  inside u a m = rules.inside u a (mem-adjacent p u a m)
-
   module _ (few : count p ≤ 200) {v : Course} (front : Front (first_state p) (whole v.line)) (labels : v.labels ≡ first_labels p v.line.at v.line.len) (counts : Counts v.counts (counted p f (zeros (count p)))) where
     holds_first : Holds p (first_state p) (counted p f (zeros (count p))) v
     holds_first =
@@ -56,7 +52,7 @@ module _ {p : Plan} (rules : Sound p) where
           front = front;
           counts = counts;
           all = counted_size p f (zeros (count p)) ∙ length-zeros (count p);
-          inside = inside;
+          inside = ring-inside p rules;
           labels = subst (Labelled p (first_state p)) (sym labels) (first_labelled p front.rep.at front.rep.len);
         }
 
@@ -64,7 +60,7 @@ module _ {p : Plan} (rules : Sound p) where
     pub running_first : {n limit : ℕ} {b : Bool} → n ≡ count p → b ≡ chorded p v.line.marks v.line.at v.line.len → limit ≡ cond b 0 v.line.len → Running p n limit v
     unfolding swept first_state
     running_first {n} {limit} {b} size told is =
-        let chord : b ≡ not (chordless p f) = told ∙ chorded_is p rules f v.line.marks (once_first p rules) (λ u a m. let x = inside u a m in omega arith) front.marks front.rep.at front.rep.len in
+        let chord : b ≡ not (chordless p f) = told ∙ chorded_is p rules f v.line.marks (once_first p rules) (λ u a m. let x = ring-inside p rules u a m in omega arith) front.marks front.rep.at front.rep.len in
         let low : limit ≡ cond (chordless p f) (length f) 0 = is ∙ (λ i. cond (chord i) 0 (front.rep.len i)) ∙ turn (chordless p f) in
         record {
           state = first_state p;

@@ -1,6 +1,6 @@
 -- Chords of a list, as the code goes through it.
 use Prim.Native.Nat.{ℕ, suc, ◌+◌, ◌-◌, ◌≤◌, ◌<◌}
-use mathlib.Core.Path.{◌≡◌, refl, sym, ap, ◌∙◌}
+use mathlib.Core.Path.{◌≡◌, sym, ap, ◌∙◌}
 use mathlib.Core.List.{List}
 use mathlib.Core.Bool.{Bool, true, false, not, ◌&&◌}
 use mathlib.Core.Logic.{◌⊎◌, inl, inr}
@@ -27,10 +27,6 @@ stretch-rest l a = go (lt-or-le a (length l))
 -- ---- for k in 0..l.len() { if touches(l[k], l, k + 2) { return true; } } false
 pub record Chords (p : Plan) (l : List ℕ) (k : ℕ) : Type 0 where
   pub same : chordless p l ≡ chordless p (drop k l)
-
--- before the loop
-pub chords_start : {p : Plan} {l : List ℕ} → Chords p l 0
-chords_start = record { same = refl }
 
 module _ {p : Plan} {l : List ℕ} {k : ℕ} (inv : Chords p l k) where
   -- the next context apart from those after it

@@ -2,20 +2,15 @@
 use Prim.Native.Nat.{ℕ, suc, ◌+◌, ◌-◌, ◌≤◌, ◌<◌, min}
 use mathlib.Core.Path.{◌≡◌, sym, ap, ◌∙◌, subst}
 use mathlib.Core.List.{List}
-use mathlib.Core.Bool.{Bool, true, false, cond, false≢true}
+use mathlib.Core.Bool.{Bool, true, false, cond}
 use native.Mathlib.Omega.{arith}
 use lib.ListN.{length, take, length-take}
 use Rattle.std.specs.Prelude.{Option, Some, None}
 use Rattle.model.specs.Outcome.{Outcome, accepted, refused, ◌>>=◌}
-use Rattle.model.specs.Plan.{Plan, ring}
+use Rattle.model.specs.Plan.{Plan}
 use Rattle.model.specs.Sweep.{State, finished, finish, below, listed, advance, sweep_from}
 use Rattle.model.proofs.PlanRules.{Sound}
 use Rattle.model.proofs.Choices.{Chosen}
-use Rattle.frontier.specs.Front.{Sane}
-use Rattle.frontier.specs.Run.{kept}
-use Rattle.frontier.proofs.Fails.{kept_none}
-use Rattle.ends.specs.Ends.{first_line}
-use Rattle.ends.proofs.Beginning.{first-front}
 use Rattle.labelling.specs.Labelling.{in_array, swept}
 use Rattle.lists.specs.Spans.{padded}
 use Rattle.counters.specs.Quick.{landing, reach, resume}
@@ -31,10 +26,6 @@ use Rattle.swift.specs.Running.{Running, Takes, Settles}
 -- the front of a list has its length
 pub take_long : (q : ℕ) (l : List ℕ) → q ≤ length l → length (take q l) ≡ q
 take_long q l h = let z = length-take q l in omega arith
-
--- there is a first frontier
-pub first_whole : {p : Plan} → Sane p → length (ring p 0) ≤ 255 → kept (first_line p) ≡ None → ⊥
-first_whole {p} sane long none = false≢true (sym (kept_none (first_line p) none) ∙ (first-front p sane long).rep.ok)
 
 module _ {p : Plan} (rules : Sound p) where
   -- ---- the search

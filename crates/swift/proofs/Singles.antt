@@ -10,8 +10,7 @@ use borrow.Author.Tests.{lt-ltb, le-ltb, lt-leb, le-leb}
 use Rattle.lists.specs.Ranges.{first_from}
 use Rattle.lists.specs.Spans.{padded}
 use Rattle.model.specs.Plan.{Plan}
-use Rattle.places.specs.Places.{places_of}
-use Rattle.places.specs.declared.Located.{Located}
+use Rattle.rings.specs.declared.Rings.{Rings}
 use Rattle.rings.specs.Tables.{plan_of}
 use Rattle.frontier.specs.declared.below.Below.{Below}
 use Rattle.frontier.specs.Front.{Rep}
@@ -21,10 +20,9 @@ use Rattle.frontier.proofs.Puts.{deep_below}
 use Rattle.counters.specs.Quick.{single, candidate_from, candidate, open_at, reach}
 
 -- whether one entry alone is below, by what is read there
-module _ (v : Located) (f : List ℕ) (k : ℕ) {b : Below} (is : b ≡ below_of v f k) (own : v.places.now ≡ places_of (plan_of v.rings)) where
-  pub single_told : {r : Bool} → r ≡ eqb (depth_of b) 1 → r ≡ single (plan_of v.rings) f k
-  unfolding single
-  single_told e = e ∙ ap (λ (n : ℕ). eqb n 1) (deep_below v f k is own)
+pub single_told : (r : Rings) (f : List ℕ) (k : ℕ) {b : Below} {t : Bool} → b ≡ below_of r f k → t ≡ eqb (depth_of b) 1 → t ≡ single (plan_of r) f k
+unfolding single
+single_told r f k is e = e ∙ ap (λ (n : ℕ). eqb n 1) (deep_below r f k is)
 
 -- the same on the array that holds the frontier
 pub single-padded : (p : Plan) (f : List ℕ) (k : ℕ) → single p (padded 512 f) k ≡ single p f k
@@ -91,10 +89,6 @@ module _ (p : Plan) (f : List ℕ) (j : ℕ) where
 pub record Rises (p : Plan) (f : List ℕ) (k m t : ℕ) : Type 0 where
   pub same : first_from (λ (i : ℕ). not (single p f i)) k (m - k) ≡ first_from (λ (i : ℕ). not (single p f i)) t (m - t)
   pub reached : t ≤ max k m
-
--- before the loop
-pub rises_start : {p : Plan} {f : List ℕ} {k m : ℕ} → Rises p f k m k
-rises_start = record { same = refl; reached = omega arith }
 
 module _ {p : Plan} {f : List ℕ} {k m t : ℕ} (inv : Rises p f k m t) where
   -- one context alone is below

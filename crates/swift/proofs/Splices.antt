@@ -4,21 +4,16 @@ use mathlib.Core.Path.{◌≡◌, refl, sym, ap, ◌∙◌}
 use mathlib.Core.List.{List, ◌++◌, append_assoc}
 use native.Mathlib.Omega.{arith}
 use borrow.Rule.Slice.PartMut.{put_mid}
-use lib.ListN.{length, take, drop, replicate, length-append, length-drop, replicate-append-replicate}
+use lib.ListN.{length, take, drop, replicate, length-append, length-drop}
 use lib.Seq.{paste, length-take-le, drop-append-add}
 use Rattle.std.proofs.lemmas.List.{take-take, take_at, drop_at, drop-drop, take-append-le, drop-append-le}
 use Rattle.std.proofs.lemmas.List.Edits.{paste_all}
 use Rattle.std.proofs.lemmas.Slice.{put_mid-paste}
 use Rattle.lists.specs.Spans.{zeros, padded}
-use Rattle.lists.proofs.Spans.{length-zeros}
+use Rattle.lists.proofs.Spans.{length-zeros, zeros-append}
 use Rattle.lists.proofs.Padded.{length-padded}
 use Rattle.labelling.proofs.Unlabelled.{drop-zeros}
 use Rattle.swift.specs.Moves.{Spliced}
-
--- zeros behind zeros
-zeros-join : (n m : ℕ) → zeros n ++ zeros m ≡ zeros (n + m)
-unfolding zeros
-zeros-join n m = replicate-append-replicate n m 0
 
 -- a part overwritten
 put_at : (a k : ℕ) (xs ys zs : List ℕ) → ys ≡ zs → k ≡ length zs → put_mid a k xs ys ≡ take a xs ++ (zs ++ drop (a + k) xs)
@@ -46,7 +41,7 @@ module _ (f x : List ℕ) (k : ℕ) (size : k ≡ length x) where
       let fill : n + (512 - length f) ≡ 512 - length x = omega arith in
       put_behind x (drop k (padded 512 f)) ys (zeros n) k n size e (sym (length-zeros n))
       ∙ ap (λ (t : List ℕ). x ++ (zeros n ++ t)) (drop-drop n k (padded 512 f) ∙ ap (λ (t : ℕ). drop t (padded 512 f)) past ∙ drop_at f (zeros (512 - length f)) (length f) refl)
-      ∙ ap (x ++◌) (zeros-join n (512 - length f) ∙ ap zeros fill)
+      ∙ ap (x ++◌) (zeros-append n (512 - length f) ∙ ap zeros fill)
 
 -- ---- the rest of the array copied to place b
 module _ (xs s : List ℕ) (b n : ℕ) (h : b ≤ length xs) where

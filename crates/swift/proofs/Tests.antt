@@ -13,8 +13,7 @@ use Rattle.lists.specs.Tests.{all, empty}
 use Rattle.lists.proofs.Ranges.{lt-or-le}
 use Rattle.model.specs.Plan.{Plan, count, border}
 use Rattle.model.specs.Sweep.{State, below, chordless}
-use Rattle.places.specs.Places.{places_of}
-use Rattle.places.specs.declared.Located.{Located}
+use Rattle.rings.specs.declared.Rings.{Rings}
 use Rattle.rings.specs.Tables.{plan_of}
 use Rattle.frontier.specs.declared.below.Below.{Below}
 use Rattle.frontier.specs.Run.{below_of, reads, depth_of}
@@ -109,18 +108,18 @@ module _ {p : Plan} {s : State} {cnt : List ℕ} {v : Course} (h : Holds p s cnt
       ∙ ap (λ (b : Bool). not (empty l) && (b && chordless p l)) (all_same (fair_on v i j l) (fair_by cnt s i j l) l (λ c m. fair-held i j l c k (h.inside (get_or f (j - 1) 0) c (below-mem p f (j - 1) c m))))
 
 -- THE TEST AS THE CODE MAKES IT: what is below the position before j is put on a list, and that list is tested
-module _ (l : Located) (own : l.places.now ≡ places_of (plan_of l.rings)) {s : State} {cnt : List ℕ} {v : Course} (h : Holds (plan_of l.rings) s cnt v) where
-  pub judged : (j : ℕ) (old : List ℕ) {i q : ℕ} {b : Below} {list : List ℕ} {r : Bool} → j < 512 → i ≡ candidate (plan_of l.rings) v.line.at j → b ≡ below_of l v.line.at (j - 1) → q ≡ depth_of b
-      → list ≡ reverse (take (depth_of b) (reads b)) ++ drop (depth_of b) old → r ≡ good_on v (plan_of l.rings) i j (take q list) → r ≡ local_by cnt (plan_of l.rings) s j
-  judged j old {b = b} x i is long put r =
-      let listed = put_below l v.line.at (j - 1) is own (drop (depth_of b) old) long put in
-      r ∙ (λ t. good_on v (plan_of l.rings) (i t) j (listed t)) ∙ good_held h j x
+module _ (r : Rings) {s : State} {cnt : List ℕ} {v : Course} (h : Holds (plan_of r) s cnt v) where
+  pub judged : (j : ℕ) (old : List ℕ) {i q : ℕ} {b : Below} {list : List ℕ} {t : Bool} → j < 512 → i ≡ candidate (plan_of r) v.line.at j → b ≡ below_of r v.line.at (j - 1) → q ≡ depth_of b
+      → list ≡ reverse (take (depth_of b) (reads b)) ++ drop (depth_of b) old → t ≡ good_on v (plan_of r) i j (take q list) → t ≡ local_by cnt (plan_of r) s j
+  judged j old {b = b} x i is long put told =
+      let listed = put_below r v.line.at (j - 1) is (drop (depth_of b) old) long put in
+      told ∙ (λ t. good_on v (plan_of r) (i t) j (listed t)) ∙ good_held h j x
 
-  module _ (k : ℕ) {q : ℕ} {b : Below} (is : b ≡ below_of l v.line.at k) (long : q ≡ depth_of b) where
+  module _ (k : ℕ) {q : ℕ} {b : Below} (is : b ≡ below_of r v.line.at k) (long : q ≡ depth_of b) where
     -- the list is what is below in the state
-    pub put_held : (old : List ℕ) {list : List ℕ} → list ≡ reverse (take (depth_of b) (reads b)) ++ drop (depth_of b) old → take q list ≡ below (plan_of l.rings) s.frontier k
-    put_held old put = put_below l v.line.at k is own (drop (depth_of b) old) long put ∙ ap (λ (f : List ℕ). below (plan_of l.rings) f k) h.front.rep.at ∙ below-padded (plan_of l.rings) s.frontier k
+    pub put_held : (old : List ℕ) {list : List ℕ} → list ≡ reverse (take (depth_of b) (reads b)) ++ drop (depth_of b) old → take q list ≡ below (plan_of r) s.frontier k
+    put_held old put = put_below r v.line.at k is (drop (depth_of b) old) long put ∙ ap (λ (f : List ℕ). below (plan_of r) f k) h.front.rep.at ∙ below-padded (plan_of r) s.frontier k
 
     -- one context alone is below
-    pub alone_held : q ≡ 1 → single (plan_of l.rings) s.frontier k ≡ true
-    alone_held one = sym (single_told l v.line.at k is own (sym (eq-eqb (depth_of b) 1 (sym long ∙ one))) ∙ single_held (plan_of l.rings) h.front.rep k)
+    pub alone_held : q ≡ 1 → single (plan_of r) s.frontier k ≡ true
+    alone_held one = sym (single_told r v.line.at k is (sym (eq-eqb (depth_of b) 1 (sym long ∙ one))) ∙ single_held (plan_of r) h.front.rep k)

@@ -3,7 +3,6 @@ ghost use Rattle.std.specs.Prelude.{◌≡◌, ◌<◌, ◌≤◌, ◌-◌, ◌^
 ghost use Rattle.model.specs.Plan.{adjacent};
 ghost use Rattle.model.specs.Sweep.{State, chordless};
 ghost use Rattle.rings.specs.Tables.{plan_of};
-ghost use Rattle.places.specs.Places.{places_of};
 ghost use Rattle.frontier.specs.Run.{below_of, whole};
 ghost use Rattle.frontier.specs.Front.{Rep};
 ghost use Rattle.lists.specs.Tests.{any, all};
@@ -17,12 +16,11 @@ use crate::course::Course;
 use frontier::{Below, Front};
 use places::Located;
 
-// What the search for a step looks at: the course of a sweep, and the plan's rings with their own table of positions.
+// What the search for a step looks at: the course of a sweep, and the plan's rings.
 #[derive(Clone, Copy)]
 pub(crate) struct View<'a> {
     pub(crate) located: Located<'a>,
     pub(crate) course: &'a Course,
-    ghost own: { located.places.now ≡ places_of (plan_of located.rings) },
 }
 
 // The pair of positions that a step takes, and how many contexts its list has.
@@ -69,7 +67,7 @@ impl<'a> View<'a> {
     // What is below position k of the frontier.
     #[inline(always)]
     pub(crate) fn below(&self, k: usize) -> Below<'a>
-        ensures value { result ≡ below_of self.now.located self.now.course.now.line.at k }
+        ensures value { result ≡ below_of self.now.located.rings self.now.course.now.line.at k }
         ensures x_bound { result.x < 2 ^ 8 }
     {
         let front = Front {

@@ -1,4 +1,3 @@
-pub mod Finding
 pub mod Named
 pub mod Turns
 pub mod Answers

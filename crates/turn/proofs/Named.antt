@@ -139,7 +139,8 @@ module _ {p : Plan} {old : List ℕ} {ds : List Dart} {new : List ℕ} (inv : Ma
 
       -- the dart, its reverse, both, or neither
       cases : (s t : Bool) → same_dart (dart a b) (dart u v) ≡ s → same_dart (dart a b) (dart v u) ≡ t
-          → (any (same_edge (dart a b)) ds || (s || t || false)) ≡ not (eqb (cond s (turned (cond t (turned (label_of p new a b) q) (label_of p new a b)) q) (cond t (turned (label_of p new a b) q) (label_of p new a b))) (label_of p old a b))
+          → (any (same_edge (dart a b)) ds || (s || t || false))
+          ≡ not (eqb (cond s (turned (cond t (turned (label_of p new a b) q) (label_of p new a b)) q) (cond t (turned (label_of p new a b) q) (label_of p new a b))) (label_of p old a b))
       cases true true e f = renamed (turned (turned (label_of p new a b) q) q) (forth e) (λ z w. twice_other (label_of p new a b) q odd (w ∙ sym z))
       cases true false e f = renamed (turned (label_of p new a b) q) (forth e) (λ z w. once_other (label_of p new a b) q odd (w ∙ sym z))
       cases false true e f = renamed (turned (label_of p new a b) q) (reverse f) (λ z w. once_other (label_of p new a b) q odd (w ∙ sym z))

@@ -55,12 +55,6 @@ module _ (starts sizes es : List ℕ) (n : ℕ) (same : starts ≡ starts_of siz
     unfolding place_of
     place_missing h = sym (rw (dart_test starts sizes es n same small u v from-s at size ∙ le-ltb i k h))
 
--- ---- a dart that may not be turned
--- both its ends are border contexts
-pub bad_border_lem : (old new : List ℕ) (i u v : ℕ) {b : Bool} → b ≡ (border u && border v) → b ≡ true → true ≡ bad_at old new i u v
-unfolding bad_at
-bad_border_lem old new i u v ends t = sym (rw (sym ends ∙ t))
-
 -- ---- a dart turned at its place
 module _ (p : Plan) (u v : ℕ) where
   -- a place that was found is that of a dart
@@ -136,7 +130,8 @@ module _ {p : Plan} {q : ℕ} {es : List Dart} {old : List ℕ} {k : ℕ} {new :
         twice true = refl
         twice false = refl
 
-        go : (t : Bool) → adjacent p u v ≡ t → unturned old new u v (cond t (Some (start p u + index_of v (ring p u))) None) ≡ cond (not (t && not (border u && border v)) || any (same_edge (dart u v)) (take k es)) None (cond t (Some (start p u + index_of v (ring p u))) None)
+        go : (t : Bool) → adjacent p u v ≡ t → unturned old new u v (cond t (Some (start p u + index_of v (ring p u))) None)
+            ≡ cond (not (t && not (border u && border v)) || any (same_edge (dart u v)) (take k es)) None (cond t (Some (start p u + index_of v (ring p u))) None)
         go true e =
             ap (λ (b : Bool). cond b None (Some (Place p u v)))
             ((λ j. border u && border v || not (eqb (sym (label_at-place p u v e new) j) (sym (label_at-place p u v e old) j)))

@@ -7,7 +7,6 @@ use Rattle.model.specs.Labels.{unlabelled, start, turned}
 use Rattle.model.specs.Turn.{bad_pair, turned_edges}
 use Rattle.rings.specs.Tables.{start_of, starts_of, table}
 use Rattle.rings.specs.declared.Rings.{Rings}
-use Rattle.places.specs.Places.{index_by}
 
 -- the plan of rings in flat arrays, by their sizes alone
 abbrev pub sized : Rings → Plan
@@ -16,10 +15,6 @@ sized r = table r.sizes.now r.entries.now r.n
 -- rings that fit into the arrays, with the starts that their sizes give
 abbrev pub Fits : Rings → Type 0
 Fits r = (r.starts.now ≡ starts_of r.sizes.now) × (r.n ≤ 200) × (start_of r.sizes.now r.n ≤ 1186)
-
--- a table finds each entry of each ring where it stands first
-abbrev pub Finds : List ℕ → Plan → Type 0
-Finds t p = (u v : ℕ) → index_by t p u v ≡ index_of v (ring p u)
 
 -- where the label of the dart from u to v stands, if there is a dart
 unfoldable pub place_of : Plan → ℕ → ℕ → Option ℕ

@@ -6,9 +6,8 @@ ghost use Rattle.std.specs.Prelude.{◌≡◌, ◌≤◌, ◌<◌, ◌*◌, ◌%
 ghost use Rattle.lists.specs.Parts.{pairs};
 ghost use Rattle.model.specs.Turn.{quarters};
 ghost use Rattle.refusal.specs.Refusals.{told};
-ghost use Rattle.rings.specs.Tables.{start_of, starts_of, plan_of};
 ghost use Rattle.turn.specs.Turned.{turn_of, held_labels, in_array};
-ghost use Rattle.turn.specs.Run.{sized, Fits, Finds, place_of, turn_at, unturned, pairs_turned};
+ghost use Rattle.turn.specs.Run.{sized, Fits, place_of, turn_at, unturned, pairs_turned};
 
 use places::Located;
 use refusal::Refusal;
@@ -35,14 +34,11 @@ fn turn_at(labels: &mut [u8], i: usize, q: u8)
     arrays::put(labels, i, turned);
 }
 
-// The rings of a plan that fits the arrays, with the starts of its rings and a table that finds their entries: by them the label of each dart is found where the model has it.
+// The rings of a plan that fits the arrays, with a table that finds their entries: by them the label of each dart is found where the model has it.
 #[derive(Clone, Copy)]
 struct Placed<'a> {
     located: Located<'a>,
-    ghost starts: { located.rings.starts.now ≡ starts_of located.rings.sizes.now },
-    ghost few: { located.rings.n ≤ 200 },
-    ghost own: { Finds located.places.now (plan_of located.rings) },
-    ghost room: { start_of located.rings.sizes.now located.rings.n ≤ 1186 },
+    ghost fits: { Fits located.rings },
 }
 
 impl Placed<'_> {
@@ -109,12 +105,11 @@ fn turn_in<const N: usize>(
 {
     let mut places = [0u8; N];
     places::fill(&mut places, rings);
-    let placed = Placed {
-        located: Located {
-            rings: *rings,
-            places: &places,
-        },
+    let located = Located {
+        rings: *rings,
+        places: &places,
     };
+    let placed = Placed { located };
     placed.turn_pairs(labels, items, q)
 }
 

@@ -1,7 +1,8 @@
 -- table meets its contract.
-use mathlib.Core.Path.{refl, ◌∙◌}
-use Rattle.places.proofs.Notes.{filled-zeros}
+use mathlib.Core.Path.{refl}
+use native.Mathlib.Omega.{arith}
+use Rattle.places.proofs.Notes.{finds-filled}
 use Rattle.places.proofs.table.Goals as goal
 
 pub returns : goal.returns
-returns g c = c.fill_from.ensures ∙ filled-zeros _ refl
+returns g c = finds-filled _ {k = 40000} refl (omega arith) refl c.fill_from.ensures

@@ -1,10 +1,7 @@
 -- is_listed meets its contract.
-use mathlib.Core.Path.{refl, ap, ◌∙◌}
-use Prim.Native.Nat.{ℕ}
-use lib.ListN.{get_or}
-use Rattle.rings.proofs.Rows.{cell_some}
+use mathlib.Core.Path.{refl, ◌∙◌}
 use Rattle.lent.specs.Plans.{lent_of}
-use Rattle.places.proofs.Look.{adjacent-cell, adjacent-told}
+use Rattle.places.proofs.Look.{cell-told, adjacent-cell}
 use Rattle.mutual.proofs.Returns.{whole_adjacent}
 use Rattle.mutual.proofs.Located.is_listed.Goals as goal
 
@@ -12,9 +9,7 @@ pub returns-in-Some : goal.returns-in-Some
 returns-in-Some c =
     let a = c.args in
     let s = a.self.now in
-    let p = lent_of s.rings in
-    let (h, k, e) = cell_some a.u a.v c.cell.ensures c.in-Some.is in
-    adjacent-told p s.placed a.u a.v (adjacent-cell s.places.now p a.u a.v (c.num.ensures.value ∙ ap (λ (at : ℕ). get_or s.places.now at 0) e) h k)
+    adjacent-cell (lent_of s.rings) a.u a.v (cell-told _ _ s.own a.u a.v c.cell.ensures c.in-Some.is c.num.ensures.value)
 
 pub returns-in-None : goal.returns-in-None
 returns-in-None c =

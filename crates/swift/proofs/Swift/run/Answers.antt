@@ -8,9 +8,9 @@ use Rattle.frontier.specs.Front.{Front}
 use Rattle.frontier.proofs.Fails.{kept_is}
 use Rattle.model.specs.Sweep.{first_state}
 use Rattle.ends.specs.Ends.{first_line}
-use Rattle.ends.proofs.Beginning.{first-front}
+use Rattle.ends.proofs.Beginning.{first-front, first_whole}
 use Rattle.swift.specs.Running.{Running}
-use Rattle.swift.proofs.Runs.{settles, takes, run_out, first_whole}
+use Rattle.swift.proofs.Runs.{settles, takes, run_out}
 use Rattle.swift.proofs.Swift.run.Goals as goal
 
 pub returns-in_err-first : goal.returns-in_err-first
@@ -18,7 +18,7 @@ returns-in_err-first c =
     let g = c.args.self.now.guided.guide in
     let north = c.first_line.ensures.north in
     let none : c.first_line.result ≡ None = grind arith in
-    absurd (first_whole (record { entry = g.small }) (omega arith) (sym c.first_line.ensures.value ∙ none))
+    absurd (first_whole _ g.sane (omega arith) (sym c.first_line.ensures.value ∙ none))
 
 pub begin-limit-requires : goal.begin-limit-requires
 begin-limit-requires c =
@@ -26,7 +26,7 @@ begin-limit-requires c =
     let p = plan_of c.args.self.now.guided.located.rings in
     let north = c.first_line.ensures.north in
     let some : c.first_line.result ≡ Some c.in_ok-first.first = grind arith in
-    subst (Front (first_state p)) (kept_is (first_line p) (sym c.first_line.ensures.value ∙ some)) (first-front p (record { entry = g.small }) (omega arith))
+    subst (Front (first_state p)) (kept_is (first_line p) (sym c.first_line.ensures.value ∙ some)) (first-front p g.sane (omega arith))
 
 pub loop-init : goal.loop-init
 loop-init c =

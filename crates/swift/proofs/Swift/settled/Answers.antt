@@ -4,7 +4,7 @@ use borrow.Author.Tests.{not-true, not-false}
 use Rattle.model.specs.Sweep.{finished}
 use Rattle.rings.specs.Tables.{plan_of}
 use Rattle.frontier.specs.Run.{whole}
-use Rattle.ends.proofs.Finishing.{open_is, unfinished-told}
+use Rattle.ends.proofs.Finishing.{open_is}
 use Rattle.labelling.proofs.Frontiers.{finish_labelled}
 use Rattle.swift.proofs.Runs.{settled_done, settled_stuck}
 use Rattle.swift.proofs.Swift.settled.Goals as goal
@@ -14,7 +14,7 @@ returns-then-is_unfinished c =
     let t = c.requires in
     let p = plan_of c.args.self.now.guided.located.rings in
     let line = c.args.last.line in
-    let told = c.is_unfinished.ensures ∙ unfinished-told _ p line.at line.len c.args.self.now.guided.guide.own ∙ open_is p t.state (whole line) t.holds.front in
+    let told = c.is_unfinished.ensures ∙ open_is p t.state (whole line) t.holds.front in
     settled_stuck t (not-true (finished p t.state.frontier) (sym told ∙ c.if-is_unfinished.true))
 
 pub returns : goal.returns
@@ -23,5 +23,5 @@ returns c =
     let p = plan_of c.args.self.now.guided.located.rings in
     let line = c.args.last.line in
     let rep = t.holds.front.rep in
-    let told = c.is_unfinished.ensures ∙ unfinished-told _ p line.at line.len c.args.self.now.guided.guide.own ∙ open_is p t.state (whole line) t.holds.front in
+    let told = c.is_unfinished.ensures ∙ open_is p t.state (whole line) t.holds.front in
     settled_done t (not-false (finished p t.state.frontier) (sym told ∙ c.if-is_unfinished.false)) (c.finish_labels.ensures ∙ finish_labelled p t.holds.labels rep.at rep.len)

@@ -37,7 +37,7 @@ returns-in_err-i c =
     let ev = c.from-v.ensures ∙ ap (λ (l : List (List ℕ)). get_or (get_or l c.loop-k.k []) 1 0) f in
     chunk_is items (length items / 2) c.loop-k.k (omega arith) (omega arith) eu ev
     in
-    let room : entry_count (table r.sizes.now r.entries.now r.n) ≤ 1186 = let e = count-table r.starts.now r.sizes.now r.entries.now r.n s.starts s.few in let h = s.room in omega arith in
+    let room : entry_count (table r.sizes.now r.entries.now r.n) ≤ 1186 = let e = count-table r.starts.now r.sizes.now r.entries.now r.n s.fits.0 s.fits.1 in let h = s.fits.2 in omega arith in
     let hit = turns_hit inv.1 room (omega arith) c.from-u.result c.from-v.result pair (sym (length_pairs items)) (omega arith) (sym none ∙ c.unturned_place.ensures) in
     let p = err_from_is_err_and c.from_residual.result c.from_residual.ensures.1 in
     let bad : c.in_err-i.field-0.0 ≡ BadPair c.loop-k.k = grind arith in
@@ -61,7 +61,7 @@ loop-k-preserved c =
     let ev = c.from-v.ensures ∙ ap (λ (l : List (List ℕ)). get_or (get_or l c.loop-k.k []) 1 0) f in
     chunk_is items (length items / 2) c.loop-k.k (omega arith) (omega arith) eu ev
     in
-    let room : entry_count plan ≤ 1186 = let e = count-table r.starts.now r.sizes.now r.entries.now r.n s.starts s.few in omega arith in
+    let room : entry_count plan ≤ 1186 = let e = count-table r.starts.now r.sizes.now r.entries.now r.n s.fits.0 s.fits.1 in omega arith in
     let back : c.match-place_of.turned ≡ turn_dart plan c.args.q (dart v u) c.loop-k.turned = elim c.match-place_of.branch [
       | in-Some w ↦ w.turned-is ∙ w.turn_at.ensures ∙ turned-at plan v u c.args.q c.loop-k.turned w.in-Some.ensures
       | in_default w ↦ w.turned-is ∙ turned_none plan v u c.args.q c.loop-k.turned w.in_default.ensures

@@ -17,7 +17,7 @@ returns-then-is_good-clause-pair c =
     let j = c.loop-j.j - 1 in
     let few = c.loop-j.invariant.0 in
     λ s cnt h.
-    let good = judged a.located a.own h j c.loop-j.list (omega arith) c.candidate-i.ensures.value c.below.ensures.value c.put_on-q.ensures.value c.put_on-q.ensures.list c.is_good.ensures in
+    let good = judged a.located.rings h j c.loop-j.list (omega arith) c.candidate-i.ensures.value c.below.ensures.value c.put_on-q.ensures.value c.put_on-q.ensures.list c.is_good.ensures in
     let opened = c.is_open.ensures s.frontier h.front.rep in
     picking_hit (c.loop-j.invariant.1 s cnt h) (omega arith) _ refl (c.candidate-i.ensures.value ∙ candidate_held (plan_of a.located.rings) h.front.rep j) (sym opened ∙ c.if-is_open.true) (sym good ∙ c.if-is_good.true)
 
@@ -25,7 +25,7 @@ pub returns-then-is_good-clause-list : goal.returns-then-is_good-clause-list
 returns-then-is_good-clause-list c =
     let a = c.args.self.now in
     λ s cnt h.
-    record { few = c.put_on-q.ensures.upper_bound; same = put_held a.located a.own h (c.loop-j.j - 1 - 1) c.below.ensures.value c.put_on-q.ensures.value c.loop-j.list c.put_on-q.ensures.list }
+    record { few = c.put_on-q.ensures.upper_bound; same = put_held a.located.rings h (c.loop-j.j - 1 - 1) c.below.ensures.value c.put_on-q.ensures.value c.loop-j.list c.put_on-q.ensures.list }
 
 pub loop-j-preserved-then-q-eq1 : goal.loop-j-preserved-then-q-eq1
 loop-j-preserved-then-q-eq1 c =
@@ -35,10 +35,10 @@ loop-j-preserved-then-q-eq1 c =
     let low = c.candidate-i.ensures.upper_bound in (
       omega arith,
       λ s cnt h.
-          let good = judged a.located a.own h j c.loop-j.list (omega arith) c.candidate-i.ensures.value c.below.ensures.value c.put_on-q.ensures.value c.put_on-q.ensures.list c.is_good.ensures in
+          let good = judged a.located.rings h j c.loop-j.list (omega arith) c.candidate-i.ensures.value c.below.ensures.value c.put_on-q.ensures.value c.put_on-q.ensures.list c.is_good.ensures in
           let opened = c.is_open.ensures s.frontier h.front.rep in
           let on = picking_over (c.loop-j.invariant.1 s cnt h) (omega arith) (sym opened ∙ c.if-is_open.true) (sym good ∙ c.if-is_good.false) in
-          let alone = alone_held a.located a.own h (j - 1) c.below.ensures.value c.put_on-q.ensures.value c.if-q-eq1.true in
+          let alone = alone_held a.located.rings h (j - 1) c.below.ensures.value c.put_on-q.ensures.value c.if-q-eq1.true in
           let inside = (c.loop-j.invariant.1 s cnt h).low in
           picking_skip on (omega arith) (omega arith) low alone (c.candidate-i.ensures.value ∙ candidate_held (plan_of a.located.rings) h.front.rep j),
     )
@@ -50,7 +50,7 @@ loop-j-preserved-else-q-eq1 c =
     let few = c.loop-j.invariant.0 in (
       omega arith,
       λ s cnt h.
-          let good = judged a.located a.own h j c.loop-j.list (omega arith) c.candidate-i.ensures.value c.below.ensures.value c.put_on-q.ensures.value c.put_on-q.ensures.list c.is_good.ensures in
+          let good = judged a.located.rings h j c.loop-j.list (omega arith) c.candidate-i.ensures.value c.below.ensures.value c.put_on-q.ensures.value c.put_on-q.ensures.list c.is_good.ensures in
           let opened = c.is_open.ensures s.frontier h.front.rep in
           picking_over (c.loop-j.invariant.1 s cnt h) (omega arith) (sym opened ∙ c.if-is_open.true) (sym good ∙ c.if-is_good.false),
     )

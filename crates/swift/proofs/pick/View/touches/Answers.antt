@@ -1,17 +1,14 @@
 -- touches meets its contract.
-use mathlib.Core.Path.{refl, ap, ◌∙◌}
+use mathlib.Core.Path.{ap, ◌∙◌}
 use mathlib.Core.Bool.{Bool}
 use Prim.Native.Nat.{ℕ, ◌-◌}
-use lib.ListN.{length, get_or, drop}
+use lib.ListN.{length, get_or}
 use borrow.Author.Tests.{tests}
 use borrow.Author.Rules.{rules}
 use Rattle.lists.specs.Tests.{any}
-use Rattle.lists.proofs.Tests.{any_same}
 use Rattle.lists.proofs.Chains.{any_in_range, any_entry}
 use Rattle.model.specs.Plan.{adjacent}
 use Rattle.rings.specs.Tables.{plan_of}
-use Rattle.places.specs.Places.{adjacent_by}
-use Rattle.places.proofs.Look.{adjacent-told}
 use Rattle.swift.proofs.Chords.{stretch-rest}
 use Rattle.swift.proofs.pick.View.touches.Goals as goal
 
@@ -21,6 +18,6 @@ returns c =
     let l = c.args.list.now in
     let a = c.args.a in
     let p = plan_of s.located.rings in
-    let q : ℕ → Bool = adjacent_by s.located.places.now p c.args.u in
+    let q : ℕ → Bool = adjacent p c.args.u in
     any_in_range (λ (t : ℕ). q (get_or l t 0)) a (length l) c.any.ensures.ran (λ x b f k. search (rules, tests))
-    ∙ any_entry l q a (length l - a) ∙ ap (any q) (stretch-rest l a) ∙ any_same q (adjacent p c.args.u) (drop a l) (λ v. adjacent-told p s.own c.args.u v refl)
+    ∙ any_entry l q a (length l - a) ∙ ap (any q) (stretch-rest l a)

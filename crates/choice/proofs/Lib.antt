@@ -1,3 +1,0 @@
-pub mod Chords
-pub mod Lists
-pub mod Passing

@@ -1,8 +1,0 @@
--- What the loops of descend keep.
-use Prim.Native.Nat.{◌-◌}
-use Rattle.rings.specs.Tables.{plan_of}
-use Rattle.steps.specs.Run.{Running}
-use Rattle.steps.proofs.step.descend.Given as goal
-
-abbrev pub invariant-loop : goal.invariant-loop
-invariant-loop l = Running (plan_of l.guided.located.rings) (l.end - l.counter) l.line l.labels

@@ -1,0 +1,28 @@
+-- swept_in meets its contract.
+use mathlib.Core.Path.{refl, sym}
+use native.Mathlib.Omega.{arith}
+use Rattle.rings.proofs.Rows.{count-rows}
+use Rattle.places.proofs.Notes.{finds-filled}
+use Rattle.steps.proofs.Arrays.{guided}
+use Rattle.steps.proofs.swept_in.Goals as goal
+
+pub whole_as_slice-fill : goal.whole_as_slice-fill
+whole_as_slice-fill g c = let r = c.requires.room in omega arith
+
+pub shared_whole_as_slice-located : goal.shared_whole_as_slice-located
+shared_whole_as_slice-located g c = let r = c.requires.room in omega arith
+
+pub invariant_of-located : goal.invariant_of-located
+invariant_of-located g c =
+    let r = c.args.rings.now in
+    let room = c.requires.room in
+    record { own = finds-filled _ {k = g.row.N} (sym (count-rows r.starts.now r.sizes.now r.entries.now r.n)) (omega arith) refl c.fill.ensures }
+
+pub invariant_of-guided : goal.invariant_of-guided
+invariant_of-guided g c = let g = guided c.args.rings.now c.requires.starts c.requires.fits in record { guide = g.0; room = g.1 }
+
+pub invariant_of-guided-2 : goal.invariant_of-guided-2
+invariant_of-guided-2 g c = let g = guided c.args.rings.now c.requires.starts c.requires.fits in record { guide = g.0; room = g.1 }
+
+pub invariant_of-swift : goal.invariant_of-swift
+invariant_of-swift g c = record { sound = c.requires.sound c.if-ruled.true }

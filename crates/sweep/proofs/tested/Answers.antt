@@ -1,0 +1,27 @@
+-- tested meets its contract.
+use mathlib.Core.Path.{sym, ap, ◌∙◌}
+use Rattle.std.proofs.lemmas.Result.{err_from_is_err_and}
+use Rattle.rings.specs.Tables.{table_of}
+use Rattle.refusal.specs.Refusals.{told}
+use Rattle.sweep.proofs.Answers.{finished, answer_refused, answer_broken, answer_labelled, ruled}
+use Rattle.sweep.proofs.tested.Goals as goal
+
+pub returns-in_err-labels : goal.returns-in_err-labels
+returns-in_err-labels c =
+    let p = err_from_is_err_and c.from_residual.result c.from_residual.ensures.1 in
+    rw (p.1, p.2) (answer_refused _ (ap told (sym c.in_err-labels.was) ∙ c.requires))
+
+pub returns-in_err-check : goal.returns-in_err-check
+returns-in_err-check c =
+    let a = c.args.plan.now in
+    let t = table_of a in
+    let e = ap told (sym c.in_ok-labels.was) ∙ c.requires in
+    let p = err_from_is_err_and c.from_residual-in_err-check.result c.from_residual-in_err-check.ensures.1 in
+    rw (p.1, p.2) (answer_broken t e (c.in_err-check.ensures ∙ ruled a.sizes.now a.entries.now a.n _ (finished t e).0))
+
+pub returns : goal.returns
+returns c =
+    let a = c.args.plan.now in
+    let t = table_of a in
+    let e = ap told (sym c.in_ok-labels.was) ∙ c.requires in
+    answer_labelled t e (c.in_ok-check.ensures ∙ ruled a.sizes.now a.entries.now a.n _ (finished t e).0)

@@ -1,0 +1,9 @@
+pub mod Moves
+pub mod Dirt
+pub mod Adding
+pub mod Gather
+pub mod Pairs
+pub mod Chords
+pub mod Eligible
+pub mod Rows
+pub mod Steps
