@@ -1,21 +1,22 @@
--- The face step, the outer darts, and plan rules 8 and 9, test by test as the code makes them.
+-- The outer darts, inner faces, and the plan rules 8 and 9, test by test as the code makes them.
 use Prim.Native.Nat.{ℕ, ◌+◌, ◌-◌, ◌%◌, ◌≤◌, ◌<◌}
 use mathlib.Core.Path.{◌≡◌, refl, sym, ap, ◌∙◌}
 use mathlib.Core.List.{List, [], ◌∷◌}
-use mathlib.Core.Bool.{Bool, true, false, not, ◌&&◌, ◌||◌}
+use mathlib.Core.Bool.{Bool, true, false, not, ◌&&◌, ◌||◌, and-true, and-false}
+use Rattle.std.proofs.Math.Bool.{and_comm}
 use native.Mathlib.Omega.{arith}
 use lib.ListN.{length, get_or}
 use lib.Dec.{eqb}
-use borrow.Author.Tests.{lt-ltb, le-ltb, eq-eqb, ne_eqb}
+use borrow.Author.Tests.{lt-ltb, le-ltb, eqb-true, eq-eqb, ne_eqb}
 use Rattle.lists.specs.Tests.{any, member}
 use Rattle.lists.specs.Spans.{span}
 use Rattle.lists.proofs.Tests.{any-map}
 use Rattle.lists.proofs.Spans.{get_or-inside}
 use Rattle.lists.proofs.Stretches.{span_whole}
 use Rattle.rings.specs.Tables.{size_of, rows}
-use Rattle.faces.proofs.Flags.{flag_yes, flag_no}
 use Rattle.rings.proofs.Rows.{ring-size}
-use Rattle.model.specs.Plan.{Plan, Dart, ring, next, adjacent, darts_from, step, outer, closes, bad_border, bad_face}
+use Rattle.model.specs.Plan.{Plan, Dart, ring, next, adjacent, darts_from, step, outer, closes, walk, on_inner_face, bad_border, bad_face}
+use Rattle.model.specs.Scan.{inner_face, enclosing}
 
 -- the size that the code reads is the ring's length
 pub ring_long : (starts sizes es : List ℕ) (n u : ℕ) {k : ℕ} → k ≡ size_of sizes n u → k ≡ length (ring (rows starts sizes es n) u)
@@ -30,20 +31,54 @@ pub outer_inner : (u v : ℕ) → 4 ≤ u → false ≡ outer (u, v)
 unfolding outer
 outer_inner u v h = rw (le-ltb u 4 h)
 
--- ---- three face steps from the dart u to v: w after v, x after w, y after x
-module _ (p : Plan) (u v w x : ℕ) (after-v : w ≡ (step p (u, v)).1) (after-w : x ≡ (step p (v, w)).1) where
-  three-steps : (y : ℕ) → y ≡ (step p (w, x)).1 → (eqb x u && eqb y v) ≡ closes p (u, v)
+-- ---- the walk u, v, w is an inner face: the tests in the code's order
+module _ (p : Plan) (u v : ℕ) where
+  abbrev third : ℕ
+  third = (step p (u, v)).1
+
+  -- w comes after v: the dart comes back where the next two steps lead to u and to v
+  closes_by : (w : ℕ) → third ≡ w → closes p (u, v) ≡ (eqb (step p (v, w)).1 u && eqb (step p (w, u)).1 v)
   unfolding closes step
-  three-steps y after-x =
-      let there : x ≡ next v (ring p (next u (ring p v))) = after-w ∙ (λ i. next v (ring p (after-v i))) in
-      let back : y ≡ next (next u (ring p v)) (ring p (next v (ring p (next u (ring p v))))) = after-x ∙ (λ i. next (after-v i) (ring p (there i))) in
-      λ i. eqb (there i) u && eqb (back i) v
+  closes_by w e = ap (λ (c : ℕ). eqb (next v (ring p c)) u && eqb (next c (ring p (next v (ring p c)))) v) e ∙ go (eqb (next v (ring p w)) u) refl
+    where
+      go : (t : Bool) → eqb (next v (ring p w)) u ≡ t → (t && eqb (next w (ring p (next v (ring p w)))) v) ≡ (t && eqb (next w (ring p u)) v)
+      go true q = ap (λ (x : ℕ). eqb (next w (ring p x)) v) (eqb-true (next v (ring p w)) u q)
+      go false q = refl
 
-  pub closes_last : (y : ℕ) → y ≡ (step p (w, x)).1 → x ≡ u → eqb y v ≡ closes p (u, v)
-  closes_last y after-x h = ap (λ (t : Bool). t && eqb y v) (sym (eq-eqb x u h)) ∙ three-steps y after-x
+  walked : (w : ℕ) → inner_face p u v w ≡ (not (outer (u, v)) && closes p (u, v) && eqb third w)
+  unfolding inner_face on_inner_face walk
+  walked w = rw (eq-eqb u u refl, eq-eqb v v refl, and-true (eqb third w))
 
-  pub closes_never : (x ≡ u → ⊥) → false ≡ closes p (u, v)
-  closes_never h = ap (λ (t : Bool). t && eqb (step p (w, x)).1 v) (sym (ne_eqb x u h)) ∙ three-steps (step p (w, x)).1 refl
+  -- w comes after v: what is left to ask
+  pub inner_third : {w : ℕ} → w ≡ third → inner_face p u v w ≡ on_inner_face p (u, v)
+  unfolding on_inner_face
+  inner_third {w} e = rw (walked w, eq-eqb third w (sym e), and-true (not (outer (u, v)) && closes p (u, v)))
+
+  pub face_tests : (w : ℕ) → inner_face p u v w ≡ (eqb third w && eqb (step p (v, w)).1 u && eqb (step p (w, u)).1 v && not (outer (u, v)))
+  face_tests w = walked w ∙ go (eqb third w) refl
+    where
+      go : (t : Bool) → eqb third w ≡ t → (not (outer (u, v)) && closes p (u, v) && t) ≡ (t && eqb (step p (v, w)).1 u && eqb (step p (w, u)).1 v && not (outer (u, v)))
+      go true q = and-true (not (outer (u, v)) && closes p (u, v)) ∙ and_comm (not (outer (u, v))) (closes p (u, v)) ∙ ap (λ (b : Bool). b && not (outer (u, v))) (closes_by w (eqb-true third w q))
+      go false q = and-false (not (outer (u, v)) && closes p (u, v))
+
+  -- a dart that is not outer breaks rule 9 where its walk is no inner face
+  pub bad_tests : {w : ℕ} → w ≡ third → outer (u, v) ≡ false → not (inner_face p u v w) ≡ not (outer (u, v) || closes p (u, v))
+  unfolding on_inner_face
+  bad_tests e o = rw (inner_third e, o)
+
+-- ---- three contexts enclose: the tests in the code's order
+pub enclosing_tests : (p : Plan) (a b c : ℕ) → enclosing p (a, b, c) ≡ (adjacent p a c && adjacent p b c && adjacent p a b && not (inner_face p a b c) && not (inner_face p a c b))
+unfolding enclosing
+enclosing_tests p a b c = go (adjacent p a b) (adjacent p a c) (adjacent p b c) (inner_face p a b c) (inner_face p a c b)
+  where
+    go : (ab ac bc f g : Bool) → (ab && ac && bc && not (f || g)) ≡ (ac && bc && ab && not f && not g)
+    go true true true true g = refl
+    go true true true false g = refl
+    go true true false f g = refl
+    go true false bc f g = refl
+    go false true true f g = refl
+    go false true false f g = refl
+    go false false bc f g = refl
 
 -- ---- rule 8: the tests of a border ring r of size k, in order; a is its first entry, z its last
 bad_first : (f g m : Bool) → f ≡ false → true ≡ not (f && g && not m)
@@ -106,13 +141,6 @@ module _ (p : Plan) (u k : ℕ) (side : u < 4) (long : k ≡ length (ring p u)) 
 -- ---- rule 9: the darts that leave u, by the entries of its ring
 abbrev pub bad_dart : Plan → ℕ → ℕ → Bool
 bad_dart p u v = not (outer (u, v) || closes p (u, v))
-
-module _ (p : Plan) (u v : ℕ) {o : Bool} (outside : o ≡ outer (u, v)) where
-  pub dart-outer : o ≡ true → false ≡ bad_dart p u v
-  dart-outer h = rw (flag_yes outside h)
-
-  pub dart_inner : {t : Bool} → o ≡ false → t ≡ closes p (u, v) → not t ≡ bad_dart p u v
-  dart_inner h back = rw (flag_no outside h) (ap not back)
 
 pub face_darts : (p : Plan) (u k : ℕ) → k ≡ length (ring p u) → any (bad_dart p u) (span (ring p u) 0 k) ≡ bad_face p u
 unfolding bad_face darts_from

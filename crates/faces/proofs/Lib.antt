@@ -1,2 +1,1 @@
 pub mod FaceTests
-pub mod Flags

@@ -1,9 +1,10 @@
-// Faces over flat arrays: the face step, the outer darts and the plan rules 8 and 9.
+// Faces over flat arrays: the outer darts, the face step, whether a walk is an inner face, and the plan rules 8 and 9.
 #![tactic(auto)]
 
 ghost use Rattle.std.specs.Prelude.{◌≡◌, not, ◌||◌, ◌<◌};
 ghost use Rattle.model.specs.Outcome.{rule};
-ghost use Rattle.model.specs.Plan.{step, outer, closes, bad_border, bad_face};
+ghost use Rattle.model.specs.Plan.{Plan, step, outer, closes, bad_border, bad_face};
+ghost use Rattle.model.specs.Scan.{inner_face};
 ghost use Rattle.refusal.specs.Refusals.{told};
 ghost use Rattle.rings.specs.Tables.{plan_of};
 
@@ -20,23 +21,34 @@ pub fn is_outer(u: usize, v: usize) -> bool
     false
 }
 
-// The context after v on the face of the dart from u to v.
-pub fn third_of(rings: &Rings, u: usize, v: usize) -> usize
-    ensures { result ≡ (step (plan_of rings.now) (u, v)).1 }
-{
-    search::next_of(rings, v, u)
+// Rings whose face steps are found, by whatever means.
+pub trait FaceSteps {
+    // the plan
+    ghost plan: { Self → Plan };
+
+    // The context after v on the face of the dart from u to v.
+    fn third_of(&self, u: usize, v: usize) -> usize
+        ensures { result ≡ (step (plan self.now) (u, v)).1 };
 }
 
-// Does the dart from u to v come back to itself after three face steps?
-fn closes(rings: &Rings, u: usize, v: usize) -> bool
-    ensures { result ≡ closes (plan_of rings.now) (u, v) }
-{
-    let w = third_of(rings, u, v);
-    let x = third_of(rings, v, w);
-    if x == u {
-        return third_of(rings, w, x) == v;
+impl FaceSteps for Rings<'_> {
+    ghost plan = { plan_of };
+
+    #[tactic(auto, unfolding(model::specs::Plan::step))]
+    fn third_of(&self, u: usize, v: usize) -> usize {
+        search::next_of(self, v, u)
     }
-    false
+}
+
+// Is the walk u, v, w an inner face, where u and v are neighbours?
+#[tactic(auto, using(crate::proofs::FaceTests::face_tests))]
+pub fn is_face<R: FaceSteps>(rings: &R, u: usize, v: usize, w: usize) -> bool
+    ensures { result ≡ inner_face (R.plan rings.now) u v w }
+{
+    rings.third_of(u, v) == w
+        && rings.third_of(v, w) == u
+        && rings.third_of(w, u) == v
+        && !is_outer(u, v)
 }
 
 // Does the border context u break rule 8?
@@ -68,13 +80,11 @@ pub fn rule8(rings: &Rings) -> Result<(), Refusal>
 }
 
 // Does the dart from u to v break rule 9: it is not outer and does not come back to itself?
+#[tactic(auto, using(crate::proofs::FaceTests::bad_tests))]
 fn bad_dart(rings: &Rings, u: usize, v: usize) -> bool
     ensures { result ≡ not (outer (u, v) || closes (plan_of rings.now) (u, v)) }
 {
-    if is_outer(u, v) {
-        return false;
-    }
-    !closes(rings, u, v)
+    !is_outer(u, v) && !is_face(rings, u, v, rings.third_of(u, v))
 }
 
 // Does a dart that leaves u break rule 9?

@@ -1,7 +1,8 @@
-// Does a plan in flat arrays fit: at most 200 contexts, at most 1186 entries, and each entry a context?
+// Does a plan in flat arrays fit: at most 200 contexts, at most 1186 entries, and each entry a context? And plans that do (Fit).
 #![tactic(auto)]
 
-ghost use Rattle.std.specs.Prelude.{◌≡◌, min, max, ◌<◌, ◌^◌, ◌&&◌, leb};
+ghost use Rattle.std.specs.Prelude.{◌≡◌, min, max, ◌<◌, ◌^◌, ◌&&◌, leb, true, cond, Some, None};
+ghost use Rattle.std.specs.Option.{option_map};
 ghost use Rattle.std.specs.List.{fold};
 ghost use Rattle.lists.specs.Tests.{any};
 ghost use Rattle.lists.specs.Spans.{span};
@@ -9,6 +10,13 @@ ghost use Rattle.rings.specs.Tables.{start_of, table_of, in_bounds};
 ghost use Rattle.fit.specs.Fits.{strange, fit};
 
 use rings::Table;
+
+// A plan that fits.
+#[derive(Clone, Copy)]
+pub struct Fit<'a> {
+    pub plan: Table<'a>,
+    pub ghost fits: { fit (table_of plan) ≡ true },
+}
 
 // How many entries the first n rings have; of more than 200 rings, the first 200.
 pub fn total_of(sizes: &[u8], n: usize) -> usize
@@ -59,4 +67,15 @@ pub fn is_fit(plan: &Table) -> bool
 {
     let total = total_of(plan.sizes, plan.n);
     has_room(plan.n, total) && !any_strange(plan.entries, total, plan.n)
+}
+
+// The plan, where it fits.
+pub fn of<'a>(plan: &Table<'a>) -> Option<Fit<'a>>
+    ensures { option_map (λ f. f.plan) result ≡ cond (fit (table_of plan.now)) (Some plan.now) None }
+{
+    if is_fit(plan) {
+        Some(Fit { plan: *plan })
+    } else {
+        None
+    }
 }

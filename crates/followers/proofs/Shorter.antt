@@ -11,17 +11,11 @@ use borrow.Author.Tests.{ltb-true}
 use Rattle.lists.specs.Spans.{zeros, padded}
 use Rattle.lists.specs.Folds.{each}
 use Rattle.lists.proofs.Bools.{and_yes}
-use Rattle.lists.proofs.Spans.{length-zeros}
+use Rattle.lists.proofs.Spans.{length-zeros, zeros-append}
 use Rattle.lists.proofs.Padded.{get_or-padded}
 use Rattle.model.specs.Plan.{Plan, count, ring}
 use Rattle.followers.specs.Followers.{mark, cell, tabled, Noted, note_at, note_ring, note_rings, followers_of, apart}
 use Rattle.followers.proofs.Notes.{ring_long, row}
-
--- zeros and zeros after them
-zeros-append : (k m : ℕ) → zeros k ++ zeros m ≡ zeros (k + m)
-unfolding zeros
-zeros-append zero m = let e : m ≡ 0 + m = omega arith in ap zeros e
-zeros-append (suc k) m = let e : suc (k + m) ≡ suc k + m = omega arith in ap (λ (l : List ℕ). 0 ∷ l) (zeros-append k m) ∙ ap zeros e
 
 zeros-padded : (k m : ℕ) → m ≤ k → padded k (zeros m) ≡ zeros k
 unfolding padded

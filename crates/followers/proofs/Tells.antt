@@ -254,15 +254,13 @@ module _ (p : Plan) {t : List ℕ} (own : t ≡ followers_of p) where
       go false e = e
       go true e = absurd (mark-some _ (sym (told-says u v h k ∙ tell_some v (get_or (ring p u) 0 0) (ring p u) e) ∙ z))
 
+  -- where u lists v, it says the entry after it
+  pub told-mark : (u v : ℕ) → u < 200 → v < 200 → adjacent p u v ≡ true → told t u v ≡ mark (next v (ring p u))
+  unfolding adjacent
+  told-mark u v h k q = told-says u v h k ∙ tell_some v (get_or (ring p u) 0 0) (ring p u) q ∙ ap mark (next-mark v (ring p u) q)
+
   -- where it says a context that a byte has room for, that comes after v
   pub told-next : (u v w : ℕ) → told t u v ≡ suc w → (suc w ≡ 255 → ⊥) → next v (ring p u) ≡ w
-  told-next u v w e h = go (member v (ring p u)) refl
-    where
-      some : told t u v ≡ 0 → ⊥
-      some z = omega arith
-
-      go : (b : Bool) → Has u v b → next v (ring p u) ≡ w
-      go true q =
-          let (k, l) = told_there t u v some in
-          mark-room (next v (ring p u)) w h (sym (told-says u v k l ∙ tell_some v (get_or (ring p u) 0 0) (ring p u) q ∙ ap mark (next-mark v (ring p u) q)) ∙ e)
-      go false q = let (k, l) = told_there t u v some in absurd (some (told-says u v k l ∙ tell_none v (get_or (ring p u) 0 0) (ring p u) q))
+  told-next u v w e h =
+      let (k, l) = told_there t u v (λ z. omega arith) in
+      mark-room (next v (ring p u)) w h (sym (told-mark u v k l (told-some u v (λ z. omega arith))) ∙ e)

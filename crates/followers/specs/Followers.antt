@@ -4,18 +4,11 @@ use Rattle.std.specs.Prelude.{ℕ, suc, ◌+◌, ◌*◌, min, List, [], ◌∷�
 use Rattle.lists.specs.Folds.{through}
 use Rattle.lists.specs.Spans.{zeros}
 use Rattle.model.specs.Plan.{Plan, count, ring}
+pub use Rattle.places.specs.Places.{cell, tabled}
 
 -- one more than a context, in a byte; 255 for every context from 254 on
 unfoldable pub mark : ℕ → ℕ
 mark v = suc (min v 254)
-
--- where v in u's ring stands in the table
-abbrev pub cell : ℕ → ℕ → ℕ
-cell u v = 200 * u + v
-
--- the table has a cell for v in u's ring
-abbrev pub tabled : ℕ → ℕ → Bool
-tabled u v = ltb u 200 && ltb v 200
 
 -- a table, and whether every entry that was noted has a cell and found it 0
 abbrev pub Noted : Type 0

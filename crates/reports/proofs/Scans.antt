@@ -12,19 +12,16 @@ use Rattle.reports.specs.Scanned.{scanned_as}
 use Rattle.sheet.specs.Sheets.{held_plan, reads}
 use Rattle.sheet.specs.Sheets.{rank, stage_read}
 use Rattle.model.proofs.Outcomes.{bind_at, bind_off}
-use Rattle.sheet.proofs.Reading.{stage_refused, stage_missed, stage_reached, rings-held, plan_early, plan_there}
+use Rattle.sheet.proofs.Reading.{fitting_refused, fitting_missed, fitting_reached, plan_early, plan_there}
 
 module _ (s : Sheet) where
   pub scan_early : rank (stage_read s) < 1 → scan_call (reads s) ≡ refused 13 0
   unfolding scan_call
   scan_early h = bind_off (plan_of (reads s)) 13 0 (λ (p : Plan). accepted (scan p)) (plan_early s h)
 
-  pub scan_there : (r : Option Triple) → 1 ≤ rank (stage_read s) → said.scanned_as r ≡ scan (held_plan s) → scanned_as (Ok r) ≡ scan_call (reads s)
+  pub scan_there : {p : Plan} (r : Option Triple) → 1 ≤ rank (stage_read s) → said.scanned_as r ≡ scan p → p ≡ held_plan s → scanned_as (Ok r) ≡ scan_call (reads s)
   unfolding scan_call scanned_as
-  scan_there r h e = ap accepted e ∙ sym (bind_at (plan_of (reads s)) (held_plan s) (λ (p : Plan). accepted (scan p)) (plan_there s h))
+  scan_there r h e q = ap accepted (e ∙ ap scan q) ∙ sym (bind_at (plan_of (reads s)) (held_plan s) (λ (p : Plan). accepted (scan p)) (plan_there s h))
 
 -- for the call itself, step by step
-pub ruleset steps = (stage_refused, stage_missed, stage_reached, scan_early, scan_there)
-
--- the plan of rings that begin where a plan's rings begin
-pub ruleset rings_of = (rings-held)
+pub ruleset steps = (fitting_refused, fitting_missed, fitting_reached, scan_early, scan_there)

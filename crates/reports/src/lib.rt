@@ -3,12 +3,10 @@
 
 ghost use Rattle.std.specs.Prelude.{◌≡◌, ◌&&◌, eqb};
 ghost use Rattle.model.specs.Chart.{same_chart};
-ghost use Rattle.model.specs.Scan.{scan};
 ghost use Rattle.model.specs.Calls.{write_call, scan_call, same_call};
 ghost use Rattle.refusal.specs.Refusals.{told};
-ghost use Rattle.triples.specs.Scanned as plans;
 ghost use Rattle.writing.specs.Files.{sheet_held, buffer_after};
-ghost use Rattle.sheet.specs.Sheets.{held_plan, held_chart, reads};
+ghost use Rattle.sheet.specs.Sheets.{held_chart, reads};
 ghost use Rattle.sheet.specs.Answers.{length_of};
 ghost use Rattle.reports.specs.FileParts.{written_at};
 ghost use Rattle.reports.specs.Scanned.{scanned_as};
@@ -47,22 +45,13 @@ pub fn write(sheet: &Sheet, out: &mut [u8]) -> Result<usize, Refusal>
     writing::write_file(out, &held_of(sheet))
 }
 
-// The scan of the sheet's plan.
-#[tactic(auto, using(crate::proofs::Scans::rings_of))]
-fn scan_plan(sheet: &Sheet) -> Option<(usize, usize, usize)>
-    ensures { plans.scanned_as result ≡ scan (held_plan sheet.now) }
-{
-    let starts = rings::starts_of(&sheet.sizes);
-    triples::scan(&sheet::table_of(sheet).rings(&starts))
-}
-
 // Scan (OPEN up): the smallest triple of mutual neighbours that are no inner face, or that there is none.
-#[tactic(auto, using(crate::proofs::Scans::steps), unfolding(sheet::specs::Sheets::rank, crate::specs::Scanned::scanned_as))]
+#[tactic(auto, using(crate::proofs::Scans::steps), unfolding(sheet::specs::Sheets::rank, sheet::specs::Answers::answer_of, crate::specs::Scanned::scanned_as))]
 pub fn scan(sheet: &Sheet) -> Result<Option<(usize, usize, usize)>, Refusal>
     ensures { scanned_as result ≡ scan_call (reads sheet.now) }
 {
-    sheet::require_stage(sheet, Stage::Open)?;
-    Ok(scan_plan(sheet))
+    let fitting = sheet::require_fitting(sheet, Stage::Open)?;
+    Ok(triples::scan(&fitting.fit()))
 }
 
 // Have two sheets the same n, w, h and points?

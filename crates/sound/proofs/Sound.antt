@@ -10,7 +10,7 @@ use native.Mathlib.Numerals.{add-one}
 use native.Mathlib.Omega.{arith}
 use lib.ListN.{length, get_or, get_or-eq_default}
 use lib.Dec.{eqb, leb, ltb}
-use borrow.Author.Tests.{leb-true, lt-leb, ltb-true, ltb-false, lt-ltb, eqb-true, eqb-false, eq-eqb, ne_eqb, not-true, not-false}
+use borrow.Author.Tests.{leb-true, lt-leb, ltb-true, ltb-false, eqb-true, eqb-false, eq-eqb, ne_eqb, not-true, not-false}
 use Rattle.lists.specs.Tests.{member, repeats}
 use Rattle.lists.specs.Parts.{index_of}
 use Rattle.lists.specs.Folds.{some_within}
@@ -22,7 +22,7 @@ use Rattle.lists.proofs.Places.{mem-at, get_d_any, index_below, index_is, index_
 use Rattle.lists.proofs.Ranges.{none_first, first-none}
 use Rattle.lists.proofs.Tests.{of_none, any-map, mem-member}
 use Rattle.model.specs.Plan.{Plan, Dart, count, ring, next, step, adjacent, darts_from, outer, closes, bad_entry, bad_repeat, unreturned, bad_border, bad_face}
-use Rattle.model.proofs.Plans.{adjacent-from, adjacent-mem}
+use Rattle.model.proofs.Plans.{adjacent-from, adjacent-mem, outer-says, says-outer}
 use Rattle.followers.specs.Followers.{cell, followers_of, apart}
 use Rattle.followers.proofs.Notes.{row_there, told-cell}
 use Rattle.followers.proofs.Tells.{followers_long, apart-once, next-mark, told-some, told-next}
@@ -88,15 +88,7 @@ none-doubtful t u w [] e k h = absurd (omega arith)
 none-doubtful t u w (v ∷ l) e zero h = (or_no (doubtful t u w v) (some_doubtful t u v l) e).0
 none-doubtful t u w (v ∷ l) e (suc k) h = none-doubtful t u v l (or_no (doubtful t u w v) (some_doubtful t u v l) e).1 k (omega arith)
 
--- ---- outer darts and the rings that they leave
-outer-says : (u v : ℕ) → outer (u, v) ≡ true → (u < 4) × (v ≡ (u + 1) % 4)
-unfolding outer
-outer-says u v e = let (x, y) = and_yes (ltb u 4) (eqb v ((u + 1) % 4)) e in (ltb-true u 4 x, eqb-true v ((u + 1) % 4) y)
-
-says-outer : (u v : ℕ) → u < 4 → v ≡ (u + 1) % 4 → outer (u, v) ≡ true
-unfolding outer
-says-outer u v h e = rw (lt-ltb u 4 h, eq-eqb v ((u + 1) % 4) e)
-
+-- ---- the rings that outer darts leave
 -- rule 8: the first entry and the last of a border ring
 border-ends : (p : Plan) (u : ℕ) → u < 4 → bad_border p u ≡ false → (0 < length (ring p u)) × (get_or (ring p u) 0 0 ≡ (u + 1) % 4) × (get_or (ring p u) (length (ring p u) - 1) 0 ≡ (u + 3) % 4)
 unfolding bad_border
@@ -153,7 +145,7 @@ module _ (p : Plan) (few : count p ≤ 200) (made : apart p ≡ true) (side : (u
     small = go (outer (u, v)) refl
       where
         go : (b : Bool) → outer (u, v) ≡ b → v < 200
-        go true o = let (_, e) = outer-says u v o in omega arith
+        go true o = let (_, e) = outer-says (u, v) o in omega arith
         go false o = let e = noted o in let long = followers_long p in row_there t v u (omega arith) (λ z. omega arith)
 
   -- a dart that is not outer: v lists u, and after u the entry before v
@@ -171,7 +163,7 @@ module _ (p : Plan) (few : count p ≤ 200) (made : apart p ≡ true) (side : (u
     where
       go : (b : Bool) → outer (u, v) ≡ b → member u (ring p v) ≡ true
       go true o =
-          let (h, e) = outer-says u v o in
+          let (h, e) = outer-says (u, v) o in
           let (some, _, last) = border-ends p v (omega arith) (side v (omega arith)) in
           let same : u ≡ (v + 3) % 4 = omega arith in
           mem-member u (ring p v) (Memᴰ.cast (same ∙ sym last) (mem-at (ring p v) (length (ring p v) - 1) 0 (omega arith)))
@@ -187,7 +179,7 @@ module _ (p : Plan) (few : count p ≤ 200) (made : apart p ≡ true) (side : (u
       go : (b : Bool) → outer (v, next u r) ≡ b → b ≡ false
       go false q = refl
       go true q =
-          let (h, e) = outer-says v (next u r) q in
+          let (h, e) = outer-says (v, next u r) q in
           let (some, first, last) = border-ends p v h (side v h) in
           let here = ap (λ (x : ℕ). index_of x r) (e ∙ sym first) ∙ index_at r 0 0 (no_repeat_once r (once v low)) some in
           let back = sym (prior_after r (once v low) u m).0 ∙ ap (λ (i : ℕ). get_or (get_or r (length r - 1) 0 ∷ r) i 0) here ∙ last in

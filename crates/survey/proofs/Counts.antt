@@ -1,5 +1,5 @@
 -- Faces counted one after another: over the entries of a ring, and over all contexts.
-use Rattle.std.proofs.Common.{◌^◌, subst, ◌≡◌, ℕ, zero, suc, ◌+◌, ◌-◌, ◌<◌, ◌≤◌, Bool, true, false, cond, ◌&&◌, eqb, ltb, List, [], ◌∷◌, ◌++◌, map, length, get_or, ℤ, pos, negsuc, nat_abs, sym, refl, ap, ◌∙◌, add-one, arith, le-ltb, lt-ltb, eq-eqb}
+use Rattle.std.proofs.Common.{◌^◌, subst, ◌≡◌, ℕ, zero, suc, ◌+◌, ◌-◌, ◌<◌, ◌≤◌, Bool, true, false, cond, ◌&&◌, ltb, List, [], ◌∷◌, ◌++◌, map, length, get_or, ℤ, pos, negsuc, nat_abs, sym, refl, ap, ◌∙◌, add-one, arith, le-ltb, lt-ltb}
 use mathlib.Core.List.{map-map}
 use denote.Param.Members.{Mut}
 use lib.Signed.{mag}
@@ -21,12 +21,13 @@ use Rattle.lists.specs.Parts.{concat}
 use Rattle.lists.specs.Spans.{stretch}
 use Rattle.lists.proofs.Stretches.{span_whole}
 use Rattle.model.specs.Plan.{Plan, Dart, Face, count, ring, darts_from, step, walk, on_inner_face, faces_from, faces}
+use Rattle.model.specs.Scan.{inner_face}
 use Rattle.model.specs.Chart.{Chart}
 use Rattle.model.specs.Geometry.{area}
 use Rattle.survey.specs.declared.Areas.{Areas}
 use Rattle.survey.specs.Surveys.{natural, no_area, with_area, counted, faces_on, surveyed}
 use Rattle.sheet.proofs.Reading.{rings-held}
-use Rattle.survey.proofs.Walks.{face_of}
+use Rattle.faces.proofs.FaceTests.{inner_third}
 
 -- ---- a signed number as one without a sign, or 0
 pub natural_from : {E : Type 0} (r : Result ℕ E) (z : ℤ) → SFits w64 z → OkIff r (FitsUnsignedBits 64 (to_z w64 (of_z w64 z))) (nat_abs (to_z w64 (of_z w64 z))) → result_unwrap_or r 0 ≡ natural z
@@ -67,17 +68,13 @@ module _ (p : Plan) (k : Chart) (u v : ℕ) (s : Areas) where
     pub third-low : w ≤ u → s ≡ counted k (faces_on p u v) s
     third-low h = none (low-third (on_inner_face p (u, v)) (ltb u v) (ltb u (step p (u, v)).1) (le-ltb u (step p (u, v)).1 (omega arith)))
 
-    face_there : {f : Bool} → f ≡ face_of p u v w → f ≡ on_inner_face p (u, v)
-    face_there e = e ∙ go (on_inner_face p (u, v)) (eqb (step p (u, v)).1 w) (eq-eqb (step p (u, v)).1 w (sym third))
-      where
-        go : (o t : Bool) → t ≡ true → (o && t) ≡ o
-        go true t e = e
-        go false t e = refl
+    face_there : {f : Bool} → f ≡ inner_face p u v w → f ≡ on_inner_face p (u, v)
+    face_there e = e ∙ inner_third p u v third
 
-    pub no_face : {f : Bool} → f ≡ face_of p u v w → f ≡ false → s ≡ counted k (faces_on p u v) s
+    pub no_face : {f : Bool} → f ≡ inner_face p u v w → f ≡ false → s ≡ counted k (faces_on p u v) s
     no_face e h = none (rw (sym (face_there e) ∙ h))
 
-    pub one_face : {f : Bool} → f ≡ face_of p u v w → f ≡ true → u < v → u < w → {a : ℕ} → a ≡ natural (area k (u ∷ v ∷ w ∷ [])) → with_area a s ≡ counted k (faces_on p u v) s
+    pub one_face : {f : Bool} → f ≡ inner_face p u v w → f ≡ true → u < v → u < w → {a : ℕ} → a ≡ natural (area k (u ∷ v ∷ w ∷ [])) → with_area a s ≡ counted k (faces_on p u v) s
     unfolding faces_on counted walk
     one_face e h l m q =
         let i : on_inner_face p (u, v) ≡ true = sym (face_there e) ∙ h in

@@ -1,8 +1,8 @@
 // What a look at a sheet's plan and chart finds without the engine's calls: the areas of the inner faces, and whether three contexts enclose others.
 #![tactic(auto)]
 
-ghost use Rattle.std.specs.Prelude.{◌≡◌, ◌&&◌, [], ◌∷◌, ◌==◌};
-ghost use Rattle.model.specs.Plan.{step, on_inner_face, faces_from};
+ghost use Rattle.std.specs.Prelude.{◌≡◌, [], ◌∷◌};
+ghost use Rattle.model.specs.Plan.{faces_from};
 ghost use Rattle.model.specs.Scan.{enclosing};
 ghost use Rattle.model.specs.Geometry.{area};
 ghost use Rattle.rings.specs.Tables.{plan_of};
@@ -11,6 +11,7 @@ ghost use Rattle.sheet.specs.Sheets.{held_plan};
 ghost use Rattle.survey.specs.Surveys.{natural, with_area, counted, faces_on, surveyed};
 
 use charts::Points;
+use faces::FaceSteps;
 use rings::Rings;
 use sheet::Sheet;
 
@@ -30,27 +31,16 @@ struct Drawn<'a> {
     points: Points<'a>,
 }
 
-// Is the walk that begins with the dart from u to v an inner face, and w its third context?
-#[tactic(auto, using(crate::proofs::Walks::face_tests))]
-fn is_face(rings: &Rings, u: usize, v: usize, w: usize) -> bool
-    ensures { result ≡ (on_inner_face (plan_of rings.now) (u, v) && (step (plan_of rings.now) (u, v)).1 == w) }
-{
-    !faces::is_outer(u, v)
-        && faces::third_of(rings, u, v) == w
-        && faces::third_of(rings, v, w) == u
-        && faces::third_of(rings, w, u) == v
-}
-
 // Are a, b, c neighbours of each other and no inner face, walked either way?
-#[tactic(auto, using(crate::proofs::Walks::enclosing_tests))]
+#[tactic(auto, using(faces::proofs::FaceTests::enclosing_tests))]
 fn rings_enclose(rings: &Rings, a: usize, b: usize, c: usize) -> bool
     ensures { result ≡ enclosing (plan_of rings.now) (a, b, c) }
 {
-    search::is_adjacent(rings, a, b)
-        && search::is_adjacent(rings, a, c)
+    search::is_adjacent(rings, a, c)
         && search::is_adjacent(rings, b, c)
-        && !is_face(rings, a, b, c)
-        && !is_face(rings, a, c, b)
+        && search::is_adjacent(rings, a, b)
+        && !faces::is_face(rings, a, b, c)
+        && !faces::is_face(rings, a, c, b)
 }
 
 // Are a, b, c neighbours of each other on the sheet's plan and no inner face, walked either way?
@@ -102,11 +92,11 @@ impl<'a> Drawn<'a> {
         if v <= u {
             return areas;
         }
-        let w = faces::third_of(&self.rings, u, v);
+        let w = self.rings.third_of(u, v);
         if w <= u {
             return areas;
         }
-        if is_face(&self.rings, u, v, w) {
+        if faces::is_face(&self.rings, u, v, w) {
             return areas.with(self.area_at(u, v, w));
         }
         areas

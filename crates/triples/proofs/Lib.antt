@@ -1,3 +1,2 @@
-pub mod Flags
+pub mod Looks
 pub mod Scans
-pub mod Nearest

@@ -1,17 +1,15 @@
 -- scan meets its contract.
-use mathlib.Core.Path.{refl}
+use Prim.Native.Nat.{◌≤◌}
 use native.Mathlib.Omega.{arith}
-use Rattle.rings.specs.Tables.{plan_of}
+use Rattle.rings.specs.Tables.{starts_of, table, table_of}
 use Rattle.rings.proofs.Rows.{count-rows}
-use Rattle.triples.proofs.Scans.{own_small, own_large}
+use Rattle.fit.proofs.Fits.{fit-says}
 use Rattle.triples.proofs.scan.Goals as goal
 
-pub scan_by-requires : goal.scan_by-requires
-scan_by-requires c =
-    let r = c.args.rings.now in
-    let size = count-rows r.starts.now r.sizes.now r.entries.now r.n in
-    let few = c.if-rings-le20.true in
-    own_small (plan_of r) (omega arith) refl
-
-pub scan_by-requires-2 : goal.scan_by-requires-2
-scan_by-requires-2 c = own_large (plan_of c.args.rings.now) refl
+pub scan_in-requires-else-fit-le-FEW : goal.scan_in-requires-else-fit-le-FEW
+unfolding table
+scan_in-requires-else-fit-le-FEW c =
+    let p = c.args.fit.now.plan in
+    let few = (fit-says (table_of p) c.args.fit.now.fits).few in
+    let size = count-rows (starts_of p.sizes.now) p.sizes.now p.entries.now p.n in
+    (omega arith, omega arith)
