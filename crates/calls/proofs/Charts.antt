@@ -7,23 +7,18 @@ use native.Mathlib.Omega.{arith}
 use lib.Dec.{leb}
 use borrow.Author.Tests.{le-leb}
 use Rattle.lists.proofs.Bools.{yes_and}
-use Rattle.lists.specs.Spans.{stretch, padded}
 use Rattle.model.specs.Outcome.{Outcome, accepted, refused, ◌>>=◌}
 use Rattle.model.specs.Plan.{Plan}
 use Rattle.model.specs.Chart.{Chart, chart, least_placement, slope}
 use Rattle.model.specs.File as file
 use Rattle.model.specs.Calls.{labels_of, chart_call}
 use Rattle.rings.specs.Tables.{start_of, table, in_bounds}
-use Rattle.std.specs.Prelude.{Ok}
-use Rattle.std.specs.declared.result.Result.{Result}
-use Rattle.refusal.specs.declared.Refusal.{Refusal}
-use Rattle.charts.specs.Charts.{chart_on}
+use Rattle.charts.specs.declared.Points.{Points}
+use Rattle.charts.specs.Charts.{chart_on, chart_in}
 use Rattle.placement.specs.declared.Drawn.{Drawn}
-use Rattle.placement.specs.Drawing.{chart_for, drawn_of}
+use Rattle.placement.specs.Drawing.{chart_for}
 use Rattle.sheet.specs.declared.Sheet.{Sheet}
-use Rattle.sheet.specs.declared.Stage.TheVariants.{Charted}
-use Rattle.sheet.specs.Sheets.{held_count, held_plan, held_labels, fits, reads, pack, packed}
-use Rattle.sheet.specs.Sheets.{rank, stage_read}
+use Rattle.sheet.specs.Sheets.{held_plan, held_labels, fits, reads, stage_read, rank, packed}
 use Rattle.model.proofs.Outcomes.{bind_at, bind_off}
 use Rattle.sheet.specs.Answers.{packed_as}
 use Rattle.sheet.proofs.Reading.{fitting_refused, fitting_missed, fitting_reached, packed-off, packed-at, labels_early, labels_there, fits_there, few, room}
@@ -64,21 +59,13 @@ module _ (s : Sheet) where
   pub chart-call-undrawn : (k at : ℕ) {sizes es ls : List ℕ} {n : ℕ} → refused k at ≡ chart_for sizes es n ls → 2 ≤ rank (stage_read s) → sizes ≡ s.sizes → es ≡ s.entries → n ≡ s.n → ls ≡ held_labels s → chart_call (reads s) ≡ refused k at
   chart-call-undrawn k at q h a b e l = chart-call-none h k at (q ∙ chart_lent h a b e l)
 
-  -- the chart that is drawn, and the struct that it is stored in
-  pub chart-call-stored : (t f : Sheet) (r : Result Drawn Refusal) (d : Drawn) {sizes es ls : List ℕ} {n : ℕ} → ((c : Chart) → Ok d ≡ drawn_of (accepted c) → t ≡ packed (file.charted (held_plan f) (held_labels f) c)) → f ≡ s → r ≡ Ok d
-      → accepted (chart_on n d.w d.h d.xs d.ys) ≡ chart_for sizes es n ls → r ≡ drawn_of (chart_for sizes es n ls) → 2 ≤ rank (stage_read s) → sizes ≡ f.sizes → es ≡ f.entries → n ≡ f.n → ls ≡ held_labels f → accepted t ≡ packed_as (chart_call (reads s))
-  chart-call-stored t f r d {n = n} put w is q o h a b e l =
-      let c = chart_on n d.w d.h d.xs d.ys in
+  -- the chart that is drawn is stored
+  pub chart-call-stored : {t f : Sheet} {d : Drawn} (p : Points) {sizes es ls : List ℕ} {n : ℕ} → t ≡ packed (file.charted (held_plan f) (held_labels f) (chart_in f.n p)) → f ≡ s
+      → (p.w ≡ d.w) × (p.h ≡ d.h) × (p.xs.now ≡ d.xs) × (p.ys.now ≡ d.ys)
+      → accepted (chart_on n d.w d.h d.xs d.ys) ≡ chart_for sizes es n ls → 2 ≤ rank (stage_read s) → sizes ≡ f.sizes → es ≡ f.entries → n ≡ f.n → ls ≡ held_labels f → accepted t ≡ packed_as (chart_call (reads s))
+  chart-call-stored {d = d} p {n = n} put w (pw, ph, px, py) q h a b e l =
       let lent = chart_lent h (a ∙ ap (λ (v : Sheet). v.sizes) w) (b ∙ ap (λ (v : Sheet). v.entries) w) (e ∙ ap (λ (v : Sheet). v.n) w) (l ∙ ap held_labels w) in
-      ap accepted (put c (sym is ∙ o ∙ ap drawn_of (sym q)) ∙ ap (λ (v : Sheet). packed (file.charted (held_plan v) (held_labels v) c)) w) ∙ sym (packed-at (chart-call-drawn h c (q ∙ lent)))
-
-  -- the struct with a chart, from the struct with labels
-  pub chart-stored : (t : Sheet) (d : Drawn) (c : Chart) → t ≡ packed (file.labelled (held_plan s) (stretch s.labels 0 (held_count s))) → Ok d ≡ drawn_of (accepted c)
-      → ◌≡◌ {A = Sheet} (record { stage = Charted; n = t.n; sizes = t.sizes; entries = t.entries; labels = t.labels; w = d.w; h = d.h; xs = d.xs; ys = d.ys }) (packed (file.charted (held_plan s) (held_labels s) c))
-  unfolding packed pack drawn_of held_labels
-  chart-stored t d c same e =
-      let p : d ≡ record { w = c.w; h = c.h; xs = padded 200 c.xs; ys = padded 200 c.ys } = cc in
-      λ i. record { stage = Charted; n = (same i).n; sizes = (same i).sizes; entries = (same i).entries; labels = (same i).labels; w = (p i).w; h = (p i).h; xs = (p i).xs; ys = (p i).ys }
+      ap accepted (put ∙ λ i. packed (file.charted (held_plan (w i)) (held_labels (w i)) (chart_on (sym e i) (pw i) (ph i) (px i) (py i)))) ∙ sym (packed-at (chart-call-drawn h (chart_on n d.w d.h d.xs d.ys) (q ∙ lent)))
 
 -- for the call itself, step by step
 pub ruleset steps = (fitting_refused, fitting_missed, fitting_reached, packed-off, chart-call_early, chart-call-undrawn)

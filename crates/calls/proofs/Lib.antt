@@ -1,4 +1,3 @@
-pub mod Cleaned
 pub mod Offers
 pub mod Sweeps
 pub mod Turns

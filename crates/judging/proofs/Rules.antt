@@ -56,10 +56,12 @@ module _ (s : Sheet) (f : fits s ≡ true) where
 
   -- so by what the test of it says
   module _ (r : Result Drawn Refusal) (p : Drawn) (k m : Points) {sizes es ls : List ℕ} {n : ℕ} {t : Bool} (is : drawn_as r n ≡ chart_for sizes es n ls) (w : r ≡ Ok p) (q : t ≡ same_chart (chart_in n k) (chart_in n m)) where
-    pub compared_same : t ≡ true → sizes ≡ s.sizes → es ≡ s.entries → n ≡ s.n → ls ≡ held_labels s → chart_in s.n k ≡ held_chart s → m.w ≡ p.w → m.h ≡ p.h → m.xs.now ≡ p.xs → m.ys.now ≡ p.ys → passed ≡ chart_rules (held_plan s) (held_labels s) (held_chart s)
+    pub compared_same : t ≡ true → sizes ≡ s.sizes → es ≡ s.entries → n ≡ s.n → ls ≡ held_labels s
+        → chart_in s.n k ≡ held_chart s → m.w ≡ p.w → m.h ≡ p.h → m.xs.now ≡ p.xs → m.ys.now ≡ p.ys → passed ≡ chart_rules (held_plan s) (held_labels s) (held_chart s)
     compared_same v a b e l mine pw ph px py = ap (λ (y : Bool). require y 12 0) (sym v) ∙ compared r a b e l is p w k m mine pw ph px py q
 
-    pub compared_other : t ≡ false → sizes ≡ s.sizes → es ≡ s.entries → n ≡ s.n → ls ≡ held_labels s → chart_in s.n k ≡ held_chart s → m.w ≡ p.w → m.h ≡ p.h → m.xs.now ≡ p.xs → m.ys.now ≡ p.ys → refused 12 0 ≡ chart_rules (held_plan s) (held_labels s) (held_chart s)
+    pub compared_other : t ≡ false → sizes ≡ s.sizes → es ≡ s.entries → n ≡ s.n → ls ≡ held_labels s
+        → chart_in s.n k ≡ held_chart s → m.w ≡ p.w → m.h ≡ p.h → m.xs.now ≡ p.xs → m.ys.now ≡ p.ys → refused 12 0 ≡ chart_rules (held_plan s) (held_labels s) (held_chart s)
     compared_other v a b e l mine pw ph px py = ap (λ (y : Bool). require y 12 0) (sym v) ∙ compared r a b e l is p w k m mine pw ph px py q
 
 -- ---- one part of the rules before another

@@ -1,27 +1,27 @@
 -- Parts of a lent file copied into arrays: what the loops keep, and that the arrays hold what the file holds.
-use Prim.Native.Nat.{ℕ, zero, suc, ◌+◌, ◌-◌, ◌*◌, ◌≤◌, ◌<◌, min}
+use Prim.Native.Nat.{ℕ, zero, suc, ◌+◌, ◌-◌, ◌*◌, ◌^◌, ◌≤◌, ◌<◌, min}
 use mathlib.Core.Path.{◌≡◌, refl, sym, ap, ◌∙◌}
 use mathlib.Core.List.{List, [], ◌∷◌, ◌++◌, append_assoc, append-nil}
 use mathlib.Core.Logic.{◌⊎◌, inl, inr}
 use native.Mathlib.Omega.{arith}
 use lib.ListN.{length, get_or, take, drop, set, replicate, length-take, length-drop, length-append, drop_of_length-le}
-use lib.Seq.{ext_get_or, get_or-drop, take_all, take_at, drop_at, set_at, take-suc, drop-cons, append_snoc}
+use lib.Seq.{get_or-drop, take_all, take_at, drop_at, set_at, take-suc, drop-cons, append_snoc}
 use borrow.Rule.Slice.PartMut.{put_mid}
-use Rattle.std.proofs.lemmas.List.{get_or-take, drop-replicate}
+use Rattle.std.proofs.lemmas.List.{drop-replicate}
 use Rattle.lists.specs.Parts.{concat}
 use Rattle.lists.specs.Spans.{stretch, zeros, padded}
 use Rattle.lists.proofs.Concats.{concat-append}
 use Rattle.lists.proofs.Loops.{padded-none}
 use Rattle.lists.proofs.Ranges.{lt-or-le, length-map-from, get_or-map-from}
-use Rattle.lists.proofs.Padded.{get_or-padded, length-padded}
-use Rattle.lists.proofs.Spans.{past, length-stretch, get_or-stretch}
 use Rattle.lists.proofs.Stretches.{length-joined-more}
+use Rattle.model.specs.File.{entry_offset}
 use Rattle.rings.specs.Tables.{start_of, starts_of}
 use Rattle.rings.specs.Lent.{words_at, body_at, lent}
 use Rattle.rings.proofs.Rows.{start_first, start-more, ring_ends}
 use Rattle.arrays.specs.Parts.{word_of}
 use Rattle.lent.proofs.Rings.{length-words-at}
 use Rattle.framing.specs.Layouts.{plan_in}
+use Rattle.sheet.proofs.Made.{take-there, part_padded}
 
 -- ---- for i in 0..k { to[i] = word(at + 2 * i); }
 -- one number more
@@ -115,11 +115,11 @@ module _ (file sizes : List ℕ) (n : ℕ) where
       omega arith
 
   -- where its entries stand in the file
-  body-there : (u : ℕ) → u < n → n ≤ 200 → body u ≡ words_at file (10 + 4 * u + 2 * start_of sizes u) (get_or sizes u 0)
+  body-there : (u : ℕ) → u < n → n ≤ 200 → body u ≡ words_at file (entry_offset u (start_of sizes u)) (get_or sizes u 0)
   unfolding body body_at starts_of
   body-there u h few =
       let begin : get_or (starts_of sizes) u 0 ≡ start_of sizes u = get_or-map-from (start_of sizes) 0 200 u 0 (omega arith) ∙ ap (start_of sizes) (omega arith) in
-      ap (λ (s : ℕ). words_at file (10 + 4 * u + 2 * s) (get_or sizes u 0)) begin
+      ap (λ (s : ℕ). words_at file (entry_offset u s) (get_or sizes u 0)) begin
 
   -- one ring more
   rings-more : (u : ℕ) → u < n → concat (take (suc u) rings) ≡ concat (take u rings) ++ body u
@@ -146,9 +146,9 @@ module _ {file sizes : List ℕ} {n u at : ℕ} {es : List ℕ} (inv : Copies fi
   copies_fit h q e = let r = copies_room h q in omega arith
 
   -- it is copied
-  pub copies_ring : {k at' u' : ℕ} {es' ws : List ℕ} → n ≤ 200 → u < n → k ≡ get_or sizes u 0 → length es ≡ 1186
-      → ws ≡ words_at file (10 + 4 * u + 2 * at) (length (take (at + k - at) (drop at es))) → es' ≡ put_mid at (at + k - at) es ws → at' ≡ at + k → u' ≡ suc u → Copies file sizes n u' at' es'
-  copies_ring {k} {at'} {u'} {es'} {ws} few h q long w p e r =
+  pub copies_ring : {k from at' u' : ℕ} {es' ws : List ℕ} → n ≤ 200 → u < n → k ≡ get_or sizes u 0 → length es ≡ 1186
+      → from ≡ min (entry_offset u at) (2 ^ 64 - 1) → ws ≡ words_at file from (length (take (at + k - at) (drop at es))) → es' ≡ put_mid at (at + k - at) es ws → at' ≡ at + k → u' ≡ suc u → Copies file sizes n u' at' es'
+  copies_ring {k} {from} {at'} {u'} {es'} {ws} few h q long o w p e r =
       let s = inv.stands in
       let fits = copies_room h q in
       let more = start-more sizes u in
@@ -158,7 +158,8 @@ module _ {file sizes : List ℕ} {n u at : ℕ} {es : List ℕ} (inv : Copies fi
       let whole : length (take (at + k - at) (drop at es)) ≡ get_or sizes u 0 = omega arith in
       let next : start_of sizes u' ≡ start_of sizes (suc u) = ap (start_of sizes) r in
       let l : List ℕ = concat (take u (plan_in file sizes n).rings) in
-      let there : ws ≡ body file sizes n u = w ∙ (λ t. words_at file (10 + 4 * u + 2 * s t) (whole t)) ∙ sym (body-there file sizes n u h few) in
+      let here : from ≡ entry_offset u (start_of sizes u) = omega arith in
+      let there : ws ≡ body file sizes n u = w ∙ (λ t. words_at file (here t) (whole t)) ∙ sym (body-there file sizes n u h few) in
       record {
         reached = omega arith;
         stands = omega arith;
@@ -173,30 +174,8 @@ module _ {file sizes : List ℕ} {n u at : ℕ} {es : List ℕ} (inv : Copies fi
   copies_end h = let q = inv.reached in let z = rings-size file sizes n in inv.filled ∙ ap (λ (l : List (List ℕ)). padded 1186 (concat l)) (take_all u (plan_in file sizes n).rings (omega arith))
 
 -- ---- the label bytes
--- what is read of a part is what is read of a stretch, and 0 behind it
-part_reads : (s : List ℕ) (at k i : ℕ) → get_or (take k (drop at s)) i 0 ≡ get_or (stretch s at k) i 0
-part_reads s at k i = go (lt-or-le i k)
-  where
-    go : (i < k) ⊎ (k ≤ i) → get_or (take k (drop at s)) i 0 ≡ get_or (stretch s at k) i 0
-    go (inl h) = get_or-take k (drop at s) i 0 h ∙ get_or-drop at s i 0 ∙ sym (get_or-stretch s at k i h)
-    go (inr h) = sym (past (take k (drop at s)) i (omega (arith, length-take k (drop at s)))) ∙ past (stretch s at k) i (omega (arith, length-stretch s at k))
-
--- the part of a file from an offset on, at most k bytes, in an array with zeros behind it
-pub part_padded : (s : List ℕ) (at k m : ℕ) → k ≤ m → padded m (take k (drop at s)) ≡ padded m (stretch s at k)
-part_padded s at k m h =
-    let l = take k (drop at s) in
-    let a = length-padded m l (omega (arith, length-take k (drop at s))) in
-    let b = length-padded m (stretch s at k) (omega (arith, length-stretch s at k)) in
-    ext_get_or 0 (padded m l) (padded m (stretch s at k)) (a ∙ sym b) (λ i p. get_or-padded m l i ∙ part_reads s at k i ∙ sym (get_or-padded m (stretch s at k) i))
-
--- so is what is copied of the rest
-pub labels-copied : (s : List ℕ) (at k m : ℕ) {r b : List ℕ} {j : ℕ} → k ≤ m → r ≡ drop at s → j ≡ min (length r) k → b ≡ take j r ++ replicate (m - j) 0 → b ≡ padded m (stretch s at k)
-unfolding padded zeros
-labels-copied s at k m {r} {j = j} h e q f = f ∙ (λ i. same (lt-or-le k (length r)) i ++ replicate (m - size i) 0) ∙ ap (λ (l : List ℕ). padded m (take k l)) e ∙ part_padded s at k m h
-  where
-    size : j ≡ length (take k r)
-    size = omega (arith, length-take k r)
-
-    same : (k < length r) ⊎ (length r ≤ k) → take j r ≡ take k r
-    same (inl g) = ap (λ (i : ℕ). take i r) (omega arith)
-    same (inr g) = take_all j r (omega arith) ∙ sym (take_all k r g)
+-- what is lent of the rest, at most k bytes
+pub labels-lent : (s : List ℕ) (at k m : ℕ) {r l : List ℕ} {j : ℕ} → k ≤ m → r ≡ drop at s → j ≡ min k (length r) → l ≡ take j r → (length l ≤ m) × (padded m l ≡ padded m (stretch s at k))
+labels-lent s at k m {r} {l} {j} h e q f =
+    let there : l ≡ take k (drop at s) = f ∙ ap (λ (i : ℕ). take i r) q ∙ take-there r k ∙ ap (take k) e in
+    (omega (arith, ap length there, length-take k (drop at s)), ap (padded m) there ∙ part_padded s at k m h)

@@ -4,7 +4,8 @@ use mathlib.Core.Path.{◌≡◌, refl, sym, ap, ◌∙◌}
 use mathlib.Core.List.{List, ◌∷◌, map}
 use mathlib.Core.Bool.{true, false}
 use native.Mathlib.Omega.{arith}
-use lib.ListN.{length, get_or, drop}
+use lib.ListN.{length, get_or, take, drop}
+use lib.Seq.{take_all}
 use lib.Dec.{eqb}
 use borrow.Author.Tests.{eqb-true, le-leb}
 use Rattle.lists.specs.Ranges.{from}
@@ -17,22 +18,25 @@ use Rattle.model.specs.Chart.{Chart, chart, same_chart}
 use Rattle.model.specs.File as file
 use Rattle.model.specs.File.{decode, chart_in}
 use Rattle.model.specs.Calls.{judge, open_call}
-use Rattle.model.proofs.Outcomes.{then_accepted, require-passed, rule-passes}
+use Rattle.model.proofs.Outcomes.{not-both, then_accepted, require-passed, rule-passes}
 use Rattle.model.proofs.FileWrite.{PlanFits, Fits}
 use Rattle.model.proofs.FileRead.{read_fits}
-use Rattle.rings.specs.Tables.{start_of, starts_of}
+use Rattle.lists.proofs.Ranges.{length-map-from}
+use Rattle.lists.proofs.Padded.{stretch-padded}
+use Rattle.rings.specs.Tables.{start_of, starts_of, table}
 use Rattle.rings.specs.Lent.{words_at, body_at, lent}
 use Rattle.lent.proofs.Rings.{length-words-at, get_or-words-at, count-lent}
-use Rattle.lent.proofs.Copied.{entry-count-lent}
+use Rattle.lent.proofs.Copied.{copied-padded, entry-count-lent}
 use Rattle.arrays.specs.Parts.{word_of, words_every}
 use Rattle.framing.specs.Layouts.{plan_in, chart_from, sheet_with, laid}
 use Rattle.framing.specs.declared.layout.Parts.{Parts}
 use Rattle.framing.specs.declared.layout.Layout.{Layout}
 use Rattle.sheet.specs.declared.Sheet.{Sheet}
-use Rattle.sheet.specs.declared.Stage.TheVariants.{Open, Labelled, Charted}
-use Rattle.sheet.specs.Sheets.{reads, pack, packed}
+use Rattle.charts.specs.Charts.{chart_on}
+use Rattle.sheet.specs.declared.Stage.TheVariants.{Labelled, Charted}
+use Rattle.sheet.specs.Sheets.{reads, pack, no_chart, packed}
 use Rattle.sheet.specs.Answers.{packed_as}
-use Rattle.opening.specs.Opening.{lent_rules, lent_of, due}
+use Rattle.opening.specs.Opening.{lent_rules, lent_of, rules_of, due}
 use Rattle.opening.proofs.Lent.{four_refused, five_refused, six_refused, seven_judged}
 use Rattle.fit.specs.Fits.{fit}
 use Rattle.fit.proofs.Fits.{says-fit}
@@ -132,6 +136,22 @@ module _ (b : List ℕ) (s : file.Sheet) (is : decode b ≡ accepted s) where
     unfolding packed_as
     open-whole e = ap accepted copy ∙ sym (call_is ∙ rw (← rules, ← e))
 
+  -- so of 4 to 7 and then 8 to 12
+  module _ (t : Sheet) (copy : t ≡ packed s) where
+    pub open_refused : (k at : ℕ) → refused k at ≡ rules_of s (reads t) → refused k at ≡ packed_as (open_call b)
+    open_refused k at e = go (lent_of s) refl e
+      where
+        go : (o : Outcome (Unit {0})) → lent_of s ≡ o → refused k at ≡ (o >> rules_from_8 (reads t)) → refused k at ≡ packed_as (open_call b)
+        go (accepted u) f q = open-late (sym f) t copy k at q
+        go (refused j u) f q = ap (λ (o : Outcome (Unit {0})). o >> packed_as (open_call b)) q ∙ open_early j u (sym f)
+
+    pub open_accepted : passed ≡ rules_of s (reads t) → accepted t ≡ packed_as (open_call b)
+    open_accepted e = go (lent_of s) refl e
+      where
+        go : (o : Outcome (Unit {0})) → lent_of s ≡ o → passed ≡ (o >> rules_from_8 (reads t)) → accepted t ≡ packed_as (open_call b)
+        go (accepted u) f q = open-whole (sym f) t copy q
+        go (refused j u) f q = not-both (sym q)
+
 -- ---- what a layout says of its parts
 -- 4 to 7 kept: the entries fit
 pub room_in : (b : List ℕ) (l : Layout) → passed ≡ lent_of (laid b l) → start_of l.sizes l.n ≤ 1186
@@ -197,10 +217,8 @@ module _ (b : List ℕ) (l : Layout) (starts : List ℕ) (w : starts ≡ starts_
         pub seven_off : due l.sizes l.n ≡ false → refused 7 0 ≡ lent_of (laid b l)
         seven_off e = seven_judged l.n p e4 e5 e6 (due_entries starts l.sizes b l.n l.enough l.few ∙ e) ∙ lent_there b l w
 
--- for the functions that judge a file in parts
+-- for the function that judges the rings in a file
 pub ruleset ring_steps = (four_off, five_off, six_off, seven_kept, seven_off)
-
-pub ruleset rule_steps = (room_in, open_early, open-late, open-whole)
 
 -- ---- the sheet in a file, packed
 -- how long the rings in a file are
@@ -262,32 +280,48 @@ module _ (b : List ℕ) (at n : ℕ) where
       let far : at + 4 + 2 ≡ at + 6 = omega arith in
       sym (ap (λ (l : List ℕ). map (λ (t : ℕ × ℕ). t.1) (pairs l)) numbers_after ∙ second_numbers b (at + 4) 0 n (2 * n) refl ∙ ap (λ (j : ℕ). map (λ (u : ℕ). word_of b (j + 4 * u)) (from 0 n)) far)
 
--- the struct that each stage makes of the one before it
-module _ (b sizes : List ℕ) (n : ℕ) where
+-- the sheets that are made of a plan whose entries are copied
+module _ (b sizes : List ℕ) (n : ℕ) (few : n ≤ 200) where
   abbrev plan : Plan
   plan = plan_in b sizes n
 
-  n_in : n ≡ count plan
-  n_in = sym (count-lent (starts_of sizes) sizes b n)
+  table-there : {es : List ℕ} → es ≡ padded 1186 (concat plan.rings) → table sizes es n ≡ plan
+  table-there e = ap (λ (l : List ℕ). table sizes l n) e ∙ copied-padded sizes b n 1186 few
 
-  sizes_in : sizes ≡ padded 200 (stretch sizes 0 n) → sizes ≡ padded 200 (map length plan.rings)
-  sizes_in whole = whole ∙ ap (padded 200) (sym (sizes_lent b sizes n))
+  pub opened_there : {es : List ℕ} {t : Sheet} → es ≡ padded 1186 (concat plan.rings) → t ≡ packed (file.opened (table sizes es n)) → t ≡ packed (file.opened plan)
+  opened_there e q = q ∙ ap (λ (p : Plan). packed (file.opened p)) (table-there e)
 
-  pub opened_packed : {es : List ℕ} (s : Sheet) → s ≡ packed file.fresh → sizes ≡ padded 200 (stretch sizes 0 n) → es ≡ padded 1186 (concat plan.rings) → record s { stage = Open; n = n; sizes = sizes; entries = es } ≡ packed (file.opened plan)
+  pub labelled_there : {es : List ℕ} (l ls : List ℕ) {t : Sheet} → es ≡ padded 1186 (concat plan.rings) → length l ≤ 1186 → padded 1186 l ≡ padded 1186 ls
+      → t ≡ packed (file.labelled (table sizes es n) (take 1186 l)) → t ≡ packed (file.labelled plan ls)
   unfolding packed pack
-  opened_packed s e whole f = λ i. record (e i) { stage = Open; n = n_in i; sizes = sizes_in whole i; entries = f i }
+  labelled_there l ls e h f q = q ∙ (λ i. packed (file.labelled (table-there e i) (take_all 1186 l h i))) ∙ λ i. record (pack Labelled plan.rings l no_chart) { labels = f i }
 
-  pub labelled_packed : {lb : List ℕ} (ls : List ℕ) (s : Sheet) → s ≡ packed (file.opened plan) → lb ≡ padded 1186 ls → record s { stage = Labelled; labels = lb } ≡ packed (file.labelled plan ls)
-  unfolding packed pack
-  labelled_packed ls s e f = λ i. record (e i) { stage = Labelled; labels = f i }
+  pub charted_there : {es : List ℕ} (ls : List ℕ) (c : Chart) {t : Sheet} → es ≡ padded 1186 (concat plan.rings) → t ≡ packed (file.charted (table sizes es n) ls c) → t ≡ packed (file.charted plan ls c)
+  charted_there ls c e q = q ∙ ap (λ (p : Plan). packed (file.charted p ls c)) (table-there e)
 
-  pub charted_packed : {xs ys : List ℕ} (ls : List ℕ) (at : ℕ) {w h : ℕ} (s : Sheet) → n ≤ 200 → s ≡ packed (file.labelled plan ls) → w ≡ word_of b at → h ≡ word_of b (at + 2) → xs ≡ padded 200 (words_every b (at + 4) 4 (min n 200)) → ys ≡ padded 200 (words_every b (at + 6) 4 (min n 200))
-      → record s { stage = Charted; w = w; h = h; xs = xs; ys = ys } ≡ packed (file.charted plan ls (chart_from b n at))
-  unfolding packed pack
-  charted_packed ls at s few e f g x y = let all : min n 200 ≡ n = omega arith in λ i. record (e i) {
-    stage = Charted;
-    w = (f ∙ w_in b at n) i;
-    h = (g ∙ h_in b at n) i;
-    xs = (x ∙ ap (λ (k : ℕ). padded 200 (words_every b (at + 4) 4 k)) all ∙ ap (padded 200) (xs_in b at n)) i;
-    ys = (y ∙ ap (λ (k : ℕ). padded 200 (words_every b (at + 6) 4 k)) all ∙ ap (padded 200) (ys_in b at n)) i;
-  }
+  -- the numbers of the chart
+  numbers-there : (at : ℕ) {xs : List ℕ} → xs ≡ padded 200 (words_every b at 4 (min n 200)) → stretch xs 0 n ≡ words_every b at 4 n
+  unfolding words_every
+  numbers-there at e =
+      let f : ℕ → ℕ = λ (i : ℕ). word_of b (at + 4 * i) in
+      let m : min n 200 ≡ n = omega arith in
+      ap (λ (l : List ℕ). stretch l 0 n) (e ∙ ap (λ (k : ℕ). padded 200 (map f (from 0 k))) m)
+      ∙ ap (stretch (padded 200 (map f (from 0 n))) 0) (sym (length-map-from f 0 n))
+      ∙ stretch-padded 200 (map f (from 0 n))
+
+  pub charted_parts : (held : Plan) (l ls : List ℕ) (at : ℕ) {xs ys : List ℕ} {w h m : ℕ} {t : Sheet} → m ≡ n → length l ≤ 1186 → padded 1186 l ≡ padded 1186 ls → w ≡ word_of b at → h ≡ word_of b (at + 2)
+      → xs ≡ padded 200 (words_every b (at + 4) 4 (min n 200)) → ys ≡ padded 200 (words_every b (at + 6) 4 (min n 200))
+      → t ≡ packed (file.charted held (take 1186 l) (chart_on m w h xs ys)) → t ≡ packed (file.charted held ls (chart_from b n at))
+  unfolding packed pack chart_on
+  charted_parts held l ls at {xs} {ys} {w} {h} {m} e room f g k x y q =
+      let c = chart_on m w h xs ys in
+      q ∙ ap (λ (k : List ℕ). packed (file.charted held k c)) (take_all 1186 l room) ∙ λ i. record (pack Charted held.rings l c) {
+        labels = f i;
+        w = (g ∙ w_in b at n) i;
+        h = (k ∙ h_in b at n) i;
+        xs = padded 200 ((ap (stretch xs 0) e ∙ numbers-there (at + 4) x ∙ xs_in b at n) i);
+        ys = padded 200 ((ap (stretch ys 0) e ∙ numbers-there (at + 6) y ∙ ys_in b at n) i);
+      }
+
+-- for the function that makes the sheet
+pub ruleset laid_steps = (opened_there, labelled_there, charted_there)

@@ -10,7 +10,7 @@ use borrow.Author.Tests.{leb-true, eqb-true, le-leb, eq-eqb}
 use Rattle.lists.specs.Parts.{concat}
 use Rattle.lists.specs.Spans.{stretch, padded}
 use Rattle.lists.proofs.Bools.{and_yes}
-use Rattle.model.specs.Outcome.{accepted, refused, passed}
+use Rattle.model.specs.Outcome.{Outcome, accepted, refused, passed, ◌>>◌}
 use Rattle.model.specs.Plan.{Plan, count, bad_entry, bad_repeat, unreturned, bad_border, bad_face, dart_count}
 use Rattle.model.specs.Chart.{Chart}
 use Rattle.model.specs.File as file
@@ -29,11 +29,12 @@ use Rattle.sheet.specs.Sheets.{held_plan, held, fits, reads, pack, no_chart, pac
 use Rattle.sheet.specs.Answers.{packed_as}
 use Rattle.sound.specs.Sound.{sound}
 use Rattle.sound.proofs.Sound.{four_kept, five_kept, six_kept, eight_kept, nine_kept}
-use Rattle.opening.specs.Opening.{lent_rules, lent_of, due}
+use Rattle.opening.specs.Opening.{lent_rules, lent_of, rules_of, due}
 use Rattle.judging.specs.Rules.{flat_rules, flat_of, rules_from_10, rules_from_8}
 use Rattle.judging.proofs.Rules.{first-passed}
 use Rattle.opening.proofs.Lent.{rule_kept, seven_judged}
-use Rattle.opening.proofs.Opened.{open-late, open-whole, sizes_lent}
+use Rattle.model.proofs.Outcomes.{not-both}
+use Rattle.opening.proofs.Opened.{room_in, open_early, open_refused, open_accepted, sizes_lent}
 
 -- ---- the test as the code makes it
 pub due_total : (sizes : List ℕ) (n : ℕ) {t : ℕ} → 5 ≤ n → t ≡ start_of sizes (min n 200) → eqb t (6 * n - 14) ≡ due sizes n
@@ -49,7 +50,7 @@ due-says sizes n few e =
     (leb-true 5 n a, ap (start_of sizes) (sym m) ∙ eqb-true (start_of sizes (min n 200)) (dart_count n) b)
 
 -- the entries fit
-pub due-room : (sizes : List ℕ) (n : ℕ) → n ≤ 200 → due sizes n ≡ true → start_of sizes n ≤ 1186
+due-room : (sizes : List ℕ) (n : ℕ) → n ≤ 200 → due sizes n ≡ true → start_of sizes n ≤ 1186
 due-room sizes n few e = let (a, b) = due-says sizes n few e in omega arith
 
 -- 8 and 9
@@ -60,7 +61,7 @@ quick_flat p e =
     rw (← rule_kept 8 4 (bad_border p) refl (eight_kept p e), ← rule_kept 9 (count p) (bad_face p) (nine_kept p e) here)
 
 -- so 10 to 12 are what is left
-pub quick_held : (t : Sheet) → sound (held_plan t) ≡ true → rules_from_10 (reads t) ≡ rules_from_8 (reads t)
+quick_held : (t : Sheet) → sound (held_plan t) ≡ true → rules_from_10 (reads t) ≡ rules_from_8 (reads t)
 unfolding reads held flat_of rules_from_8
 quick_held t e = first-passed (flat_of (reads t)) (rules_from_10 (reads t)) (go (fits t) t.stage) refl
   where
@@ -94,7 +95,7 @@ module _ (b sizes : List ℕ) (n : ℕ) (few : n ≤ 200) where
       seven_judged (count plan) plan four five six (eq-eqb _ _ (entry-count-lent (starts_of sizes) sizes b n ∙ total ∙ ap dart_count (sym size)))
 
 -- 4 to 7 of what a layout finds
-pub quick_laid : (b : List ℕ) (l : Layout) → due l.sizes l.n ≡ true → (t : Sheet) → t ≡ packed (laid b l) → sound (held_plan t) ≡ true → passed ≡ lent_of (laid b l)
+quick_laid : (b : List ℕ) (l : Layout) → due l.sizes l.n ≡ true → (t : Sheet) → t ≡ packed (laid b l) → sound (held_plan t) ≡ true → passed ≡ lent_of (laid b l)
 unfolding laid lent_of packed
 quick_laid b l d t e s = go l.parts (ap (λ (r : Sheet). sound (held_plan r)) (sym e) ∙ s)
   where
@@ -106,16 +107,46 @@ quick_laid b l d t e s = go l.parts (ap (λ (r : Sheet). sound (held_plan r)) (s
 
     go : (g : Parts) → sound (held_plan (packed (sheet_with b l.n p g))) ≡ true → passed ≡ lent_of (sheet_with b l.n p g)
     go Parts.Plan f = kept Open [] no_chart f
-    go (Parts.Labels labels) f = kept Labelled (labels_in b l.n labels) no_chart f
-    go (Parts.Chart labels chart) f = kept Charted (labels_in b l.n labels) (chart_from b l.n chart) f
+    go (Parts.Labels labels) f = kept Labelled (labels_in b p labels) no_chart f
+    go (Parts.Chart labels chart) f = kept Charted (labels_in b p labels) (chart_from b l.n chart) f
 
--- so 8 and 9 too, and 10 to 12 say what the call gives
-module _ (b : List ℕ) (l : Layout) (is : decode b ≡ accepted (laid b l)) (d : due l.sizes l.n ≡ true) (t : Sheet) (e : t ≡ packed (laid b l)) (s : sound (held_plan t) ≡ true) where
-  pub quick_late : (k at : ℕ) → refused k at ≡ rules_from_10 (reads t) → refused k at ≡ packed_as (open_call b)
-  quick_late k at q = open-late b (laid b l) is (quick_laid b l d t e s) t e k at (q ∙ quick_held t s)
+-- ---- what was judged before the sheet is copied: 4 to 7, unless the plan has as many entries as 7 asks for
+module _ (b : List ℕ) (l : Layout) where
+  abbrev before : Outcome (Unit {0})
+  before = cond (due l.sizes l.n) passed (lent_of (laid b l))
 
-  pub quick_whole : passed ≡ rules_from_10 (reads t) → accepted t ≡ packed_as (open_call b)
-  quick_whole q = open-whole b (laid b l) is (quick_laid b l d t e s) t e (q ∙ quick_held t s)
+  pub before_room : passed ≡ before → start_of l.sizes l.n ≤ 1186
+  before_room e = go (due l.sizes l.n) refl e
+    where
+      go : (d : Bool) → due l.sizes l.n ≡ d → passed ≡ cond d passed (lent_of (laid b l)) → start_of l.sizes l.n ≤ 1186
+      go true f q = due-room l.sizes l.n l.few f
+      go false f q = room_in b l q
+
+  pub before_refused : decode b ≡ accepted (laid b l) → (k at : ℕ) → refused k at ≡ before → refused k at ≡ packed_as (open_call b)
+  before_refused is k at e = go (due l.sizes l.n) e
+    where
+      go : (d : Bool) → refused k at ≡ cond d passed (lent_of (laid b l)) → refused k at ≡ packed_as (open_call b)
+      go true q = not-both q
+      go false q = open_early b (laid b l) is k at q
+
+  -- and then 8 and 9 too, where the plan is sound: 10 to 12 are what is left
+  pub sound_rules : passed ≡ before → (t : Sheet) → t ≡ packed (laid b l) → sound (held_plan t) ≡ true → rules_from_10 (reads t) ≡ rules_of (laid b l) (reads t)
+  sound_rules e t copy s = quick_held t s ∙ ap (λ (o : Outcome (Unit {0})). o >> rules_from_8 (reads t)) (go (due l.sizes l.n) refl e)
+    where
+      go : (d : Bool) → due l.sizes l.n ≡ d → passed ≡ cond d passed (lent_of (laid b l)) → passed ≡ lent_of (laid b l)
+      go true f q = quick_laid b l f t copy s
+      go false f q = q
+
+-- 4 to 7 are judged, and then the others
+module _ (s t : file.Sheet) where
+  pub lent_refused : (k at : ℕ) → refused k at ≡ lent_of s → refused k at ≡ rules_of s t
+  lent_refused k at e = ap (λ (o : Outcome (Unit {0})). o >> rules_from_8 t) e
+
+  pub lent_kept : passed ≡ lent_of s → rules_from_8 t ≡ rules_of s t
+  lent_kept e = ap (λ (o : Outcome (Unit {0})). o >> rules_from_8 t) e
+
+-- for the function that judges a sheet that was copied
+pub ruleset sheet_steps = (sound_rules, lent_refused, lent_kept)
 
 -- for the function that opens a file
-pub ruleset quick_steps = (due-room, quick_late, quick_whole)
+pub ruleset open_steps = (before_room, before_refused, open_refused, open_accepted)

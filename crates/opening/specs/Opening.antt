@@ -5,6 +5,7 @@ use Rattle.model.specs.Outcome.{passed, require, rule, ◌>>◌}
 use Rattle.model.specs.Plan.{Plan, count, bad_entry, bad_repeat, unreturned, entry_count, dart_count}
 use Rattle.model.specs.File as file
 use Rattle.rings.specs.Tables.{start_of}
+use Rattle.judging.specs.Rules.{rules_from_8}
 
 -- 4 to 7, which are judged in the file
 unfoldable pub lent_rules : ℕ → Plan → model.Outcome (Unit {0})
@@ -20,6 +21,12 @@ lent_of file.fresh = passed
 lent_of (file.opened p) = lent_rules (count p) p
 lent_of (file.labelled p ls) = lent_rules (count p) p
 lent_of (file.charted p ls c) = lent_rules (count p) p
+
+-- 4 to 7 of a sheet that stands in a file, then 8 to 12 of the sheet that was copied
+abbrev pub rules_of : file.Sheet → file.Sheet → model.Outcome (Unit {0})
+rules_of s t = do
+  lent_of s
+  rules_from_8 t
 
 -- 5 contexts or more, with as many entries as 7 asks for
 unfoldable pub due : List ℕ → ℕ → Bool

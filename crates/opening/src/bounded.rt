@@ -2,14 +2,16 @@
 ghost use Rattle.std.specs.Prelude.{◌≡◌, ◌<◌, ◌≤◌, ◌^◌, length};
 ghost use Rattle.lists.specs.Parts.{concat};
 ghost use Rattle.lists.specs.Spans.{padded};
-ghost use Rattle.model.specs.File.{opened, labelled, charted};
-ghost use Rattle.rings.specs.Tables.{start_of};
+ghost use Rattle.model.specs.File.{charted};
+ghost use Rattle.rings.specs.Tables.{start_of, table_of};
 ghost use Rattle.rings.specs.Lent.{words_at};
 ghost use Rattle.framing.specs.Layouts.{plan_in, labels_in, chart_from, laid};
 ghost use Rattle.sheet.specs.Sheets.{packed};
 
+use charts::Points;
 use framing::{Layout, Parts};
-use sheet::{Sheet, Stage};
+use rings::Table;
+use sheet::{BoundedTable, Sheet};
 
 // A file with its layout, where all rings have no more entries than a sheet has room for.
 #[derive(Clone, Copy)]
@@ -43,74 +45,60 @@ impl<'a> Bounded<'a> {
         let mut at = 0;
         for u in 0..self.layout.n {
             let k = arrays::num(&self.layout.sizes, u);
-            copy_words(&mut entries[at..at + k], self.file, 10 + 4 * u + 2 * at);
+            copy_words(
+                &mut entries[at..at + k],
+                self.file,
+                rings::entry_offset(u, at),
+            );
             at += k;
         }
         entries
     }
 
-    // The label bytes, which stand at an offset.
-    fn labels(&self, at: usize) -> [u8; 1186]
-        ensures { result ≡ padded 1186 (labels_in self.now.file.now self.now.layout.now.n at) }
+    // The label bytes, which stand at an offset, as far as the file reaches.
+    fn labels(&self, at: usize) -> &'a [u8]
+        ensures fits { length result.now ≤ 1186 }
+        ensures there { padded 1186 result.now ≡ padded 1186 (labels_in self.now.file.now (plan_in self.now.file.now self.now.layout.now.sizes self.now.layout.now.n) at) }
     {
         let rest = &self.file[at.min(self.file.len())..];
-        let count = rest.len().min(self.layout.darts());
-        let mut labels = [0u8; 1186];
-        labels[..count].copy_from_slice(&rest[..count]);
-        labels
+        &rest[..self.layout.labels_due().min(rest.len())]
     }
 
-    // The sheet at stage OPEN with the plan.
-    #[tactic(auto, using(crate::proofs::Opened::opened_packed))]
-    fn opened(&self) -> Sheet
-        ensures { result ≡ packed (opened (plan_in self.now.file.now self.now.layout.now.sizes self.now.layout.now.n)) }
+    // The sheet of the plan at stage CHARTED, with its labels, which stand at an offset, and its chart's numbers: the width, the height, then x and y of each context in turn.
+    fn charted(&self, plan: &BoundedTable, labels: usize, chart: usize) -> Sheet
+        requires near { chart < 2 ^ 17 }
+        requires same { plan.now.table.n ≡ self.now.layout.now.n }
+        ensures { result ≡ packed (charted (table_of plan.now.table) (labels_in self.now.file.now (plan_in self.now.file.now self.now.layout.now.sizes self.now.layout.now.n) labels) (chart_from self.now.file.now self.now.layout.now.n chart)) }
     {
-        Sheet {
-            stage: Stage::Open,
-            n: self.layout.n as u16,
-            sizes: self.layout.sizes,
-            entries: self.entries(),
-            ..sheet::fresh_sheet()
-        }
-    }
-
-    // The same at stage LABELLED, with its labels, which stand at an offset.
-    #[tactic(auto, using(crate::proofs::Opened::labelled_packed))]
-    fn labelled(&self, labels: usize) -> Sheet
-        ensures { result ≡ packed (labelled (plan_in self.now.file.now self.now.layout.now.sizes self.now.layout.now.n) (labels_in self.now.file.now self.now.layout.now.n labels)) }
-    {
-        Sheet {
-            stage: Stage::Labelled,
-            labels: self.labels(labels),
-            ..self.opened()
-        }
-    }
-
-    // The same at stage CHARTED, with its chart's numbers: the width, the height, then x and y of each context in turn.
-    #[tactic(auto, using(crate::proofs::Opened::charted_packed))]
-    fn charted(&self, labels: usize, chart: usize) -> Sheet
-        requires { chart < 2 ^ 17 }
-        ensures { result ≡ packed (charted (plan_in self.now.file.now self.now.layout.now.sizes self.now.layout.now.n) (labels_in self.now.file.now self.now.layout.now.n labels) (chart_from self.now.file.now self.now.layout.now.n chart)) }
-    {
-        Sheet {
-            stage: Stage::Charted,
+        let n = self.layout.n;
+        let xs: [u16; 200] = arrays::words(self.file, chart + 4, 4, n);
+        let ys: [u16; 200] = arrays::words(self.file, chart + 6, 4, n);
+        let points = Points {
             w: arrays::word_at(self.file, chart),
             h: arrays::word_at(self.file, chart + 2),
-            xs: arrays::words(self.file, chart + 4, 4, self.layout.n),
-            ys: arrays::words(self.file, chart + 6, 4, self.layout.n),
-            ..self.labelled(labels)
-        }
+            xs: &xs,
+            ys: &ys,
+        };
+        plan.charted(self.labels(labels), &points)
     }
 
     // The sheet that the file holds.
-    #[tactic(auto, unfolding(framing::specs::Layouts::laid))]
+    #[tactic(auto, using(crate::proofs::Opened::laid_steps), unfolding(framing::specs::Layouts::laid))]
     pub fn sheet(&self) -> Sheet
         ensures { result ≡ packed (laid self.now.file.now self.now.layout.now) }
     {
+        let entries = self.entries();
+        let plan = BoundedTable {
+            table: Table {
+                sizes: &self.layout.sizes,
+                entries: &entries,
+                n: self.layout.n,
+            },
+        };
         match self.layout.parts {
-            Parts::Plan => self.opened(),
-            Parts::Labels { labels } => self.labelled(labels),
-            Parts::Chart { labels, chart } => self.charted(labels, chart),
+            Parts::Plan => plan.opened(),
+            Parts::Labels { labels } => plan.labelled(self.labels(labels)),
+            Parts::Chart { labels, chart } => self.charted(&plan, labels, chart),
         }
     }
 }

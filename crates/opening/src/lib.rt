@@ -3,17 +3,16 @@
 
 mod bounded;
 
-ghost use Rattle.std.specs.Prelude.{◌≡◌, ◌≤◌};
-ghost use Rattle.model.specs.Outcome.{accepted};
+ghost use Rattle.std.specs.Prelude.{◌≡◌, cond};
+ghost use Rattle.model.specs.Outcome.{accepted, passed};
 ghost use Rattle.model.specs.File.{decode};
 ghost use Rattle.model.specs.Calls.{open_call};
 ghost use Rattle.refusal.specs.Refusals.{told};
-ghost use Rattle.rings.specs.Tables.{start_of};
 ghost use Rattle.sound.specs.Sound.{sound};
 ghost use Rattle.framing.specs.Layouts.{laid};
-ghost use Rattle.sheet.specs.Sheets.{held_plan, packed};
+ghost use Rattle.sheet.specs.Sheets.{held_plan, reads, packed};
 ghost use Rattle.sheet.specs.Answers.{packed_as};
-ghost use Rattle.opening.specs.Opening.{lent_of, due};
+ghost use Rattle.opening.specs.Opening.{lent_of, rules_of, due};
 
 use bounded::Bounded;
 use framing::Layout;
@@ -41,7 +40,7 @@ impl<'a> Framed<'a> {
     fn is_due(&self) -> bool
         ensures { result ≡ due self.now.layout.now.sizes self.now.layout.now.n }
     {
-        fit::total_of(&self.layout.sizes, self.layout.n) == self.layout.darts()
+        fit::total_of(&self.layout.sizes, self.layout.n) == rings::dart_count(self.layout.n)
     }
 
     // 4 to 7 of the plan, where it stands in the file.
@@ -66,44 +65,44 @@ impl<'a> Framed<'a> {
         }
     }
 
-    // The sheet that the file holds, where all rings have no more entries than it has room for.
-    fn sheet(&self) -> Sheet
-        requires { start_of self.now.layout.now.sizes self.now.layout.now.n ≤ 1186 }
-        ensures { result ≡ packed (laid self.now.file.now self.now.layout.now) }
+    // 4 to 7 of the plan, unless it has as many entries as 7 asks for. Where this passes, a sheet has room for the entries.
+    fn room_rules(&self) -> Result<(), Refusal>
+        ensures { told result ≡ cond (due self.now.layout.now.sizes self.now.layout.now.n) passed (lent_of (laid self.now.file.now self.now.layout.now)) }
     {
-        let bounded = Bounded {
-            file: self.file,
-            layout: self.layout,
-        };
-        bounded.sheet()
+        if self.is_due() {
+            return Ok(());
+        }
+        self.ring_rules()
     }
 
-    // Opens the file: each rule is judged in its turn.
-    #[tactic(auto, using(crate::proofs::Opened::rule_steps))]
-    fn opened_by_rules(&self) -> Result<Sheet, Refusal>
-        requires { decode self.now.file.now ≡ accepted (laid self.now.file.now self.now.layout.now) }
-        ensures { told result ≡ packed_as (open_call self.now.file.now) }
+    // 4 to 12 of the sheet that was copied, where there was room for the entries: 4 to 9 are judged at once where the plan is sound.
+    #[tactic(auto, using(crate::proofs::Quick::sheet_steps))]
+    fn sheet_rules(&self, sheet: &Sheet) -> Result<(), Refusal>
+        requires room { passed ≡ cond (due self.now.layout.now.sizes self.now.layout.now.n) passed (lent_of (laid self.now.file.now self.now.layout.now)) }
+        requires copied { sheet.now ≡ packed (laid self.now.file.now self.now.layout.now) }
+        ensures { told result ≡ rules_of (laid self.now.file.now self.now.layout.now) (reads sheet.now) }
     {
+        if is_sound(sheet) {
+            return judging::rules_from_10(sheet);
+        }
         self.ring_rules()?;
-        let sheet = self.sheet();
-        judging::rules_from_8(&sheet)?;
-        Ok(sheet)
+        judging::rules_from_8(sheet)
     }
 
-    // Opens the file: 4 to 9 are judged at once where the plan is sound.
-    #[tactic(auto, using(crate::proofs::Quick::quick_steps))]
+    // Opens the file.
+    #[tactic(auto, using(crate::proofs::Quick::open_steps))]
     fn opened(&self) -> Result<Sheet, Refusal>
         requires { decode self.now.file.now ≡ accepted (laid self.now.file.now self.now.layout.now) }
         ensures { told result ≡ packed_as (open_call self.now.file.now) }
     {
-        if self.is_due() {
-            let sheet = self.sheet();
-            if is_sound(&sheet) {
-                judging::rules_from_10(&sheet)?;
-                return Ok(sheet);
-            }
-        }
-        self.opened_by_rules()
+        self.room_rules()?;
+        let bounded = Bounded {
+            file: self.file,
+            layout: self.layout,
+        };
+        let sheet = bounded.sheet();
+        self.sheet_rules(&sheet)?;
+        Ok(sheet)
     }
 }
 

@@ -1,3 +1,4 @@
 pub mod Packed
 pub mod Reading
 pub mod RoundTrips
+pub mod Made

@@ -17,17 +17,17 @@ use Rattle.model.specs.Outcome.{Outcome, accepted, refused, passed, require, rul
 use Rattle.std.specs.declared.result.Result.{Result}
 use Rattle.refusal.specs.declared.Refusal.{Refusal}
 use Rattle.refusal.specs.Refusals.{told}
-use Rattle.model.specs.Plan.{Plan, count, entry_count}
+use Rattle.model.specs.Plan.{Plan, count, entry_count, plan_rules}
 use Rattle.model.specs.Labels.{breaks, label_rules}
 use Rattle.model.specs.File as file
-use Rattle.model.specs.Calls.{plan_of, labels_of, chart_of}
+use Rattle.model.specs.Calls.{plan_of, labels_of, chart_of, judge}
 use Rattle.rings.specs.declared.Rings as rings
 use Rattle.rings.specs.declared.Table as tables
 use Rattle.rings.specs.Tables as flat
 use Rattle.rings.specs.Tables.{start_of, starts_of, rows, table}
 use Rattle.rings.proofs.Rows.{count-rows, held_small}
 use Rattle.fit.proofs.Fits.{fit-says, total-is, all-counted}
-use Rattle.model.proofs.Outcomes.{not-both, require-passed}
+use Rattle.model.proofs.Outcomes.{not-both, require-passed, then_accepted}
 use Rattle.sheet.specs.contracts.StageOrd.TheImpl.{cmp-value}
 use Rattle.sheet.specs.contracts.StagePartialOrd.TheImpl.{partial_cmp-value}
 use Rattle.sheet.specs.declared.Sheet.{Sheet}
@@ -119,6 +119,19 @@ module _ (s : Sheet) where
   pub stage_there : 1 ≤ rank (stage_read s) → stage_read s ≡ s.stage
   unfolding stage_read
   stage_there h = ap (λ (b : Bool). cond b s.stage Empty) (fits_there h)
+
+  -- and it keeps its rules, where the sheet keeps what an opened file must keep
+  pub rules_there : 1 ≤ rank (stage_read s) → judge (reads s) ≡ passed → plan_rules (held_plan s) ≡ passed
+  unfolding rank held judge
+  rules_there h e = go (stage_read s) h (ap judge (sym (reads-stage s)) ∙ e)
+    where
+      go : (g : Stage) → 1 ≤ rank g → judge (held g s) ≡ passed → plan_rules (held_plan s) ≡ passed
+      go Empty h j = absurd (omega arith)
+      go Open h j = j
+      go Labelled h j = (then_accepted (plan_rules (held_plan s)) (label_rules (held_plan s) (held_labels s)) tt j).0
+      go Charted h j =
+          let rules = plan_rules (held_plan s) >> label_rules (held_plan s) (held_labels s) in
+          (then_accepted (plan_rules (held_plan s)) (label_rules (held_plan s) (held_labels s)) tt (then_accepted rules _ tt j).0).0
 
   -- the plan has n contexts
   pub count_held : count (held_plan s) ≡ s.n

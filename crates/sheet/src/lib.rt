@@ -1,16 +1,22 @@
 // The sheet: plan, labels and chart in flat arrays. The calls that change it take and return it by value; all else is lent it.
 #![tactic(auto)]
 
-ghost use Rattle.std.specs.Prelude.{◌≡◌, true, min, max, take, leb, IfOk};
-ghost use Rattle.model.specs.Outcome.{require};
-ghost use Rattle.model.specs.File.{fresh};
+mod making;
+
+ghost use Rattle.std.specs.Prelude.{◌≡◌, ◌≤◌, true, min, max, length, take, leb, IfOk};
+ghost use Rattle.lists.specs.Spans.{stretch};
+ghost use Rattle.model.specs.Outcome.{passed, require};
+ghost use Rattle.model.specs.File.{fresh, labelled, charted};
+ghost use Rattle.model.specs.Calls.{judge};
 ghost use Rattle.refusal.specs.Refusals.{told};
 ghost use Rattle.rings.specs.Tables.{start_of, table_of};
 ghost use Rattle.charts.specs.Charts.{chart_in};
-ghost use Rattle.sheet.specs.Sheets.{packed, held_plan, held_labels, held_chart, fits, stage_read, rank};
+ghost use Rattle.sheet.specs.Sheets.{packed, held_count, held_plan, held_labels, held_chart, fits, reads, stage_read, rank};
 ghost use Rattle.sheet.specs.Answers.{answer_of};
 
 use charts::Points;
+use fit::Fit;
+pub use making::BoundedTable;
 use refusal::Refusal;
 use rings::Table;
 
@@ -35,6 +41,13 @@ pub struct Sheet {
     pub h: u16,
     pub xs: [u16; 200],
     pub ys: [u16; 200],
+}
+
+// A sheet that keeps what an opened file must keep: 4 to 9, with labels 10, with a chart 11 and 12.
+#[derive(Clone, Copy)]
+pub struct Judged {
+    pub sheet: Sheet,
+    pub ghost kept: { judge (reads sheet) ≡ passed },
 }
 
 // A fresh sheet.
@@ -115,6 +128,14 @@ impl<'a> Fitting<'a> {
         table_of(self.sheet)
     }
 
+    // The sheet's plan, as one that fits.
+    #[tactic(auto, unfolding(crate::specs::Sheets::fits))]
+    pub fn fit(&self) -> Fit<'a>
+        ensures { table_of result.plan ≡ held_plan self.now.sheet.now }
+    {
+        Fit { plan: self.plan() }
+    }
+
     // The sheet's labels, one for each entry of its plan.
     pub fn labels(&self) -> &'a [u8]
         ensures { result.now ≡ held_labels self.now.sheet.now }
@@ -131,6 +152,36 @@ impl<'a> Fitting<'a> {
         ensures chart { chart_in self.now.sheet.now.n result ≡ held_chart self.now.sheet.now }
     {
         points_of(self.sheet)
+    }
+
+    // The sheet's plan, whose rings fit the arrays of the sheets that are made of it.
+    fn bounded(&self) -> BoundedTable<'a>
+        ensures n { result.table.n ≡ self.now.sheet.now.n }
+        ensures plan { table_of result.table ≡ held_plan self.now.sheet.now }
+    {
+        BoundedTable { table: self.plan() }
+    }
+
+    // The sheet of the plan with these labels, of which there is room for 1186.
+    pub fn relabelled(&self, labels: &[u8]) -> Sheet
+        ensures { result ≡ packed (labelled (held_plan self.now.sheet.now) (take 1186 labels.now)) }
+    {
+        self.bounded().labelled(labels)
+    }
+
+    // The sheet of the plan with the first of these labels, as many as it has entries.
+    pub fn with_labels(&self, labels: &[u8]) -> Sheet
+        ensures { result ≡ packed (labelled (held_plan self.now.sheet.now) (stretch labels.now 0 (held_count self.now.sheet.now))) }
+    {
+        let total = fit::total_of(&self.sheet.sizes, usize::from(self.sheet.n));
+        self.bounded().labelled(&labels[..total.min(labels.len())])
+    }
+
+    // The sheet of the plan and the labels with this chart.
+    pub fn charted(&self, chart: &Points) -> Sheet
+        ensures { result ≡ packed (charted (held_plan self.now.sheet.now) (held_labels self.now.sheet.now) (chart_in self.now.sheet.now.n chart.now)) }
+    {
+        self.bounded().charted(self.labels(), chart)
     }
 }
 

@@ -7,9 +7,10 @@ use Rattle.calls.proofs.chart.Goals as goal
 pub returns : goal.returns
 unfolding rank
 returns c =
+    let s = c.args.sheet in
     let p = c.in_ok-fitting in
-    let o = c.chart_of in
     let d = c.in_ok-drawn in
     let t = c.plan.ensures in
-    chart-call-stored c.args.sheet c.with_chart.result p.fitting.sheet.now o.result d.drawn c.with_chart.ensures p.ensures.lent d.was d.ensures.n_value o.ensures.value
-    (fitting_reached c.args.sheet 2 c.require_fitting.result c.require_fitting.ensures.answer p.fitting p.was) t.sizes t.entries t.n c.labels.ensures
+    let k = c.points.ensures in
+    let reached = fitting_reached s 2 c.require_fitting.result c.require_fitting.ensures.answer p.fitting p.was in
+    chart-call-stored s c.points.result c.charted.ensures p.ensures.lent (k.w, k.h, k.xs, k.ys) d.ensures.n_value reached t.sizes t.entries t.n c.labels.ensures

@@ -16,17 +16,11 @@ offset_bounds-entries-at c = let r = copies_room c.loop-u.invariant c.args.self.
 pub slice_bounds-entries-end : goal.slice_bounds-entries-end
 slice_bounds-entries-end c = copies_fit c.loop-u.invariant c.args.self.now.room c.loop-u-test.true c.num-k.ensures.value c.type_inv.entries
 
-pub overflow_mul-at : goal.overflow_mul-at
-overflow_mul-at c = let r = copies_room c.loop-u.invariant c.args.self.now.room c.loop-u-test.true c.num-k.ensures.value in omega arith
-
-pub overflow_add-u-in-loop-u : goal.overflow_add-u-in-loop-u
-overflow_add-u-in-loop-u c = let r = copies_room c.loop-u.invariant c.args.self.now.room c.loop-u-test.true c.num-k.ensures.value in omega arith
-
 pub copy_words-requires : goal.copy_words-requires
-copy_words-requires c = let r = copies_room c.loop-u.invariant c.args.self.now.room c.loop-u-test.true c.num-k.ensures.value in omega arith
+copy_words-requires c = let r = copies_room c.loop-u.invariant c.args.self.now.room c.loop-u-test.true c.num-k.ensures.value in let few = c.args.self.now.layout.now.few in omega (arith, c.entry_offset.ensures)
 
 pub loop-u-preserved : goal.loop-u-preserved
-loop-u-preserved c = copies_ring c.loop-u.invariant c.args.self.now.room c.args.self.now.layout.now.few c.loop-u-test.true c.num-k.ensures.value c.num-k.array_long c.copy_words.ensures refl refl (omega arith)
+loop-u-preserved c = copies_ring c.loop-u.invariant c.args.self.now.room c.args.self.now.layout.now.few c.loop-u-test.true c.num-k.ensures.value c.num-k.array_long c.entry_offset.ensures c.copy_words.ensures refl refl (omega arith)
 
 pub returns : goal.returns
 returns c = copies_end c.loop-u.invariant c.args.self.now.room (omega arith)
