@@ -1,10 +1,15 @@
 -- Answers as one number: no answer is too large for 64 bits, and its number and its value can be read off.
 use Prim.Native.Nat.{ℕ, ◌/◌, ◌%◌, ◌<◌, ◌^◌}
-use mathlib.Core.Path.{◌≡◌, refl}
+use mathlib.Core.Path.{◌≡◌, refl, sym, ap, ◌∙◌}
 use native.Mathlib.Omega.{arith}
 use Rattle.model.specs.Outcome.{Outcome, accepted, refused}
-use Rattle.answers.specs.Codes.{code, wrapped, number_of, value_of, Unpacks}
+use Rattle.exchange.specs.Codes.{code, wrapped, answer_number, answer_value, Unpacks}
 use Rattle.exchange.proofs.Small.{Small}
+
+-- A value below 2^64 is its own number
+pub wrapped_at : (o : Outcome ℕ) (v : ℕ) → o ≡ accepted v → v < 2 ^ 64 → v ≡ wrapped o
+unfolding wrapped code
+wrapped_at o v e h = let small : v ≡ v % 2 ^ 64 = omega arith in small ∙ ap wrapped (sym e)
 
 -- An answer that has room in the number: a small refusal, or a value below 2^48
 pub record Roomy (o : Outcome ℕ) : Type 0 where
@@ -18,14 +23,14 @@ code_whole (accepted v) r = let h = r.value v refl in omega arith
 code_whole (refused k at) r = let (a, b) = r.small.says k at refl in omega arith
 
 -- its number is the number divided by 2^48
-number_back : (o : Outcome ℕ) → Roomy o → code o / 2 ^ 48 ≡ number_of o
-unfolding code number_of
+number_back : (o : Outcome ℕ) → Roomy o → code o / 2 ^ 48 ≡ answer_number o
+unfolding code answer_number
 number_back (accepted v) r = let h = r.value v refl in omega arith
 number_back (refused k at) r = let (a, b) = r.small.says k at refl in omega arith
 
 -- its value is what is left
-value_back : (o : Outcome ℕ) → Roomy o → code o % 2 ^ 48 ≡ value_of o
-unfolding code value_of
+value_back : (o : Outcome ℕ) → Roomy o → code o % 2 ^ 48 ≡ answer_value o
+unfolding code answer_value
 value_back (accepted v) r = let h = r.value v refl in omega arith
 value_back (refused k at) r = let (a, b) = r.small.says k at refl in omega arith
 

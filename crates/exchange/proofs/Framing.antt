@@ -2,7 +2,7 @@
 use Prim.Native.Nat.{ℕ, zero, suc, ◌+◌, ◌-◌, ◌*◌, ◌%◌, ◌≤◌, ◌<◌}
 use mathlib.Core.Path.{◌≡◌, ap}
 use mathlib.Core.List.{List, [], ◌∷◌}
-use mathlib.Core.Bool.{Bool, true, false, cond, ◌&&◌}
+use mathlib.Core.Bool.{Bool, true, false, cond, not, ◌&&◌}
 use native.Mathlib.Omega.{arith}
 use lib.ListN.{length, drop}
 use lib.Dec.{eqb, leb}
@@ -11,9 +11,10 @@ use Rattle.lists.specs.Tests.{empty}
 use Rattle.lists.specs.Words.{word}
 use Rattle.lists.proofs.Bools.{and_yes}
 use Rattle.model.specs.Outcome.{Outcome, accepted, require, ◌>>=◌, ◌>>◌}
-use Rattle.model.specs.File.{Cursor, Framed, frame, fits_ring, frame_rings, frame_rest, optional, decode}
+use Rattle.model.specs.Plan.{Plan}
+use Rattle.model.specs.File.{Cursor, Framed, frame, fits_ring, frame_rings, Due, Part, frame_rest, optional, decode}
 use Rattle.model.proofs.Outcomes.{same-value, bind_accepted, require-passed}
-use Rattle.model.proofs.FileRead.{frame-says}
+use Rattle.model.proofs.FileRead.{frame-says, rings-read}
 use Rattle.exchange.proofs.Small.{Small, small-accepted, small_bind, small_then, small-require}
 
 -- a record at a small offset
@@ -59,31 +60,32 @@ rings-at n (suc k) c r h e =
     omega arith
 
 -- how many bytes the records that may still follow have
-room : List (ℕ × ℕ) → ℕ
+room : List Due → ℕ
 room [] = 0
-room (d ∷ due) = 4 + d.1 + room due
+room (d ∷ due) = 4 + d.size + room due
 
 -- the end, or a record that is none too many
-small_end : (t : Bool) (c : Cursor) → c.at < 131072 → Small {A = List (List ℕ)} (cond t (accepted []) (frame c 0 (λ (m : ℕ). false) >> accepted []))
+small_end : (t : Bool) (c : Cursor) → c.at < 131072 → Small {A = List Part} (cond t (accepted []) (frame c 0 (λ (m : ℕ). false) >> accepted []))
 small_end true c h = small-accepted []
 small_end false c h = small_then (frame c 0 (λ (m : ℕ). false)) (accepted []) (small-frame c 0 (λ (m : ℕ). false) h) (λ r e. small-accepted [])
 
--- the end, or a record and what follows it
-small-more : (k : ℕ × ℕ) (t : Bool) (c : Cursor) (rest : Cursor → Outcome (List (List ℕ))) → c.at < 131072 → ((d : Cursor) → d.at ≡ c.at + 4 + k.1 → Small (rest d))
-    → Small (cond t (accepted []) (frame c k.0 (eqb k.1) >>= λ (f : Framed). rest f.1 >>= λ (l : List (List ℕ)). accepted (f.0 ∷ l)))
-small-more k true c rest h s = small-accepted []
-small-more k false c rest h s =
-    small_bind (frame c k.0 (eqb k.1)) _ (small-frame c k.0 (eqb k.1) h)
+-- the end, or a record of a later row, or one of the first row and what follows it
+small-more : (d : Due) (t skipped : Bool) (c : Cursor) (rest : Cursor → Outcome (List Part)) → c.at < 131072 → ((e : Cursor) → e.at ≤ c.at + 4 + d.size → Small (rest e))
+    → Small (cond t (accepted []) (cond skipped (rest c) (frame c d.kind (eqb d.size) >>= λ (f : Framed). rest f.1 >>= λ (l : List Part). accepted ((d.kind, f.0) ∷ l))))
+small-more d true skipped c rest h s = small-accepted []
+small-more d false true c rest h s = s c (omega arith)
+small-more d false false c rest h s =
+    small_bind (frame c d.kind (eqb d.size)) _ (small-frame c d.kind (eqb d.size) h)
     (λ r e.
-    let (m, due, far) = framed_at c k.0 (eqb k.1) r e in
-    let same = eqb-true k.1 m due in
+    let (m, due, far) = framed_at c d.kind (eqb d.size) r e in
+    let same = eqb-true d.size m due in
     small_bind (rest r.1) _ (s r.1 (omega arith)) (λ l f. small-accepted _))
 
 -- the records after the rings
-small-rest : (due : List (ℕ × ℕ)) (c : Cursor) → c.at + room due < 131072 → Small (frame_rest due c)
+small-rest : (due : List Due) (c : Cursor) → c.at + room due < 131072 → Small (frame_rest due c)
 unfolding frame_rest room
 small-rest [] c h = small_end (empty c.rest) c (omega arith)
-small-rest (k ∷ due) c h = small-more k (empty c.rest) c (frame_rest due) (omega arith) (λ d l. small-rest due d (omega arith))
+small-rest (d ∷ due) c h = small-more d (empty c.rest) (d.skippable && not (eqb (word (drop 2 c.rest)) d.kind)) c (frame_rest due) (omega arith) (λ e l. small-rest due e (omega arith))
 
 -- 1, 2 and 3
 pub small-decode : (b : List ℕ) → Small (decode b)
@@ -101,4 +103,6 @@ small-decode b =
     small_bind (frame_rings n n f.1) _ (small-rings n n f.1 high (omega arith))
     (λ g e₂.
     let a = rings-at n n f.1 g high e₂ in
-    small_bind (frame_rest (optional n) g.1) _ (small-rest (optional n) g.1 (omega arith)) (λ bs e₃. small-accepted _))))
+    let p : Plan = record { rings = g.0 } in
+    let size = (rings-read n n f.1 g e₂).size in
+    small_bind (frame_rest (optional p) g.1) _ (small-rest (optional p) g.1 (omega arith)) (λ parts e₃. small-accepted _))))

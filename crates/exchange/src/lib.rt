@@ -1,50 +1,80 @@
-// Sheets handed over as bytes and handed back as bytes.
+// Sheets handed over as bytes and handed back as bytes, and answers as one number.
 #![tactic(auto)]
 
 ghost use Rattle.std.specs.Prelude.{◌≡◌};
-ghost use Rattle.refusal.specs.Refusals.{told};
+ghost use Rattle.model.specs.Outcome.{refused};
+ghost use Rattle.model.specs.CallLists.{Call};
+ghost use Rattle.refusal.specs.Refusals.{number_of, place_of, told};
 ghost use Rattle.writing.specs.Files.{buffer_after};
 ghost use Rattle.sheet.specs.Answers.{length_of};
-ghost use Rattle.answers.specs.Codes.{wrapped, given};
-ghost use Rattle.exchange.specs.Exchange.{sheet_in, handed_back};
+ghost use Rattle.exchange.specs.Codes.{code, wrapped};
+ghost use Rattle.exchange.specs.Exchange.{sheet_of_bytes, bytes_back, handed, given, Makes, changed_by};
 
 use refusal::Refusal;
-use sheet::Sheet;
+use sheet::{Judged, Sheet};
 
-// The sheet that bytes hand over: a fresh one for no bytes, else the file is opened.
-#[tactic(auto, using(crate::proofs::Handing::handed))]
-pub fn hand_over(bytes: &[u8]) -> Result<Sheet, Refusal>
-    ensures { given result ≡ sheet_in bytes.now }
+// A refusal as one number: number × 2^48 + place.
+#[tactic(auto, unfolding(crate::specs::Codes::code, crate::specs::Codes::wrapped))]
+fn refusal_code(refusal: Refusal) -> u64
+    ensures { result ≡ wrapped (refused (number_of refusal) (place_of refusal)) }
 {
-    if bytes.is_empty() {
-        return Ok(sheet::fresh_sheet());
-    }
-    opening::open_file(bytes)
+    (u64::from(refusal.number()) * 281474976710656).wrapping_add(refusal.place() as u64)
 }
 
 // An answer as one number: what is accepted, or the refusal's number and place.
-#[tactic(auto, using(crate::proofs::Handing::codes))]
+#[tactic(auto, using(crate::proofs::Codes::wrapped_at))]
 pub fn code_of(answer: Result<u64, Refusal>) -> u64
     ensures { result ≡ wrapped (told answer) }
 {
-    answer.unwrap_or_else(answers::refusal)
+    answer.unwrap_or_else(refusal_code)
 }
 
-// The file of the sheet that a call leaves, written into the buffer; its length.
+// The sheet that bytes hand over: a fresh one for no bytes, else the file is opened.
+#[tactic(auto, using(crate::proofs::Handing::hand_steps))]
+pub fn hand_over(bytes: &[u8]) -> Result<Judged, Refusal>
+    ensures { handed result ≡ sheet_of_bytes bytes.now }
+{
+    if bytes.is_empty() {
+        return Ok(Judged {
+            sheet: sheet::fresh_sheet(),
+        });
+    }
+    let sheet = opening::open_file(bytes)?;
+    Ok(Judged { sheet })
+}
+
+// The bytes of the sheet that a call leaves, written into the buffer; how many there are.
 #[tactic(auto, using(crate::proofs::Steps::back))]
-fn write_back(outcome: Result<Sheet, Refusal>, out: &mut [u8]) -> Result<u64, Refusal>
-    ensures value { told result ≡ length_of (handed_back (given outcome) out.old) }
-    ensures out_after { out.new ≡ buffer_after (handed_back (given outcome) out.old) out.old }
+fn write_back(outcome: &Result<Sheet, Refusal>, out: &mut [u8]) -> Result<u64, Refusal>
+    ensures value { told result ≡ length_of (bytes_back (given outcome.now) out.old) }
+    ensures out_after { out.new ≡ buffer_after (bytes_back (given outcome.now) out.old) out.old }
 {
-    let sheet = outcome?;
-    let size = reports::write(&sheet, out)?;
-    Ok(size as u64)
+    match outcome {
+        Ok(sheet) => Ok(reports::write(sheet, out)? as u64),
+        Err(refusal) => Err(*refusal),
+    }
 }
 
-// The sheet that a call leaves, handed back: its file in the buffer and the file's length, or the refusal and the buffer as it was.
+// The sheet that a call leaves, handed back: its bytes in the buffer and their number, or the refusal and the buffer as it was.
 pub fn hand_back(outcome: Result<Sheet, Refusal>, out: &mut [u8]) -> u64
-    ensures value { result ≡ wrapped (length_of (handed_back (given outcome) out.old)) }
-    ensures out_after { out.new ≡ buffer_after (handed_back (given outcome) out.old) out.old }
+    ensures value { result ≡ wrapped (length_of (bytes_back (given outcome) out.old)) }
+    ensures out_after { out.new ≡ buffer_after (bytes_back (given outcome) out.old) out.old }
 {
-    code_of(write_back(outcome, out))
+    code_of(write_back(&outcome, out))
+}
+
+// A call on the sheet that bytes hand over, and the sheet that it leaves handed back. The refusals of what is handed over come first, then those of the call, then 16.
+pub fn change<F: FnOnce(Judged) -> Result<Sheet, Refusal>>(
+    sheet: &[u8],
+    call: F,
+    out: &mut [u8],
+) -> u64
+    requires { F.IsAlwaysCallable call }
+    ensures value { (c : Call) → Makes (F.post call) c → result ≡ code (length_of (changed_by c sheet.now out.old)) }
+    ensures out_after { (c : Call) → Makes (F.post call) c → out.new ≡ buffer_after (changed_by c sheet.now out.old) out.old }
+{
+    match hand_over(sheet) {
+        Ok(held) => hand_back(call(held), out),
+        Err(refusal) => refusal_code(refusal),
+    }
 }

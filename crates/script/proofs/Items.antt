@@ -1,6 +1,6 @@
 -- One item of a script: which call it is, by the tests that the code makes, and what it leaves.
 use Prim.Native.Nat.{ℕ, ◌+◌, ◌-◌, ◌≤◌, ◌<◌}
-use mathlib.Core.Path.{◌≡◌, refl, sym, ap, ◌∙◌}
+use mathlib.Core.Path.{◌≡◌, refl, sym, ap}
 use mathlib.Core.List.{List}
 use mathlib.Core.Bool.{Bool, true, false, cond, ◌&&◌}
 use mathlib.Core.Option.{Option, none, some, none-ne-some}
@@ -9,8 +9,7 @@ use lib.ListN.{length, get_or, take, drop}
 use lib.Dec.{leb}
 use borrow.Author.Tests.{leb-true, le-leb, lt-leb, ne_eqb}
 use Rattle.lists.proofs.Bools.{and_yes}
-use Rattle.std.specs.Prelude as maybe
-use Rattle.std.specs.Prelude.{Some, None, Ok, Err}
+use Rattle.std.specs.Prelude.{Some, Ok, Err}
 use Rattle.std.proofs.lemmas.Option.{none-some, same_Some}
 use Rattle.std.specs.Result.{result_unwrap_or}
 use Rattle.std.specs.declared.result.Result.{Result}
@@ -22,7 +21,7 @@ use Rattle.refusal.specs.declared.Refusal.{Refusal}
 use Rattle.refusal.specs.Refusals.{told}
 use Rattle.sheet.specs.declared.Sheet.{Sheet}
 use Rattle.sheet.specs.Answers.{packed_as, after}
-use Rattle.script.specs.Scripts.{argument_size, alone, call_of, call_at}
+use Rattle.script.specs.Scripts.{argument_size, call_of, call_at}
 use Rattle.script.specs.declared.Step.{Step}
 use Rattle.script.specs.Steps.{stepped}
 
@@ -37,24 +36,12 @@ unwrapped s (Err f) (refused k at) e = refl
 
 -- ---- kinds
 module _ (a : List ℕ) where
-  -- an argument where none is due
-  pub alone-none : (c : Call) → (length a ≡ 0 → ⊥) → alone c a ≡ none
-  alone-none c z = rw (ne_eqb (length a) 0 z)
-
-  -- no argument, where none is due
-  pub alone-some : (c : Call) → length a ≡ 0 → alone c a ≡ some c
-  alone-some c z = rw z
-
   -- a number that stands for no kind
   pub kind_other : (kind : ℕ) → (0 < kind → 5 < kind) → call_of kind a ≡ none
   unfolding call_of
   kind_other kind h = rw (ne_eqb kind 1 (λ e. omega arith), ne_eqb kind 2 (λ e. omega arith), ne_eqb kind 3 (λ e. omega arith), ne_eqb kind 4 (λ e. omega arith), ne_eqb kind 5 (λ e. omega arith))
 
 -- ---- what an item leaves
--- an item by another name
-pub step-same : (s : Sheet) {r : maybe.Option Step} {k size : ℕ} {p q : Option Call} → r ≡ stepped s k p → k ≡ size → p ≡ q → r ≡ stepped s size q
-step-same s e g h = e ∙ λ i. stepped s (g i) (h i)
-
 -- its size
 pub step-size : (s : Sheet) (size : ℕ) (q : Option Call) (r : Step) → Some r ≡ stepped s size q → r.size ≡ size
 unfolding stepped

@@ -21,7 +21,7 @@ use Rattle.sheet.specs.declared.Sheet as struct
 use Rattle.sheet.specs.Sheets.{held_plan, fits, reads, stage_read, rank}
 use Rattle.sheet.proofs.Reading.{plan_early, plan_there, fits_there}
 use Rattle.guarantee.proofs.Sized.{Good}
-use Rattle.exchange.specs.Exchange.{sheet_in}
+use Rattle.exchange.specs.Exchange.{sheet_of_bytes}
 use Rattle.exchange.proofs.Small.{small-accepted, small_bind}
 use Rattle.exchange.proofs.Sizes.{scan-inside, part_short}
 use Rattle.exchange.proofs.Places.{plan-held, small-scan, small_same, small-ring}
@@ -49,9 +49,9 @@ scan-value s (some (a, b, c)) g e =
 pub roomy-scan : (b : List ℕ) → Roomy (scans_to b)
 unfolding scans_to scan_value
 roomy-scan b = record {
-  small = small_bind (sheet_in b) _ (small_in b) (λ s e. small_bind (scan_call s) _ (small-scan s (handed_good b s e)) (λ t _. small-accepted (triple_value t)));
+  small = small_bind (sheet_of_bytes b) _ (small_in b) (λ s e. small_bind (scan_call s) _ (small-scan s (handed_good b s e)) (λ t _. small-accepted (triple_value t)));
   value = λ v e.
-      let (s, e₁, f) = bind_accepted (sheet_in b) _ v e in
+      let (s, e₁, f) = bind_accepted (sheet_of_bytes b) _ v e in
       let (t, e₂, g) = bind_accepted (scan_call s) (λ (t : Option Triple). accepted (triple_value t)) v f in
       subst (λ (w : ℕ). w < 2 ^ 48) (same-value g) (scan-value s t (handed_good b s e₁) e₂);
 }
@@ -77,10 +77,10 @@ scanned_inside s a b c e = go (ltb (rank (stage_read s)) 1) refl
 pub roomy-same : (a b : List ℕ) → Roomy (compares_to a b)
 unfolding compares_to compare_value same_value
 roomy-same a b = record {
-  small = small_bind (sheet_in a) _ (small_in a) (λ s _. small_bind (sheet_in b) _ (small_in b) (λ t _. small_bind (same_call s t) _ (small_same s t) (λ y _. small-accepted (same_value y))));
+  small = small_bind (sheet_of_bytes a) _ (small_in a) (λ s _. small_bind (sheet_of_bytes b) _ (small_in b) (λ t _. small_bind (same_call s t) _ (small_same s t) (λ y _. small-accepted (same_value y))));
   value = λ v e.
-      let (s, _, f) = bind_accepted (sheet_in a) _ v e in
-      let (t, _, g) = bind_accepted (sheet_in b) _ v f in
+      let (s, _, f) = bind_accepted (sheet_of_bytes a) _ v e in
+      let (t, _, g) = bind_accepted (sheet_of_bytes b) _ v f in
       let (y, _, h) = bind_accepted (same_call s t) (λ (y : Bool). accepted (same_value y)) v g in
       subst (λ (w : ℕ). w < 2 ^ 48) (same-value h) (low y);
 }

@@ -1,45 +1,32 @@
 -- The C interface: what each call answers and writes, for every list of bytes.
--- A sheet is handed over as the bytes that write gives for it; none are a fresh sheet. The refusals of open come first, then those of the call, then 16.
+-- A sheet is handed over and handed back as bytes; none are a fresh sheet. The refusals of what is handed over come first, then those of the call, then 16.
 use Rattle.std.specs.Prelude.{ℕ, ◌+◌, ◌*◌, List, Bool, true, false}
 use Rattle.std.proofs.Math.Option.{Option, none, some}
 use Rattle.model.specs.Outcome.{Outcome, accepted, ◌>>=◌}
 use Rattle.model.specs.Scan.{Triple}
-use Rattle.model.specs.Calls.{open_call, sweep_call, offer_call, turn_call, chart_call, write_call, scan_call, same_call, ring_call}
-use Rattle.exchange.specs.Exchange.{sheet_in}
+use Rattle.model.specs.Calls.{open_call, scan_call, same_call, ring_call}
+use Rattle.model.specs.CallLists.{sweep-labels, offer_labels, turn_edges, draw_chart}
+use Rattle.exchange.specs.Exchange.{sheet_of_bytes, bytes_back, changed_by}
 
--- touchchart_open: the file's sheet, written into out
+-- touchchart_open: the sheet that the file holds, its bytes written into out
 unfoldable pub opens_to : List ℕ → List ℕ → Outcome (ℕ × List ℕ)
-opens_to file out = do
-  t ← open_call file
-  write_call t out
+opens_to file out = bytes_back (open_call file) out
 
--- touchchart_sweep: the sheet with the labels that the sweep gives, written into out
+-- touchchart_sweep: the sheet with the labels that the sweep gives
 unfoldable pub sweeps_to : List ℕ → List ℕ → Outcome (ℕ × List ℕ)
-sweeps_to sheet out = do
-  s ← sheet_in sheet
-  t ← sweep_call s
-  write_call t out
+sweeps_to sheet out = changed_by sweep-labels sheet out
 
--- touchchart_offer: the sheet with the offered labels, written into out
+-- touchchart_offer: the sheet with the offered labels
 unfoldable pub offers_to : List ℕ → List ℕ → List ℕ → Outcome (ℕ × List ℕ)
-offers_to sheet labels out = do
-  s ← sheet_in sheet
-  t ← offer_call s labels
-  write_call t out
+offers_to sheet labels out = changed_by (offer_labels labels) sheet out
 
--- touchchart_turn: the sheet with the labels of the named edges turned, written into out
+-- touchchart_turn: the sheet with the labels of the named edges turned
 unfoldable pub turns_to : List ℕ → List ℕ → ℕ → List ℕ → Outcome (ℕ × List ℕ)
-turns_to sheet items direction out = do
-  s ← sheet_in sheet
-  t ← turn_call s items direction
-  write_call t out
+turns_to sheet items direction out = changed_by (turn_edges items direction) sheet out
 
--- touchchart_chart: the sheet with its chart, written into out
+-- touchchart_chart: the sheet with its chart
 unfoldable pub charts_to : List ℕ → List ℕ → Outcome (ℕ × List ℕ)
-charts_to sheet out = do
-  s ← sheet_in sheet
-  t ← chart_call s
-  write_call t out
+charts_to sheet out = changed_by draw_chart sheet out
 
 -- the value of a scan: 0 for none, else a × 65536 + b × 256 + c
 unfoldable pub triple_value : Option Triple → ℕ
@@ -53,7 +40,7 @@ scan_value o = o >>= λ (t : Option Triple). accepted (triple_value t)
 -- touchchart_scan: the smallest triple of the sheet
 unfoldable pub scans_to : List ℕ → Outcome ℕ
 scans_to sheet = do
-  s ← sheet_in sheet
+  s ← sheet_of_bytes sheet
   scan_value (scan_call s)
 
 -- the value of a comparison: 1 for yes, 0 for no
@@ -68,8 +55,8 @@ compare_value o = o >>= λ (y : Bool). accepted (same_value y)
 -- touchchart_same: a first, then b; then the stages
 unfoldable pub compares_to : List ℕ → List ℕ → Outcome ℕ
 compares_to a b = do
-  s ← sheet_in a
-  t ← sheet_in b
+  s ← sheet_of_bytes a
+  t ← sheet_of_bytes b
   compare_value (same_call s t)
 
 -- the value of a part of a file: offset × 65536 + length

@@ -1,4 +1,4 @@
-// The interface for a host. A sheet is handed over as the bytes that write gives for it, none for a fresh sheet, so that a host needs no struct layout.
+// The interface for a host. A sheet is handed over as bytes, those that the function which left it has written, none for a fresh sheet, so that a host needs no struct layout.
 // Each function answers number × 2^48 + value: number 0 is acceptance, 1 to 17 a refusal whose value is its place. touchchart_c exports the
 // functions to C under the same names, and include/touchchart.h documents them.
 #![tactic(auto)]
@@ -7,13 +7,13 @@ ghost use Rattle.std.specs.Prelude.{◌≡◌, ◌+◌, ◌*◌, ◌<◌};
 ghost use Rattle.refusal.specs.Refusals.{told};
 ghost use Rattle.writing.specs.Files.{buffer_after};
 ghost use Rattle.sheet.specs.Answers.{length_of};
-ghost use Rattle.answers.specs.Codes.{code};
+ghost use Rattle.exchange.specs.Codes.{code};
 ghost use Rattle.touchchart.specs.Interface.{opens_to, sweeps_to, offers_to, turns_to, charts_to, scans_to, compares_to, rings_to};
 
 use refusal::Refusal;
 
-// Opens a file: the length of its sheet's file, which is written to out.
-#[tactic(auto, using(crate::proofs::Calls::opens), unfolding(exchange::specs::Exchange::handed_back, crate::specs::Interface::opens_to))]
+// Opens a file: the number of its sheet's bytes, which are written to out.
+#[tactic(auto, using(exchange::proofs::Handing::opens), unfolding(crate::specs::Interface::opens_to))]
 pub fn touchchart_open(file: &[u8], out: &mut [u8]) -> u64
     ensures value { result ≡ code (length_of (opens_to file.now out.old)) }
     ensures out_after { out.new ≡ buffer_after (opens_to file.now out.old) out.old }
@@ -21,46 +21,40 @@ pub fn touchchart_open(file: &[u8], out: &mut [u8]) -> u64
     exchange::hand_back(opening::open_file(file), out)
 }
 
-// Sweeps a sheet (OPEN up): the length of the new sheet's file, which is written to out.
-#[tactic(auto, using(crate::proofs::Calls::sweeps), unfolding(exchange::specs::Exchange::handed_back, crate::specs::Interface::sweeps_to))]
+// Sweeps a sheet (OPEN up): the number of the new sheet's bytes, which are written to out.
+#[tactic(auto, unfolding(model::specs::CallLists::call, crate::specs::Interface::sweeps_to))]
 pub fn touchchart_sweep(sheet: &[u8], out: &mut [u8]) -> u64
     ensures value { result ≡ code (length_of (sweeps_to sheet.now out.old)) }
     ensures out_after { out.new ≡ buffer_after (sweeps_to sheet.now out.old) out.old }
 {
-    exchange::hand_back(exchange::hand_over(sheet).and_then(calls::sweep), out)
+    exchange::change(sheet, calls::sweep_judged, out)
 }
 
-// Offers labels to a sheet (OPEN up): the length of the new sheet's file, which is written to out.
-#[tactic(auto, using(crate::proofs::Calls::offers), unfolding(exchange::specs::Exchange::handed_back, crate::specs::Interface::offers_to))]
+// Offers labels to a sheet (OPEN up): the number of the new sheet's bytes, which are written to out.
+#[tactic(auto, unfolding(model::specs::CallLists::call, crate::specs::Interface::offers_to))]
 pub fn touchchart_offer(sheet: &[u8], labels: &[u8], out: &mut [u8]) -> u64
     ensures value { result ≡ code (length_of (offers_to sheet.now labels.now out.old)) }
     ensures out_after { out.new ≡ buffer_after (offers_to sheet.now labels.now out.old) out.old }
 {
-    exchange::hand_back(
-        exchange::hand_over(sheet).and_then(|held| calls::offer(held, labels)),
-        out,
-    )
+    exchange::change(sheet, |held| calls::offer(held.sheet, labels), out)
 }
 
-// Turns labels of a sheet (LABELLED up): the length of the new sheet's file, which is written to out.
-#[tactic(auto, using(crate::proofs::Calls::turns), unfolding(exchange::specs::Exchange::handed_back, crate::specs::Interface::turns_to))]
+// Turns labels of a sheet (LABELLED up): the number of the new sheet's bytes, which are written to out.
+#[tactic(auto, unfolding(model::specs::CallLists::call, crate::specs::Interface::turns_to))]
 pub fn touchchart_turn(sheet: &[u8], pairs: &[u16], direction: u8, out: &mut [u8]) -> u64
     ensures value { result ≡ code (length_of (turns_to sheet.now pairs.now direction out.old)) }
     ensures out_after { out.new ≡ buffer_after (turns_to sheet.now pairs.now direction out.old) out.old }
 {
-    exchange::hand_back(
-        exchange::hand_over(sheet).and_then(|held| calls::turn(held, pairs, direction)),
-        out,
-    )
+    exchange::change(sheet, |held| calls::turn(held.sheet, pairs, direction), out)
 }
 
-// Charts a sheet (LABELLED up): the length of the new sheet's file, which is written to out.
-#[tactic(auto, using(crate::proofs::Calls::charts), unfolding(exchange::specs::Exchange::handed_back, crate::specs::Interface::charts_to))]
+// Charts a sheet (LABELLED up): the number of the new sheet's bytes, which are written to out.
+#[tactic(auto, unfolding(model::specs::CallLists::call, crate::specs::Interface::charts_to))]
 pub fn touchchart_chart(sheet: &[u8], out: &mut [u8]) -> u64
     ensures value { result ≡ code (length_of (charts_to sheet.now out.old)) }
     ensures out_after { out.new ≡ buffer_after (charts_to sheet.now out.old) out.old }
 {
-    exchange::hand_back(exchange::hand_over(sheet).and_then(calls::chart), out)
+    exchange::change(sheet, |held| calls::chart(held.sheet), out)
 }
 
 // Three contexts as one number.
@@ -74,12 +68,12 @@ fn triple_value(a: usize, b: usize, c: usize) -> u64
 }
 
 // The scan of the sheet that is handed over, as a number.
-#[tactic(auto, using(crate::proofs::Answers::scanned_inside), unfolding(answers::specs::Codes::given, triples::specs::Scanned::scanned_as, reports::specs::Scanned::scanned_as, crate::specs::Interface::triple_value, crate::specs::Interface::scan_value, crate::specs::Interface::scans_to))]
+#[tactic(auto, using(crate::proofs::Answers::scanned_inside), unfolding(exchange::specs::Exchange::handed, triples::specs::Scanned::scanned_as, reports::specs::Scanned::scanned_as, crate::specs::Interface::triple_value, crate::specs::Interface::scan_value, crate::specs::Interface::scans_to))]
 fn scanned(sheet: &[u8]) -> Result<u64, Refusal>
     ensures { told result ≡ scans_to sheet.now }
 {
     let held = exchange::hand_over(sheet)?;
-    match reports::scan(&held)? {
+    match reports::scan(&held.sheet)? {
         None => Ok(0),
         Some((a, b, c)) => Ok(triple_value(a, b, c)),
     }
@@ -94,13 +88,13 @@ pub fn touchchart_scan(sheet: &[u8]) -> u64
 }
 
 // The comparison of two sheets that are handed over, as a number.
-#[tactic(auto, unfolding(answers::specs::Codes::given, crate::specs::Interface::same_value, crate::specs::Interface::compare_value, crate::specs::Interface::compares_to))]
+#[tactic(auto, unfolding(exchange::specs::Exchange::handed, crate::specs::Interface::same_value, crate::specs::Interface::compare_value, crate::specs::Interface::compares_to))]
 fn compared(a: &[u8], b: &[u8]) -> Result<u64, Refusal>
     ensures { told result ≡ compares_to a.now b.now }
 {
     let first = exchange::hand_over(a)?;
     let second = exchange::hand_over(b)?;
-    let same = reports::same(&first, &second)?;
+    let same = reports::same(&first.sheet, &second.sheet)?;
     Ok(u64::from(same))
 }
 

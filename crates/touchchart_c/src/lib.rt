@@ -5,10 +5,10 @@
 ghost use Rattle.std.specs.Prelude.{◌≡◌};
 ghost use Rattle.writing.specs.Files.{buffer_after};
 ghost use Rattle.sheet.specs.Answers.{length_of};
-ghost use Rattle.answers.specs.Codes.{code};
+ghost use Rattle.exchange.specs.Codes.{code};
 ghost use Rattle.touchchart.specs.Interface.{opens_to, sweeps_to, offers_to, turns_to, charts_to, scans_to, compares_to, rings_to};
 
-// Opens a file: the length of its sheet's file, which is written to out.
+// Opens a file: the number of its sheet's bytes, which are written to out.
 #[unsafe(no_mangle)]
 pub extern "C" fn touchchart_open(file: &[u8], out: &mut [u8]) -> u64
     ensures value { result ≡ code (length_of (opens_to file.now out.old)) }
@@ -17,7 +17,7 @@ pub extern "C" fn touchchart_open(file: &[u8], out: &mut [u8]) -> u64
     touchchart::touchchart_open(file, out)
 }
 
-// Sweeps a sheet (OPEN up): the length of the new sheet's file, which is written to out.
+// Sweeps a sheet (OPEN up): the number of the new sheet's bytes, which are written to out.
 #[unsafe(no_mangle)]
 pub extern "C" fn touchchart_sweep(sheet: &[u8], out: &mut [u8]) -> u64
     ensures value { result ≡ code (length_of (sweeps_to sheet.now out.old)) }
@@ -26,7 +26,7 @@ pub extern "C" fn touchchart_sweep(sheet: &[u8], out: &mut [u8]) -> u64
     touchchart::touchchart_sweep(sheet, out)
 }
 
-// Offers labels to a sheet (OPEN up): the length of the new sheet's file, which is written to out.
+// Offers labels to a sheet (OPEN up): the number of the new sheet's bytes, which are written to out.
 #[unsafe(no_mangle)]
 pub extern "C" fn touchchart_offer(sheet: &[u8], labels: &[u8], out: &mut [u8]) -> u64
     ensures value { result ≡ code (length_of (offers_to sheet.now labels.now out.old)) }
@@ -35,7 +35,7 @@ pub extern "C" fn touchchart_offer(sheet: &[u8], labels: &[u8], out: &mut [u8]) 
     touchchart::touchchart_offer(sheet, labels, out)
 }
 
-// Turns labels of a sheet (LABELLED up): the length of the new sheet's file, which is written to out.
+// Turns labels of a sheet (LABELLED up): the number of the new sheet's bytes, which are written to out.
 #[unsafe(no_mangle)]
 pub extern "C" fn touchchart_turn(sheet: &[u8], pairs: &[u16], direction: u8, out: &mut [u8]) -> u64
     ensures value { result ≡ code (length_of (turns_to sheet.now pairs.now direction out.old)) }
@@ -44,7 +44,7 @@ pub extern "C" fn touchchart_turn(sheet: &[u8], pairs: &[u16], direction: u8, ou
     touchchart::touchchart_turn(sheet, pairs, direction, out)
 }
 
-// Charts a sheet (LABELLED up): the length of the new sheet's file, which is written to out.
+// Charts a sheet (LABELLED up): the number of the new sheet's bytes, which are written to out.
 #[unsafe(no_mangle)]
 pub extern "C" fn touchchart_chart(sheet: &[u8], out: &mut [u8]) -> u64
     ensures value { result ≡ code (length_of (charts_to sheet.now out.old)) }
