@@ -28,7 +28,8 @@ sets_join : (d : List ℕ) (i : ℕ) (t u : List ℕ) → sets (sets d i t) (i +
 sets_join d i [] u = let z : i + min 0 (length d - i) ≡ i = omega arith in ap (λ (j : ℕ). sets d j u) z
 sets_join d i (a ∷ t) u = go (ltb i (length d)) refl (sets_join (set d i a) (suc i) t u)
   where
-    go : (b : Bool) → ltb i (length d) ≡ b → sets (sets (set d i a) (suc i) t) (suc i + min (length t) (length (set d i a) - suc i)) u ≡ sets (set d i a) (suc i) (t ++ u) → sets (sets (set d i a) (suc i) t) (i + min (suc (length t)) (length d - i)) u ≡ sets (set d i a) (suc i) (t ++ u)
+    go : (b : Bool) → ltb i (length d) ≡ b → sets (sets (set d i a) (suc i) t) (suc i + min (length t) (length (set d i a) - suc i)) u ≡ sets (set d i a) (suc i) (t ++ u)
+        → sets (sets (set d i a) (suc i) t) (i + min (suc (length t)) (length d - i)) u ≡ sets (set d i a) (suc i) (t ++ u)
     go true e f =
         let h = ltb-true i (length d) e in
         let n = length-set d i a in

@@ -14,8 +14,9 @@
 // made by tools/checklist_plans.py.
 #![tactic(auto)]
 
+use audit::{Filed, Tally};
 use sheet::Sheet;
-use verdicts::{Compared, Drawn, Filed, Opened, Tally, Turn, Turned};
+use verdicts::{Compared, Drawn, Opened, Turn, Turned};
 
 // The first turn of one edge that is accepted, if there is one, and the sheet that it leaves.
 fn first_turn(sheet: &Sheet) -> Option<(Turn, Sheet)> {

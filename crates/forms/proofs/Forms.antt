@@ -66,7 +66,8 @@ unfolding filled stands mark
 filled-short k [] numbers s = omega arith
 filled-short k (b ∷ form) numbers s = go (eqb b 35) numbers s (λ l t. filled-short k form l t)
   where
-    go : (c : Bool) (l : List ℕ) → Short k l → ((m : List ℕ) → Short k m → length (filled form m) ≤ length form + k * length m) → length (cond c (digits (get_or l 0 0)) (b ∷ []) ++ filled form (drop (cond c 1 0) l)) ≤ suc (length form) + k * length l
+    go : (c : Bool) (l : List ℕ) → Short k l → ((m : List ℕ) → Short k m → length (filled form m) ≤ length form + k * length m)
+        → length (cond c (digits (get_or l 0 0)) (b ∷ []) ++ filled form (drop (cond c 1 0) l)) ≤ suc (length form) + k * length l
     go true [] t f = let a = length-append (digits 0) (filled form []) in let one = ap length (digits_low 0 (omega arith)) in let r = f [] tt in omega arith
     go true (x ∷ l) t f = let a = length-append (digits x) (filled form l) in let one = t.0 in let r = f l t.1 in omega arith
     go false l t f = let r = f l t in omega arith

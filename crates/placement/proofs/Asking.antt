@@ -10,8 +10,8 @@ use Rattle.std.proofs.lemmas.List.{take-set-le}
 use lib.Dec.{eqb, ltb}
 use borrow.Author.Tests.{ltb-true, ltb-false, lt-ltb, le-ltb, ne_eqb}
 use Rattle.placement.specs.Asking.{ties, compass, asked, tied_to, end_of, gap_of, kept_of, ask_of}
-use Rattle.constraints.specs.declared.Constraint.{Constraint as Stored}
-use Rattle.constraints.specs.Constraints.{rise, constraint_of, listed}
+use Rattle.solver.specs.declared.Constraint.{Constraint as Stored}
+use Rattle.solver.specs.Constraints.{rise, constraint_of, listed}
 use Rattle.lists.specs.Ranges.{from}
 use Rattle.lists.specs.Parts.{concat}
 use Rattle.lists.proofs.Counts.{cond-le}
@@ -230,7 +230,10 @@ module _ (sizes es : List ℕ) (n : ℕ) (ls : List ℕ) (upright : Bool) where
         put false s =
             let kept : kept_of l ≡ 0 = kept-no l (ltb-false l 2 s) in
             let stay : k' ≡ k = omega arith in
-            ap (λ (j : ℕ). listed (take j (set cs k c))) stay ∙ ap listed (take-set-le k cs k c (omega arith)) ∙ sym (append-nil (listed (take k cs))) ∙ ap (λ (r : List Constraint). listed (take k cs) ++ r) (sym (asks_none upright l u v (ltb-false l 2 s)))
+            ap (λ (j : ℕ). listed (take j (set cs k c))) stay
+            ∙ ap listed (take-set-le k cs k c (omega arith))
+            ∙ sym (append-nil (listed (take k cs)))
+            ∙ ap (λ (r : List Constraint). listed (take k cs) ++ r) (sym (asks_none upright l u v (ltb-false l 2 s)))
 
     -- the next ring
     pub asking_next : {u' : ℕ} → u' ≡ suc u → u < n → size_of sizes n u ≤ i → Asking cs k u' 0

@@ -5,29 +5,27 @@ use mathlib.Core.List.{List, [], ◌∷◌}
 use mathlib.Core.Bool.{Bool, true, false, cond, ◌&&◌, false≢true, true≢false}
 use Rattle.std.specs.Prelude.{Option, Some, None, Err, ok_or}
 use Rattle.refusal.specs.declared.Refusal.TheVariants.{NoPlacement}
-use native.Mathlib.Omega.{arith}
 use lib.ListN.{length, get_or, drop}
 use lib.Dec.{eqb, leb}
 use Rattle.std.proofs.lemmas.List.{drop-map}
 use borrow.Author.Tests.{eq-eqb, le-leb}
-use Rattle.constraints.specs.declared.Constraint.{Constraint as Stored}
-use Rattle.constraints.specs.Constraints.{constraint_of, listed}
+use Rattle.solver.specs.declared.Constraint.{Constraint as Stored}
+use Rattle.solver.specs.Constraints.{constraint_of, listed}
 use Rattle.lists.proofs.Padded.{get_or-padded, stretch-padded}
 use Rattle.lists.specs.Tests.{all}
 use Rattle.lists.specs.Spans.{stretch, padded}
 use Rattle.model.specs.Outcome.{Outcome, accepted, refused, ◌>>=◌, ◌>>◌, require}
-use Rattle.model.specs.Plan.{Plan, count, entry_count, dart_count, north}
-use Rattle.model.specs.Chart.{Chart, Constraint, meets, is_at, is_placement, least_numbers, least_placement, slope, chart, tie}
+use Rattle.model.specs.Plan.{Plan, count, north}
+use Rattle.model.specs.Chart.{Chart, Constraint, meets, is_at, is_placement, least_numbers, least_placement, slope, tie}
 use Rattle.model.proofs.Least.{least-length}
 use Rattle.model.proofs.Placements.{placed, chart-is, chart_11}
-use Rattle.rings.specs.Tables.{start_of, starts_of, table, in_bounds}
+use Rattle.rings.specs.Tables.{starts_of, table, in_bounds}
 use Rattle.rings.proofs.Rows.{count-rows}
 use Rattle.solver.specs.Solved.{solved, numbers_of, kept_at}
 use Rattle.placement.specs.declared.Drawn.{Drawn}
 use Rattle.charts.specs.Charts.{chart_on}
 use Rattle.placement.specs.Drawing.{chart_for, drawn_as, drawn_of, found_of, found_if, stands_at, squared}
 use Rattle.placement.specs.Asking.{ties, compass, asked}
-use Rattle.fit.proofs.Fits.{total-is}
 
 -- ---- the test that the numbers are a placement
 all_same : (f g : Constraint → Bool) → ((c : Constraint) → f c ≡ g c) → (l : List Constraint) → all f l ≡ all g l
@@ -64,9 +62,12 @@ module _ (p : Plan) (ls : List ℕ) where
   unfolding test_of is_placement is_at squared stands_at compass
   test_is xs ys ex ey =
       (λ i. all_same (meets (padded 200 xs)) (meets xs) (meets-padded xs) (compass false p ls) i && all_same (meets (padded 200 ys)) (meets ys) (meets-padded ys) (compass true p ls) i
-      && (eqb (get_or-padded 200 xs 2 i) 0 && eqb (get_or-padded 200 ys 2 i) 0 && (eqb (get_or-padded 200 xs 3 i) 0 && eqb (get_or-padded 200 ys 3 i) (get_or-padded 200 ys 0 i)) && (eqb (get_or-padded 200 xs 1 i) (get_or-padded 200 xs 0 i) && eqb (get_or-padded 200 ys 1 i) 0)))
+      && (eqb (get_or-padded 200 xs 2 i) 0 && eqb (get_or-padded 200 ys 2 i) 0
+      && (eqb (get_or-padded 200 xs 3 i) 0 && eqb (get_or-padded 200 ys 3 i) (get_or-padded 200 ys 0 i))
+      && (eqb (get_or-padded 200 xs 1 i) (get_or-padded 200 xs 0 i) && eqb (get_or-padded 200 ys 1 i) 0)))
       ∙ sym (rw (eq-eqb (length xs) (count p) ex, eq-eqb (length ys) (count p) ey, eq-eqb (get_or xs 0 0) (get_or xs 0 0) refl, eq-eqb (get_or ys 0 0) (get_or ys 0 0) refl)
-      (shuffle (eqb (get_or xs 2 0) 0 && eqb (get_or ys 2 0) 0) (eqb (get_or xs 3 0) 0 && eqb (get_or ys 3 0) (get_or ys 0 0)) (eqb (get_or xs 1 0) (get_or xs 0 0) && eqb (get_or ys 1 0) 0) (all (meets xs) (compass false p ls)) (all (meets ys) (compass true p ls))))
+      (shuffle (eqb (get_or xs 2 0) 0 && eqb (get_or ys 2 0) 0) (eqb (get_or xs 3 0) 0 && eqb (get_or ys 3 0) (get_or ys 0 0)) (eqb (get_or xs 1 0) (get_or xs 0 0) && eqb (get_or ys 1 0) 0)
+      (all (meets xs) (compass false p ls)) (all (meets ys) (compass true p ls))))
 
 -- ---- from the numbers of both coordinates to the answer
 -- the chart of the numbers of both coordinates
@@ -159,15 +160,6 @@ module _ (sizes es : List ℕ) (n : ℕ) (ls : List ℕ) where
       go : (t : Bool) → drawn_as (drawn_of (cond t (least_placement slope P ls) (refused 11 0))) n ≡ cond t (least_placement slope P ls) (refused 11 0)
       go true = placement (least_placement slope P ls) refl
       go false = refl
-
-  -- THE CHART of a table that an accepted plan can have is the model's
-  pub chart_for_lem : n ≤ 200 → start_of sizes n ≤ 1186 → chart_for sizes es n ls ≡ chart P ls
-  unfolding in_bounds chart
-  chart_for_lem h k = chart-within (rw (le-leb n 200 h, le-leb (start_of sizes n) 1186 k))
-
-  -- by rule 7 there are no more entries
-  pub entries_fit : n ≤ 200 → entry_count P ≡ dart_count n → start_of sizes n ≤ 1186
-  entries_fit h e = let t = total-is sizes es n h in omega arith
 
 -- ---- constraints behind the first two
 pub after-ties : (cs : List Stored) (upright : Bool) (p : Plan) (ls : List ℕ) → listed cs ≡ asked upright p ls → listed (drop 2 cs) ≡ compass upright p ls

@@ -5,8 +5,8 @@ use mathlib.Core.List.{List}
 use mathlib.Core.Bool.{true, false}
 use native.Mathlib.Omega.{arith}
 use lib.ListN.{length, get_or, set, take, replicate}
-use Rattle.constraints.specs.declared.Constraint.{Constraint as Stored}
-use Rattle.constraints.specs.Constraints.{listed}
+use Rattle.solver.specs.declared.Constraint.{Constraint as Stored}
+use Rattle.solver.specs.Constraints.{listed}
 use Rattle.lists.specs.Parts.{index_of}
 use Rattle.lists.proofs.Ranges.{get_or-map-from}
 use Rattle.model.specs.Plan.{neighbour, ring}

@@ -1,6 +1,6 @@
 -- What a labelled plan asks of the numbers of one coordinate.
 use Rattle.std.specs.Prelude.{ℕ, List, ◌++◌, Bool, cond, ◌&&◌, eqb, ltb}
-use Rattle.constraints.specs.declared.Constraint.{Constraint as Stored}
+use Rattle.solver.specs.declared.Constraint.{Constraint as Stored}
 use Rattle.model.specs.Plan.{Plan, north, east, west}
 use Rattle.model.specs.Labels.{up, right}
 use Rattle.model.specs.Chart.{Constraint, x_constraints, y_constraints, tie, slope}

@@ -5,16 +5,16 @@ ghost use Rattle.std.specs.Prelude.{◌≡◌, true, false, ◌+◌, ◌≤◌, 
 ghost use Rattle.lists.specs.Parts.{index_of};
 ghost use Rattle.model.specs.Plan.{ring};
 ghost use Rattle.rings.specs.Tables.{start_of, starts_of, in_bounds, plan_of, table};
-ghost use Rattle.constraints.specs.Constraints.{listed};
+ghost use Rattle.solver.specs.Constraints.{listed};
 ghost use Rattle.placement.specs.Asking.{asked, end_of, gap_of, kept_of, ask_of};
 ghost use Rattle.placement.specs.Drawing.{chart_for, drawn_as, drawn_of, found_of, found_if, stands_at, squared};
 ghost use Rattle.placement.specs.Marking.{Marked, DartAt, marked_place};
 
 use charts::Points;
-use constraints::Constraint;
 use labels::{RIGHT, UP};
 use refusal::Refusal;
 use rings::{EAST, NORTH, Rings, SOUTH, Table, WEST};
+use solver::Constraint;
 
 // The slope that a line must at least have.
 const SLOPE: u8 = 0;

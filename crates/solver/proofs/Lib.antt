@@ -1,2 +1,3 @@
 pub mod Arrays
+pub mod Listed
 pub mod Relax

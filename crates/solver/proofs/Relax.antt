@@ -9,13 +9,13 @@ use lib.ListN.{length, get_or, set, take, drop, replicate, length-set, get_or-eq
 use lib.Seq.{get_or-set_same, get_or-set_other, length-take-le}
 use lib.Dec.{eqb}
 use borrow.Author.Tests.{eqb-true, eqb-false, leb-true, le-leb, lt-leb}
-use Rattle.constraints.proofs.Listed.{mem-listed, listed-mem, listed_small}
+use Rattle.solver.proofs.Listed.{mem-listed, listed-mem, listed_small}
 use Rattle.std.specs.Prelude.{Option, Some, None, is_some, unwrap_or, max, min}
 use Rattle.lists.specs.Tests.{all}
 use Rattle.lists.proofs.Bools.{and_yes}
 use Rattle.lists.proofs.Tests.{all_of}
-use Rattle.constraints.specs.declared.Constraint.{Constraint as Stored}
-use Rattle.constraints.specs.Constraints.{rise, constraint_of, constraint_at, listed}
+use Rattle.solver.specs.declared.Constraint.{Constraint as Stored}
+use Rattle.solver.specs.Constraints.{rise, constraint_of, constraint_at, listed}
 use Rattle.lists.proofs.Padded.{get_or-zeros}
 use Rattle.lists.specs.Spans.{zeros}
 use Rattle.model.specs.Chart.{Constraint, meets, least_numbers}
@@ -151,45 +151,13 @@ module _ (s : System) (k : ℕ) {ks : List ℕ} (r : RaisedIn s ks) where
       }
 
 -- ---- a pass
-pub passing_start : {s : System} {back : Bool} {old : List ℕ} → RaisedIn s old → Passing s back old old 0 false
-passing_start r = record { raised = r; still = λ _. (refl, λ j h. absurd (omega arith)); more = λ e. absurd (false≢true e) }
-
-module _ {s : System} {back : Bool} {old ks : List ℕ} {i : ℕ} {rose : Bool} (inv : Passing s back old ks i rose) {k : ℕ} (p : k ≡ place_of back (length s.constraints.now) i) {ks' : List ℕ} {t : Bool} (taken : Taken s k ks ks' (Some t)) {i' : ℕ} (q : i' ≡ suc i) where
-  -- no number rises
-  pub passing_on : t ≡ false → Passing s back old ks' i' rose
-  passing_on f = record {
-    raised = taken.raised;
-    still = λ e. (stay ∙ (inv.still e).0, λ j b. go e j b (eqb j i) refl);
-    more = λ e. let z = inv.more e in let y = ap sum_of stay in omega arith;
-  }
-    where
-      same : (ks' ≡ ks) × MetAt s ks' k
-      same = taken.still (ap Some f)
-
-      stay : ks' ≡ ks
-      stay = same.0
-
-      go : rose ≡ false → (j : ℕ) → j < i' → (b : Bool) → eqb j i ≡ b → MetAt s ks' (place_of back (length s.constraints.now) j)
-      go e j b true w = subst (λ (l : ℕ). MetAt s ks' l) (p ∙ ap (place_of back (length s.constraints.now)) (sym (eqb-true j i w))) same.1
-      go e j b false w = subst (λ (l : List ℕ). MetAt s l (place_of back (length s.constraints.now) j)) (sym stay) ((inv.still e).1 j (let z : j ≢ i = eqb-false j i w in omega arith))
-
-  -- one rises
-  pub passing_up : t ≡ true → Passing s back old ks' i' true
-  passing_up f = record { raised = taken.raised; still = λ w. absurd (true≢false w); more = λ _. let a = taken.more (ap Some f) in go rose refl a }
-    where
-      go : (b : Bool) → rose ≡ b → sum_of ks < sum_of ks' → sum_of old < sum_of ks'
-      go true w a = let z = inv.more w in omega arith
-      go false w a = let z : sum_of ks ≡ sum_of old = ap sum_of (inv.still w).0 in omega arith
-
--- one would pass n
-pub passed-none : {s : System} {k : ℕ} (old : List ℕ) {ks ks' : List ℕ} → Taken s k ks ks' None → Passed s old ks' None
-passed-none old t = record { raised = t.raised; none = t.none; still = λ e. absurd (none_some e); more = λ e. absurd (none_some e) }
-
 pub passed_end : {s : System} {back : Bool} {old ks : List ℕ} {i : ℕ} {rose : Bool} → Passing s back old ks i rose → length s.constraints.now ≤ i → Passed s old ks (Some rose)
 passed_end {s} {back} {old} {ks} {i} inv b = record {
   raised = inv.raised;
   none = λ e. absurd (some_none e);
-  still = λ e j h. let count = length s.constraints.now in subst (λ (l : ℕ). MetAt s ks l) (place_twice back count j h) ((inv.still (flag e)).1 (place_of back count j) (let z = place-below back count j h in omega arith));
+  still = λ e j h.
+      let count = length s.constraints.now in
+      subst (λ (l : ℕ). MetAt s ks l) (place_twice back count j h) ((inv.still (flag e)).1 (place_of back count j) (let z = place-below back count j h in omega arith));
   more = λ e. inv.more (flag e);
 }
 

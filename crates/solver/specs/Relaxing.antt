@@ -1,7 +1,7 @@
 -- What the solver keeps from pass to pass. Nothing here has to be believed: the solver's contract does not name it.
 use Rattle.std.specs.Prelude.{ℕ, ◌+◌, ◌-◌, ◌≤◌, ◌<◌, ◌≡◌, Bool, true, false, cond, length, get_or, Option, Some, None}
 use mathlib.Core.List.{List, Memᴰ}
-use Rattle.constraints.specs.Constraints.{constraint_at, listed}
+use Rattle.solver.specs.Constraints.{constraint_at, listed}
 use Rattle.model.specs.Chart.{Constraint}
 use Rattle.rings.specs.Tables.{sum_of}
 use Rattle.solver.specs.declared.System.{System}

@@ -2,8 +2,7 @@
 ghost use Rattle.std.specs.Prelude.{◌<◌, ◌≤◌};
 ghost use Rattle.solver.specs.Relaxing.{RaisedIn};
 
-use crate::System;
-use constraints::Constraint;
+use crate::{Constraint, System};
 
 // The order of the first pass: the constraints in chains by their lower numbers, and the numbers that wait for no constraint. A cell of a chain holds one more than a constraint's place, or 0 for none.
 #[derive(Drop)]

@@ -1,14 +1,49 @@
 // The least solution of difference constraints: a first pass in an order that settles most numbers; where one is not met then, passes over all constraints, forward and back in turn, until no number rises or one passes n.
 #![tactic(auto)]
 
-ghost use Rattle.std.specs.Prelude.{◌≡◌, ◌≤◌, ◌<◌, length, drop};
-ghost use Rattle.constraints.specs.Constraints.{listed};
+ghost use Rattle.std.specs.Prelude.{◌≡◌, ◌+◌, ◌<◌, ◌^◌, drop, get_or};
+ghost use Rattle.lists.specs.Tests.{all};
+ghost use Rattle.model.specs.Chart.{meets};
+ghost use Rattle.solver.specs.Constraints.{rise, constraint_of, listed};
 ghost use Rattle.solver.specs.Solved.{solved, found, numbers_of, kept_at};
 ghost use Rattle.solver.specs.Relaxing.{RaisedIn, Taken, Passed, place_of};
 
-use constraints::Constraint;
-
 mod first;
+
+// A difference constraint: the number at low, and the gap, which counts as 1 where it is not 0, are together at most the number at high.
+#[derive(Clone, Copy)]
+pub struct Constraint {
+    pub low: u16,
+    pub high: u16,
+    pub gap: u8,
+}
+
+impl Constraint {
+    // What it asks of its higher number.
+    #[tactic(auto, unfolding(crate::specs::Constraints::rise))]
+    fn due(&self, at: &[u16]) -> usize
+        ensures value { result ≡ get_or at.now self.now.low 0 + rise self.now.gap }
+        ensures upper_bound { result < 2 ^ 17 }
+    {
+        let low = arrays::num(at, usize::from(self.low));
+        if self.gap == 0 { low } else { low + 1 }
+    }
+
+    // Do the numbers meet it?
+    #[tactic(auto, unfolding(crate::specs::Constraints::constraint_of, model::specs::Chart::meets))]
+    fn is_met(&self, at: &[u16]) -> bool
+        ensures { result ≡ meets at.now (constraint_of self.now) }
+    {
+        self.due(at) <= arrays::num(at, usize::from(self.high))
+    }
+}
+
+// Do the numbers meet all constraints?
+fn all_met(constraints: &[Constraint], at: &[u16]) -> bool
+    ensures { result ≡ all (meets at.now) (listed constraints.now) }
+{
+    constraints.iter().all(|c| c.is_met(at))
+}
 
 // So many numbers, and the constraints on them.
 #[derive(Drop)]
@@ -107,9 +142,9 @@ pub fn solve(n: usize, constraints: &[Constraint], behind: usize, at: &mut [u16;
     let system = System { n, constraints };
     *at = [0; 200];
     first::first_pass(&system, at);
-    if constraints::all_met(constraints, at) {
+    if all_met(constraints, at) {
         return true;
     }
     let rest = &constraints[behind.min(constraints.len())..];
-    system.settle(at) && constraints::all_met(rest, at)
+    system.settle(at) && all_met(rest, at)
 }

@@ -41,9 +41,9 @@ fn print_flat_rules(rings: &Rings) -> bool {
     eight.is_ok() && nine.is_ok()
 }
 
-// The smallest triple of mutual neighbours that are no inner face.
-fn print_scan(rings: &Rings) {
-    match triples::scan(rings) {
+// The smallest triple of mutual neighbours that are no inner face, of a plan that fits.
+fn print_scan(plan: &Table) {
+    match fit::of(plan).and_then(|fit| triples::scan(&fit)) {
         None => console::print(" triangle none"),
         Some((a, b, c)) => console::print(format_args!(" triangle {a},{b},{c}")),
     };
@@ -165,7 +165,7 @@ struct Framed<'a> {
 impl<'a> Framed<'a> {
     // The label bytes, from an offset on.
     fn labels(&self, at: usize) -> &'a [u8] {
-        arrays::part(self.file, at, self.layout.darts())
+        arrays::part(self.file, at, self.layout.labels_due())
     }
 
     // The body of the chart record, from an offset on.
@@ -178,7 +178,7 @@ impl<'a> Framed<'a> {
         if !print_flat_rules(rings) {
             return;
         }
-        print_scan(rings);
+        print_scan(plan);
         print_written(self.file, plan);
         match self.layout.parts {
             Parts::Plan => {}

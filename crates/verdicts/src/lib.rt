@@ -1,21 +1,16 @@
-// The lines of the checklist: what the engine answers is written down, and told right or wrong. A contract says how the checks are counted; what is written is outside the logic, as in `console`.
+// The lines of the checklist: what the engine answers is written down, and told right or wrong as `audit` finds it. A contract says how the checks are counted; what is written is outside the logic, as in `console`.
 //
 // An answer is written as the number of a refusal and its place: 0 at 0 is accepted, or yes, and 1 at 0 is no.
 #![tactic(auto)]
 
 ghost use Rattle.std.specs.Prelude.{◌≡◌, ◌++◌, codes, decimal, Some};
-ghost use Rattle.verdicts.specs.Verdicts.{shown_as, tallied, is_early, undrawn, opened_tally, triple, file_tally, left_by, chart_due, answered, drawn_tally, areas_tally, chart_tally, turn_tally, afresh, written};
+ghost use Rattle.audit.specs.Audit.{tallied, undrawn, triple, afresh, written};
+ghost use Rattle.verdicts.specs.Verdicts.{shown_as, opened_tally, file_tally, left_by, drawn_tally, areas_tally, chart_tally, turn_tally};
 
+use audit::{Filed, Tally};
 use refusal::Refusal;
 use sheet::{Sheet, Stage};
 use std::fmt;
-
-// How many checks there were, and how many of them were wrong.
-#[derive(Clone, Copy)]
-pub struct Tally {
-    pub checks: usize,
-    pub wrong: usize,
-}
 
 // A file with its number, and what is seen of it: what open answers, and what same and scan say of the sheet.
 #[derive(Clone, Copy)]
@@ -58,24 +53,12 @@ pub struct Turned<'a> {
     pub new: Compared<'a>,
 }
 
-// A sheet written as a file: the buffer, and what write answers.
-#[derive(Clone, Copy)]
-pub struct Filed<'a> {
-    pub buffer: &'a [u8],
-    pub answer: Result<usize, Refusal>,
-}
-
-impl Tally {
-    // The end of a check's line; the tally with it.
-    fn judge(self, right: bool) -> Tally
-        ensures { result ≡ tallied self right }
-    {
-        console::println(if right { ": ok" } else { ": WRONG" });
-        Tally {
-            checks: self.checks.wrapping_add(1),
-            wrong: self.wrong.wrapping_add(usize::from(!right)),
-        }
-    }
+// The end of a check's line; the tally with it.
+fn judge(tally: Tally, right: bool) -> Tally
+    ensures { result ≡ tallied tally right }
+{
+    console::println(if right { ": ok" } else { ": WRONG" });
+    tally.with(right)
 }
 
 // An answer as it is written: a number and a place.
@@ -110,13 +93,6 @@ fn answer_of<A>(answer: &Result<A, Refusal>) -> Shown
     }
 }
 
-// Is an answer the refusal of a stage too early?
-fn is_early<A: Copy>(answer: &Result<A, Refusal>) -> bool
-    ensures { result ≡ is_early answer.now }
-{
-    answer.err() == Some(Refusal::TooEarly)
-}
-
 impl Compared<'_> {
     // Writes what same answers.
     fn show_same(&self) {
@@ -131,9 +107,9 @@ impl Compared<'_> {
         console::print(format_args!(", same {shown}"));
     }
 
-    // Has the sheet no chart? It has no width and no height, and same is refused 13 at 0. It writes the sheet's stage, width and height, and what same answers.
-    fn is_undrawn(&self) -> bool
-        ensures { result ≡ undrawn self.now.sheet.now self.now.same }
+    // The check that the sheet has no chart. It writes the sheet's stage, width and height, and what same answers.
+    fn check_undrawn(&self, tally: Tally) -> Tally
+        ensures { result ≡ tallied tally (undrawn self.now.sheet.now self.now.same) }
     {
         let (w, h) = (self.sheet.w, self.sheet.h);
         let stage = if sheet::stage_of(self.sheet) == Stage::Labelled {
@@ -143,7 +119,7 @@ impl Compared<'_> {
         };
         console::print(format_args!("{stage} {w}x{h}, not drawn yet"));
         self.show_same();
-        w == 0 && h == 0 && is_early(&self.same)
+        judge(tally, audit::is_undrawn(self.sheet, self.same))
     }
 
     // The check of the sheet as a file opens it, where that has no chart.
@@ -154,25 +130,28 @@ impl Compared<'_> {
             return tally;
         }
         console::print("  opened: ");
-        tally.judge(self.is_undrawn())
+        self.check_undrawn(tally)
     }
 }
 
-// Are the three contexts of a scan neighbours of each other and no face, if there are any? It writes them, or that there are none; of a refused scan it writes nothing.
-fn is_triple(sheet: &Sheet, scan: Result<Option<(usize, usize, usize)>, Refusal>) -> bool
-    ensures { result ≡ triple sheet.now scan }
+// The check of a scan of a sheet. It writes the three contexts, or that there are none; of a refused scan it writes nothing.
+fn check_scan(
+    tally: Tally,
+    sheet: &Sheet,
+    scan: Result<Option<(usize, usize, usize)>, Refusal>,
+) -> Tally
+    ensures { result ≡ tallied tally (triple sheet.now scan) }
 {
     match scan {
         Ok(Some((a, b, c))) => {
             console::print(format_args!("  scan: {a},{b},{c}"));
-            survey::encloses(sheet, a, b, c)
         }
         Ok(None) => {
             console::print("  scan: none");
-            true
         }
-        Err(_) => false,
+        Err(_) => {}
     }
+    judge(tally, audit::is_triple(sheet, scan))
 }
 
 // The line of a file: its number, n and what open answers; where it is accepted, the checks of what same and scan say of the sheet.
@@ -194,33 +173,20 @@ pub fn tell_file(tally: Tally, opened: &Opened) -> Tally
                 sheet,
                 same: opened.same,
             };
-            compared
-                .check_opened(tally)
-                .judge(is_triple(sheet, opened.scan))
+            check_scan(compared.check_opened(tally), sheet, opened.scan)
         }
         Err(_) => tally,
     }
 }
 
-// Has chart answered what is due where it leaves this sheet? It writes the sheet's stage, width and height, and what they mean.
-fn is_due(charted: &Result<Sheet, Refusal>, left: &Sheet) -> bool
-    ensures { result ≡ answered charted.now (chart_due left.now) }
-{
-    let (w, h) = (left.w, left.h);
-    match sheet::stage_of(left) {
-        Stage::Charted => {
-            console::print(format_args!("  drawn: CHARTED {w}x{h}, drawn"));
-            charted.is_ok()
-        }
-        Stage::Labelled => {
-            console::print(format_args!("  drawn: LABELLED {w}x{h}, cannot be drawn"));
-            charted.err() == Some(Refusal::NoPlacement)
-        }
-        Stage::Empty | Stage::Open => {
-            console::print(format_args!("  drawn: OPEN {w}x{h}, no labels"));
-            is_early(charted)
-        }
-    }
+// Writes the stage, width and height of the sheet that chart leaves, and what they mean.
+fn show_left(left: &Sheet) {
+    let (stage, meaning) = match sheet::stage_of(left) {
+        Stage::Charted => ("CHARTED", "drawn"),
+        Stage::Labelled => ("LABELLED", "cannot be drawn"),
+        Stage::Empty | Stage::Open => ("OPEN", "no labels"),
+    };
+    console::print(format_args!("  drawn: {stage} {}x{}, {meaning}", left.w, left.h));
 }
 
 // The check of the areas: every inner face is positive, and they sum to the rectangle. As the least of no faces it writes 2 to the 32, which no area reaches: a coordinate of a chart is at most 200.
@@ -236,7 +202,7 @@ fn check_areas(tally: Tally, sheet: &Sheet) -> Tally
         areas.least.unwrap_or(4294967296),
         areas.sum,
     ));
-    tally.judge(areas.positive == areas.faces && areas.sum == whole)
+    judge(tally, audit::is_filled(&areas, whole))
 }
 
 impl<'a> Drawn<'a> {
@@ -254,13 +220,13 @@ impl<'a> Drawn<'a> {
     fn check(&self, tally: Tally) -> Tally
         ensures { result ≡ drawn_tally tally self.now }
     {
-        let right = is_due(self.charted, self.left());
+        show_left(self.left());
         console::print(format_args!(
             ", sweep {}, chart {}",
             answer_of(self.swept),
             answer_of(self.charted),
         ));
-        tally.judge(right)
+        judge(tally, audit::is_due(self.charted, self.left()))
     }
 }
 
@@ -286,7 +252,7 @@ impl<'a> Turned<'a> {
             "  turned: edge {},{} direction {}, ",
             self.turn.u, self.turn.v, self.turn.direction,
         ));
-        tally.judge(self.left.is_undrawn())
+        self.left.check_undrawn(tally)
     }
 
     // The check that the chart drawn after the turn, in place of an old one, is the one that is drawn anew.
@@ -298,7 +264,7 @@ impl<'a> Turned<'a> {
             self.old.w, self.old.h, self.new.sheet.w, self.new.sheet.h,
         ));
         self.new.show_same();
-        tally.judge(self.new.same == Ok(true))
+        judge(tally, audit::is_afresh(self.new.same))
     }
 }
 
@@ -310,7 +276,7 @@ pub fn tell_turn(tally: Tally, turned: Option<Turned>) -> Tally
         Some(turned) => turned.check_afresh(turned.check_left(tally)),
         None => {
             console::print("  turned: no edge turns alone");
-            tally.judge(true)
+            judge(tally, true)
         }
     }
 }
@@ -319,9 +285,9 @@ pub fn tell_turn(tally: Tally, turned: Option<Turned>) -> Tally
 pub fn tell_files(tally: Tally, one: &Filed, other: &Filed) -> Tally
     ensures { result ≡ tallied tally (written one.now other.now) }
 {
-    let size = one.answer.unwrap_or(0);
-    let size_other = other.answer.unwrap_or(0);
-    let equal = comparison::agreeing(one.buffer, other.buffer, size);
+    let size = one.size();
+    let size_other = other.size();
+    let equal = one.agreeing(other);
     console::print(format_args!("  written: bytes {size} and {size_other}, equal {equal}"));
-    tally.judge(size == size_other && equal == size)
+    judge(tally, one.is_written_as(other))
 }

@@ -111,7 +111,8 @@ unfolding labels_held
 labels_text sizes ls n = sym (entry_text 3 (2 + darts_held sizes n) (stretch ls 0 (darts_held sizes n)) (omega (arith, length-stretch ls 0 (darts_held sizes n))))
 
 -- the record of a chart
-pub chart_text : (w h : ℕ) (xs ys : List ℕ) (n : ℕ) → entry 4 (bytes (chart_out (chart_held w h xs ys n))) ≡ ((bytes ((2 + (4 + 4 * kept n)) ∷ 4 ∷ []) ++ bytes (w ∷ [])) ++ bytes (h ∷ [])) ++ bytes (points (stretch xs 0 (kept n)) (stretch ys 0 (kept n)))
+pub chart_text : (w h : ℕ) (xs ys : List ℕ) (n : ℕ)
+    → entry 4 (bytes (chart_out (chart_held w h xs ys n))) ≡ ((bytes ((2 + (4 + 4 * kept n)) ∷ 4 ∷ []) ++ bytes (w ∷ [])) ++ bytes (h ∷ [])) ++ bytes (points (stretch xs 0 (kept n)) (stretch ys 0 (kept n)))
 unfolding chart_out chart_held bytes
 chart_text w h xs ys n = sym (entry_text 4 (2 + (4 + 4 * kept n)) (bytes (chart_out (chart_held w h xs ys n))) (omega (arith, length-body w h xs ys n (kept n) refl)))
 

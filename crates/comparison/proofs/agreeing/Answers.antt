@@ -17,4 +17,5 @@ returns c =
     let a = c.args.a.now in
     let b = c.args.b.now in
     c.unwrap_or.ensures ∙ found_or (λ (i : ℕ). not (eqb (get_or a i 0) (get_or b i 0))) c.args.k c.find.result
-    (first_from_Range _ _ _ c.find.result (λ (i : ℕ). not (eqb (get_or a i 0) (get_or b i 0)) ≡ true) (λ (i : ℕ). not (eqb (get_or a i 0) (get_or b i 0)) ≡ false) c.find.ensures.ran (λ x q k. search (rules, tests)) (λ x q k. search (rules, tests)))
+    (first_from_Range _ _ _ c.find.result (λ (i : ℕ). not (eqb (get_or a i 0) (get_or b i 0)) ≡ true) (λ (i : ℕ). not (eqb (get_or a i 0) (get_or b i 0)) ≡ false)
+    c.find.ensures.ran (λ x q k. search (rules, tests)) (λ x q k. search (rules, tests)))

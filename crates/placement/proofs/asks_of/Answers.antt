@@ -18,7 +18,9 @@ pub label_place-at-requires-clause-dart_at : goal.label_place-at-requires-clause
 label_place-at-requires-clause-dart_at c =
     let pre = c.requires in
     let r = c.args.rings.now in
-    walks_at r.starts.now r.sizes.now r.entries.now r.n c.args.labels.now c.loop-i.invariant c.size_of-k.ensures.value (omega arith) (omega arith) pre.n_bound pre.n_bound_2 pre.starts_value c.at-entry.ensures (c.neighbour_of-v.ensures ∙ ap neighbour c.from.ensures)
+    let near = c.neighbour_of-v.ensures ∙ ap neighbour c.from.ensures in
+    walks_at r.starts.now r.sizes.now r.entries.now r.n c.args.labels.now c.loop-i.invariant c.size_of-k.ensures.value (omega arith) (omega arith)
+    pre.n_bound pre.n_bound_2 pre.starts_value c.at-entry.ensures near
 
 pub bounds-x-count : goal.bounds-x-count
 bounds-x-count c =
@@ -35,7 +37,14 @@ loop-i-preserved c =
     let pre = c.requires in
     let same = sym (c.neighbour_of-v.ensures ∙ neighbour_is c.from.result ∙ c.from.ensures) in
     let r = c.args.rings.now in
-    walks_dart r.starts.now r.sizes.now r.entries.now r.n c.args.labels.now c.loop-i.invariant c.size_of-k.ensures.value (omega arith) (omega arith) pre.n_bound pre.n_bound_2 pre.starts_value c.at-entry.ensures (c.neighbour_of-v.ensures ∙ ap neighbour c.from.ensures) refl c.label_place-at.ensures.value c.label_place-at.ensures.marked_2 c.label_at-label.ensures (c.ask_of.ensures ∙ ap (ask_of false c.label_at-label.result c.loop-u.u) same) (c.ask_of-in-loop-i.ensures ∙ ap (ask_of true c.label_at-label.result c.loop-u.u) same) (ap (λ (k : ℕ). c.loop-i.count + k) c.kept_of-count.ensures.value)
+    let near = c.neighbour_of-v.ensures ∙ ap neighbour c.from.ensures in
+    let place = c.label_place-at.ensures in
+    let label = c.label_at-label.result in
+    let x-ask = c.ask_of.ensures ∙ ap (ask_of false label c.loop-u.u) same in
+    let y-ask = c.ask_of-in-loop-i.ensures ∙ ap (ask_of true label c.loop-u.u) same in
+    walks_dart r.starts.now r.sizes.now r.entries.now r.n c.args.labels.now c.loop-i.invariant c.size_of-k.ensures.value (omega arith) (omega arith)
+    pre.n_bound pre.n_bound_2 pre.starts_value c.at-entry.ensures near refl place.value place.marked_2 c.label_at-label.ensures x-ask y-ask
+    (ap (λ (k : ℕ). c.loop-i.count + k) c.kept_of-count.ensures.value)
 
 pub loop-u-preserved : goal.loop-u-preserved
 loop-u-preserved c =

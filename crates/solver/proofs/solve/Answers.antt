@@ -1,7 +1,7 @@
 -- solve meets its contract.
 use mathlib.Core.Path.{refl, ap}
 use Rattle.std.specs.Prelude.{drop}
-use Rattle.constraints.specs.Constraints.{listed}
+use Rattle.solver.specs.Constraints.{listed}
 use Rattle.solver.specs.Solved.{kept_at}
 use Rattle.solver.proofs.Relax.{raised-start, solved_large, settled-kept}
 use Rattle.solver.proofs.solve.Goals as goal

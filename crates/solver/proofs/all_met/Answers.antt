@@ -4,10 +4,10 @@ use mathlib.Core.Path.{◌∙◌}
 use Rattle.std.proofs.lemmas.Iterator.{YieldsList-from_slice}
 use Rattle.std.proofs.lemmas.Iterator.Search.{all_from_yields_List}
 use Rattle.model.specs.Chart.{meets}
-use Rattle.constraints.specs.Constraints.{constraint_of}
-use Rattle.constraints.specs.declared.Constraint.{Constraint}
-use Rattle.constraints.proofs.Listed.{all-listed}
-use Rattle.constraints.proofs.all_met.Goals as goal
+use Rattle.solver.specs.Constraints.{constraint_of}
+use Rattle.solver.specs.declared.Constraint.{Constraint}
+use Rattle.solver.proofs.Listed.{all-listed}
+use Rattle.solver.proofs.all_met.Goals as goal
 
 pub returns : goal.returns
 returns c =

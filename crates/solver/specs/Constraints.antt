@@ -1,7 +1,7 @@
 -- Difference constraints in an array: the model's constraints for which they stand.
 use Rattle.std.specs.Prelude.{ℕ, List, map, cond, get_or, eqb}
 use Rattle.model.specs.Chart.{Constraint, constraint}
-use Rattle.constraints.specs.declared.Constraint.{Constraint as Stored}
+use Rattle.solver.specs.declared.Constraint.{Constraint as Stored}
 
 -- a gap as the solver reads it: 0, or else 1
 unfoldable pub rise : ℕ → ℕ

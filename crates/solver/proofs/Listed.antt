@@ -11,8 +11,8 @@ use Rattle.std.specs.List.{list_all}
 use Rattle.lists.specs.Tests.{all}
 use Rattle.lists.proofs.Counts.{cond-le}
 use Rattle.model.specs.Chart.{Constraint, meets}
-use Rattle.constraints.specs.declared.Constraint.{Constraint as Stored}
-use Rattle.constraints.specs.Constraints.{rise, constraint_of, constraint_at, listed}
+use Rattle.solver.specs.declared.Constraint.{Constraint as Stored}
+use Rattle.solver.specs.Constraints.{rise, constraint_of, constraint_at, listed}
 
 pub rise-le : (g : ℕ) → rise g ≤ 1
 unfolding rise
