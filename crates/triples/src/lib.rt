@@ -59,6 +59,7 @@ impl Followed<'_, '_> {
     }
 
     // Do a, b, c enclose: are they mutual neighbours that are no inner face, walked either way?
+    #[inline(always)]
     #[tactic(auto, using(faces::proofs::FaceTests::enclosing_tests))]
     fn encloses(&self, a: usize, b: usize, c: usize) -> bool
         ensures { result ≡ enclosing (plan_of self.now.rings) (a, b, c) }
