@@ -8,7 +8,7 @@ use lib.Dec.{leb}
 use borrow.Author.Tests.{leb-true, leb-false, le-leb, lt-leb}
 use Rattle.lists.specs.Ranges.{lowest}
 use Rattle.lists.proofs.Ranges.{FirstOf, first_found, first-none, none_first, found_first}
-use Rattle.model.specs.Outcome.{Outcome, accepted, refused, passed, require, rule, ◌>>=◌, ◌>>◌}
+use Rattle.model.specs.Outcome.{Outcome, accepted, refused, passed, mapped, require, rule, ◌>>=◌, ◌>>◌}
 
 -- an outcome is accepted or refused, never both
 abbrev IsRefused : {A : Type 0} → Outcome A → Type 0
@@ -52,6 +52,12 @@ module _ {A B : Type 0} where
 
   pub then_off : (o : Outcome A) (k at : ℕ) (b : Outcome B) → o ≡ refused k at → (o >> b) ≡ refused k at
   then_off o k at b e = ap (λ (x : Outcome A). x >> b) e
+
+  pub mapped_at : (f : A → B) (o : Outcome A) (a : A) → o ≡ accepted a → mapped f o ≡ accepted (f a)
+  mapped_at f o a e = ap (mapped f) e
+
+  pub mapped_off : (f : A → B) (o : Outcome A) (k at : ℕ) → o ≡ refused k at → mapped f o ≡ refused k at
+  mapped_off f o k at e = ap (mapped f) e
 
 -- an accepted block: each step of it is accepted
 pub bind_accepted : {A B : Type 0} (a : Outcome A) (f : A → Outcome B) (b : B) → (a >>= f) ≡ accepted b → (c : A) × (a ≡ accepted c) × (f c ≡ accepted b)

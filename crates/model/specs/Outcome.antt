@@ -24,6 +24,11 @@ refused k at >> b = refused k at
 abbrev pub passed : Outcome (Unit {0})
 passed = accepted tt
 
+-- a result as f has it; a refusal as it is
+abbrev pub mapped : {A B : Type 0} → (A → B) → Outcome A → Outcome B
+mapped f (accepted a) = accepted (f a)
+mapped f (refused k at) = refused k at
+
 -- the test holds, or refusal k at the place
 abbrev pub require : Bool → ℕ → ℕ → Outcome (Unit {0})
 require t k at = cond t passed (refused k at)
