@@ -3,12 +3,14 @@
  *
  * The engine reads a plan file (who touches whom, in which order around), labels the lines, checks labels that are
  * offered, turns labels, places the contexts on the smallest possible grid, and writes everything back to a file. Every
- * function below is proved to do exactly what the definitions in crates/touchchart/specs say, for every input, damaged
- * input included. docs/CLAIMS.md says what is proved and what is assumed.
+ * call below is proved to do exactly what the definitions in crates/touchchart/specs say, for every input, damaged
+ * input included. docs/CLAIMS.md says what is proved and what is assumed. The readers at the end are plain C and tested.
  *
- * Build: `tools/staticlib` makes target/staticlib/libtouchchart.a (x86-64 Linux, System V calling convention).
+ * Build: `./install PREFIX` puts this header, libtouchchart.a and touchchart.pc below PREFIX (x86-64 Linux, System V calling
+ * convention).
  *
- *     cc -Iinclude draw.c target/staticlib/libtouchchart.a -o draw
+ *     export PKG_CONFIG_PATH=PREFIX/lib/pkgconfig
+ *     cc draw.c $(pkg-config --cflags --libs touchchart) -o draw
  *
  * The archive needs memcpy and memset and nothing else. It has no state: any thread may call anything at any time.
  * A call takes at most about 240 KB of stack (measured with this compiler, not proved), and no heap.
@@ -33,6 +35,11 @@
  * clockwise. Then, if there are labels, kind 3: 6n - 14 bytes, a label for each ring entry in the same order (0 up,
  * 1 right, 2 down, 3 left, 4 between border contexts). Then, if there is a chart, kind 4: width, height, then x and y of
  * each context, 2 bytes each. Contexts 0 to 3 are the border: North, East, South, West.
+ *
+ * No host has to parse this: the readers at the end of this header tell what a sheet holds.
+ *
+ *     for (unsigned u = 0; u < touchchart_n(drawn, length); u++)
+ *         printf("%u %u %u\n", u, touchchart_x(drawn, length, u), touchchart_y(drawn, length, u));
  *
  * SLICES
  *
@@ -130,6 +137,111 @@ uint64_t touchchart_same(const uint8_t *a, size_t a_length, const uint8_t *b, si
 /* Finds the body of a context's ring in a file, which is tested as touchchart_open tests it. 17.
  * Value: offset * 65536 + length, both in bytes. */
 uint64_t touchchart_ring(const uint8_t *file, size_t file_length, uint16_t context);
+
+/*
+ * READERS
+ *
+ * They say what a sheet's bytes hold. They need bytes that the engine has accepted, in their whole length: a file that
+ * touchchart_open took, or what a call wrote to `out`; or no bytes. For these each answers whatever its other arguments are,
+ * with 0 where the sheet has no such thing. Of other bytes they may read past the end: open a file first.
+ */
+
+/* The stages. Each holds what those before it hold. */
+enum { TOUCHCHART_EMPTY, TOUCHCHART_OPEN, TOUCHCHART_LABELLED, TOUCHCHART_CHARTED };
+
+/* For the readers: two bytes as a number. */
+static inline unsigned touchchart_word(const uint8_t *at)
+{
+    return at[0] + 256u * at[1];
+}
+
+/* For the readers: the body of the record of a kind with so many of that kind before it; NULL where there is none. */
+static inline const uint8_t *touchchart_body(const uint8_t *sheet, size_t length, unsigned kind, unsigned before)
+{
+    for (size_t at = 0; at < length; at += 2 + touchchart_word(sheet + at))
+        if (touchchart_word(sheet + at + 2) == kind && before-- == 0)
+            return sheet + at + 4;
+    return NULL;
+}
+
+/* For the readers: how many numbers of two bytes a body has. */
+static inline unsigned touchchart_count(const uint8_t *body)
+{
+    return body == NULL ? 0 : (touchchart_word(body - 4) - 2) / 2;
+}
+
+/* For the readers: the number of two bytes at an index of a body. */
+static inline unsigned touchchart_item(const uint8_t *body, size_t index)
+{
+    return index < touchchart_count(body) ? touchchart_word(body + 2 * index) : 0;
+}
+
+/* The stage. */
+static inline unsigned touchchart_stage(const uint8_t *sheet, size_t length)
+{
+    if (touchchart_body(sheet, length, 4, 0) != NULL)
+        return TOUCHCHART_CHARTED;
+    if (touchchart_body(sheet, length, 3, 0) != NULL)
+        return TOUCHCHART_LABELLED;
+    return length > 0 ? TOUCHCHART_OPEN : TOUCHCHART_EMPTY;
+}
+
+/* The number of contexts (OPEN up). */
+static inline unsigned touchchart_n(const uint8_t *sheet, size_t length)
+{
+    return touchchart_item(touchchart_body(sheet, length, 1, 0), 0);
+}
+
+/* How many entries a context's ring has (OPEN up). */
+static inline unsigned touchchart_ring_size(const uint8_t *sheet, size_t length, unsigned context)
+{
+    return touchchart_count(touchchart_body(sheet, length, 2, context));
+}
+
+/* The neighbour at an index of a context's ring, from 0 (OPEN up). */
+static inline unsigned touchchart_entry(const uint8_t *sheet, size_t length, unsigned context, size_t index)
+{
+    return touchchart_item(touchchart_body(sheet, length, 2, context), index);
+}
+
+/* The label of the entry at an index of a context's ring (LABELLED up). */
+static inline unsigned touchchart_label(const uint8_t *sheet, size_t length, unsigned context, size_t index)
+{
+    const uint8_t *first = touchchart_body(sheet, length, 2, 0), *ring = touchchart_body(sheet, length, 2, context);
+    const uint8_t *labels = touchchart_body(sheet, length, 3, 0);
+    ptrdiff_t rings = context;
+    if (labels == NULL || index >= touchchart_count(ring))
+        return 0;
+    /* From the first ring's body to this one's there are 2 bytes for each entry between, and 4 for the head of each ring. */
+    labels += (ring - first) / 2 - 2 * rings;
+    return labels[index];
+}
+
+/* The chart's width (CHARTED). */
+static inline unsigned touchchart_width(const uint8_t *sheet, size_t length)
+{
+    return touchchart_item(touchchart_body(sheet, length, 4, 0), 0);
+}
+
+/* The chart's height (CHARTED). */
+static inline unsigned touchchart_height(const uint8_t *sheet, size_t length)
+{
+    return touchchart_item(touchchart_body(sheet, length, 4, 0), 1);
+}
+
+/* A context's x, from 0 at West to the width at East (CHARTED). */
+static inline unsigned touchchart_x(const uint8_t *sheet, size_t length, unsigned context)
+{
+    size_t points = context;
+    return touchchart_item(touchchart_body(sheet, length, 4, 0), 2 + 2 * points);
+}
+
+/* A context's y, from 0 at South to the height at North (CHARTED). */
+static inline unsigned touchchart_y(const uint8_t *sheet, size_t length, unsigned context)
+{
+    size_t points = context;
+    return touchchart_item(touchchart_body(sheet, length, 4, 0), 3 + 2 * points);
+}
 
 #ifdef __cplusplus
 }

@@ -1,34 +1,38 @@
 /*
  * draw: reads a plan file, labels it by the sweep and prints its chart.
  *
- *     cc -std=c99 -Wall -Iinclude examples/c/draw.c target/staticlib/libtouchchart.a -o draw
+ *     cc -std=c99 -Wall examples/c/draw.c $(pkg-config --cflags --libs touchchart) -o draw
  *     ./draw examples/c/trench_b.plan
  *
- * prints width and height, then number, x and y of each context. A refusal prints its number and place.
+ * prints width and height, then number, x and y of each context. A refusal prints its number and place. Given a second file, it
+ * writes the sheet there: the plan with its labels and its chart.
  */
 #include <stdio.h>
 
 #include "touchchart.h"
 
-/* The two bytes at a place as a number. */
-static unsigned word(const uint8_t *at) { return at[0] + 256u * at[1]; }
-
-/* Prints the chart that a sheet's file ends with: width, height, then x and y of each context. */
+/* Prints a sheet's chart: width and height, then number, x and y of each context. */
 static void print_chart(const uint8_t *sheet, size_t length)
 {
-    unsigned n = word(sheet + 4);
-    const uint8_t *chart = sheet + length - 4 - 4 * n;
-    printf("size %u %u\n", word(chart), word(chart + 2));
-    for (unsigned u = 0; u < n; u++)
-        printf("%u %u %u\n", u, word(chart + 4 + 4 * u), word(chart + 6 + 4 * u));
+    printf("size %u %u\n", touchchart_width(sheet, length), touchchart_height(sheet, length));
+    for (unsigned u = 0; u < touchchart_n(sheet, length); u++)
+        printf("%u %u %u\n", u, touchchart_x(sheet, length, u), touchchart_y(sheet, length, u));
+}
+
+/* Writes a sheet to a file; whether it could. */
+static int write_sheet(const char *name, const uint8_t *sheet, size_t length)
+{
+    FILE *to = fopen(name, "wb");
+    int all = to != NULL && fwrite(sheet, 1, length, to) == length;
+    return to != NULL && fclose(to) == 0 && all;
 }
 
 int main(int count, char **words)
 {
     static uint8_t file[1 << 17], sheet[TOUCHCHART_FILE_MAX], swept[TOUCHCHART_FILE_MAX], drawn[TOUCHCHART_FILE_MAX];
-    FILE *in = count == 2 ? fopen(words[1], "rb") : NULL;
+    FILE *in = count == 2 || count == 3 ? fopen(words[1], "rb") : NULL;
     if (in == NULL) {
-        fprintf(stderr, "usage: draw PLAN\n");
+        fprintf(stderr, "usage: draw PLAN [SHEET]\n");
         return 2;
     }
     size_t length = fread(file, 1, sizeof file, in);
@@ -43,5 +47,9 @@ int main(int count, char **words)
         return 1;
     }
     print_chart(drawn, TOUCHCHART_VALUE(r));
+    if (count == 3 && !write_sheet(words[2], drawn, TOUCHCHART_VALUE(r))) {
+        fprintf(stderr, "draw: %s cannot be written\n", words[2]);
+        return 2;
+    }
     return 0;
 }

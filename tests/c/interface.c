@@ -1,8 +1,10 @@
 /*
  * Calls each function of the C interface on small trenches and compares what it returns and writes with what the scope
- * document says: acceptance, each kind of refusal with its place, fresh sheets, short and long buffers.
+ * document says: acceptance, each kind of refusal with its place, fresh sheets, short and long buffers. Compares what the
+ * header's readers say of each sheet on the way with what the engine says of it; the plan files that are named are such sheets too.
  * Prints a line for each difference, and last a count; exits with 1 where there is one.
  */
+#include <limits.h>
 #include <stdio.h>
 #include <string.h>
 
@@ -78,6 +80,68 @@ static struct sheet torus(void)
     return plan(12, rings);
 }
 
+/* The file put together again from what the readers say of a sheet. */
+static struct sheet reread(const uint8_t *bytes, size_t length)
+{
+    struct sheet s = {0};
+    unsigned n = touchchart_n(bytes, length), stage = touchchart_stage(bytes, length);
+    if (stage >= TOUCHCHART_OPEN)
+        put(&s, 4), put(&s, 1), put(&s, n);
+    for (unsigned u = 0; u < n; u++) {
+        unsigned size = touchchart_ring_size(bytes, length, u);
+        put(&s, 2 + 2 * size), put(&s, 2);
+        for (unsigned i = 0; i < size; i++)
+            put(&s, touchchart_entry(bytes, length, u, i));
+    }
+    if (stage >= TOUCHCHART_LABELLED) {
+        put(&s, 2 + 6 * n - 14), put(&s, 3);
+        for (unsigned u = 0; u < n; u++)
+            for (unsigned i = 0; i < touchchart_ring_size(bytes, length, u); i++)
+                s.bytes[s.length++] = touchchart_label(bytes, length, u, i);
+    }
+    if (stage >= TOUCHCHART_CHARTED) {
+        put(&s, 2 + 4 + 4 * n), put(&s, 4);
+        put(&s, touchchart_width(bytes, length)), put(&s, touchchart_height(bytes, length));
+        for (unsigned u = 0; u < n; u++)
+            put(&s, touchchart_x(bytes, length, u)), put(&s, touchchart_y(bytes, length, u));
+    }
+    return s;
+}
+
+/* The readers say nothing of a context that a sheet does not have. */
+static void reads_nothing(const uint8_t *bytes, size_t length, unsigned u)
+{
+    holds("the ring of no context", touchchart_ring_size(bytes, length, u) == 0 && touchchart_entry(bytes, length, u, 0) == 0);
+    holds("the label of no context", touchchart_label(bytes, length, u, 0) == 0);
+    holds("the point of no context", touchchart_x(bytes, length, u) == 0 && touchchart_y(bytes, length, u) == 0);
+}
+
+/* The readers say of a sheet what the engine says of it: the stage by its refusals, n and the rings by touchchart_ring; and what
+ * they say makes up all the bytes that the engine has accepted. */
+static void reads(const uint8_t *bytes, size_t length)
+{
+    static uint8_t out[TOUCHCHART_FILE_MAX];
+    static const uint16_t none[1];
+    struct sheet s = reread(bytes, length);
+    unsigned stage = touchchart_stage(bytes, length), n = TOUCHCHART_VALUE(touchchart_ring(bytes, length, 65535));
+    holds("OPEN up", (stage >= TOUCHCHART_OPEN) == (TOUCHCHART_NUMBER(touchchart_scan(bytes, length)) != 13));
+    holds("LABELLED up", (stage >= TOUCHCHART_LABELLED) == (TOUCHCHART_NUMBER(touchchart_turn(bytes, length, none, 0, 0, out, sizeof out)) != 13));
+    holds("CHARTED", (stage >= TOUCHCHART_CHARTED) == (TOUCHCHART_NUMBER(touchchart_same(bytes, length, bytes, length)) != 13));
+    holds("n", touchchart_n(bytes, length) == n);
+    for (unsigned u = 0; u < n; u++) {
+        uint64_t part = TOUCHCHART_VALUE(touchchart_ring(bytes, length, u));
+        unsigned size = part % 65536 / 2;
+        const uint8_t *entry = bytes + part / 65536;
+        holds("a ring's size", touchchart_ring_size(bytes, length, u) == size);
+        for (unsigned i = 0; i < size; i++, entry += 2)
+            holds("an entry", touchchart_entry(bytes, length, u, i) == entry[0] + 256u * entry[1]);
+        holds("past a ring", touchchart_entry(bytes, length, u, size) == 0 && touchchart_label(bytes, length, u, SIZE_MAX) == 0);
+    }
+    holds("all bytes", s.length == length && memcmp(s.bytes, bytes, length) == 0);
+    reads_nothing(bytes, length, n);
+    reads_nothing(bytes, length, UINT_MAX);
+}
+
 /* The sheet swept, and charted. */
 static struct sheet swept(struct sheet s)
 {
@@ -117,6 +181,7 @@ static void test_none(void)
     uint8_t out[64];
     is("open of no bytes", touchchart_open(TOUCHCHART_NONE, out, sizeof out), 1, 0);
     is("ring of no bytes", touchchart_ring(TOUCHCHART_NONE, 0), 1, 0);
+    reads(TOUCHCHART_NONE);
     all_refuse(TOUCHCHART_NONE, 13, 0);
 }
 
@@ -140,7 +205,7 @@ static void test_open(void)
         if (TOUCHCHART_NUMBER(r) != 0)
             all_refuse(b.bytes, length, TOUCHCHART_NUMBER(r), TOUCHCHART_VALUE(r));
         else
-            is("a part of B that is a file", r, 0, length);
+            is("a part of B that is a file", r, 0, length), reads(room, length);
     }
 }
 
@@ -161,6 +226,7 @@ static void test_calls(void)
     is("D swept", touchchart_sweep(d.bytes, d.length, out, sizeof t.bytes), 10, 5);
     is("A's labels offered", touchchart_offer(a.bytes, a.length, la.bytes + 62, 16, out, sizeof t.bytes), 0, 78);
     holds("they are stored", memcmp(out, la.bytes, 78) == 0);
+    reads(out, 78);
     is("15 labels", touchchart_offer(a.bytes, a.length, la.bytes + 62, 15, out, sizeof t.bytes), 2, 0);
     is("all up", touchchart_offer(a.bytes, a.length, up, 16, out, sizeof t.bytes), 10, 0);
     is("B turned, OPEN", touchchart_turn(b.bytes, b.length, pairs, 2, 0, out, sizeof t.bytes), 13, 0);
@@ -172,10 +238,12 @@ static void test_calls(void)
     is("no such edge", touchchart_turn(lb.bytes, lb.length, inner, 2, 1, out, sizeof t.bytes), 15, 0);
     is("nothing turned", touchchart_turn(cb.bytes, cb.length, pairs, 0, 1, out, sizeof t.bytes), 0, lb.length);
     holds("the chart is dropped", memcmp(out, lb.bytes, lb.length) == 0);
+    reads(out, lb.length);
     is("A charted, OPEN", touchchart_chart(a.bytes, a.length, out, sizeof t.bytes), 13, 0);
     is("B charted", touchchart_chart(lb.bytes, lb.length, out, sizeof t.bytes), 0, lb.length + 32);
-    holds("4 at (1,1), 5 at (1,2), 2 by 3", out[lb.length + 4] == 2 && out[lb.length + 6] == 3 && out[lb.length + 24] == 1 && out[lb.length + 26] == 1
-                                               && out[lb.length + 28] == 1 && out[lb.length + 30] == 2);
+    holds("2 by 3", touchchart_width(out, cb.length) == 2 && touchchart_height(out, cb.length) == 3);
+    holds("4 at (1,1)", touchchart_x(out, cb.length, 4) == 1 && touchchart_y(out, cb.length, 4) == 1);
+    holds("5 at (1,2)", touchchart_x(out, cb.length, 5) == 1 && touchchart_y(out, cb.length, 5) == 2);
     is("B charted anew", touchchart_chart(cb.bytes, cb.length, out, sizeof t.bytes), 0, cb.length);
     is("B charted into too few", touchchart_chart(cb.bytes, cb.length, out, 0), 16, cb.length);
 }
@@ -202,6 +270,35 @@ static void test_told(void)
     is("ring 65535 of A", touchchart_ring(a.bytes, a.length, 65535), 17, 5);
 }
 
+/* The readers on a plan's sheets: without labels, with those of the sweep, with the chart. */
+static void test_readers(struct sheet s)
+{
+    struct sheet t = {0};
+    reads(s.bytes, s.length);
+    uint64_t r = touchchart_sweep(s.bytes, s.length, t.bytes, sizeof t.bytes);
+    if (TOUCHCHART_NUMBER(r) != 0)
+        return;
+    t.length = TOUCHCHART_VALUE(r);
+    reads(t.bytes, t.length);
+    s = charted(t);
+    holds("it is charted", touchchart_stage(s.bytes, s.length) == TOUCHCHART_CHARTED);
+    reads(s.bytes, s.length);
+}
+
+/* The sheet of a plan file. */
+static struct sheet opened(const char *name)
+{
+    static uint8_t file[TOUCHCHART_FILE_MAX];
+    struct sheet s = {0};
+    FILE *in = fopen(name, "rb");
+    if (in != NULL) {
+        s.length = fread(file, 1, sizeof file, in);
+        fclose(in);
+    }
+    is(name, touchchart_open(file, s.length, s.bytes, sizeof s.bytes), 0, s.length);
+    return s;
+}
+
 /* The longest file that is framed: 200 rings of 199 entries, and a byte too many. */
 static void test_long(void)
 {
@@ -220,13 +317,16 @@ static void test_long(void)
     all_refuse(file, sizeof file, 1, 80406);
 }
 
-int main(void)
+int main(int count, char **names)
 {
     test_none();
     test_open();
     test_calls();
     test_told();
     test_long();
+    test_readers(plan(5, trench_a)), test_readers(plan(6, trench_b)), test_readers(plan(6, trench_c)), test_readers(torus());
+    for (int k = 1; k < count; k++)
+        test_readers(opened(names[k]));
     printf("%d checks, %d differences\n", checks, differences);
     return differences != 0;
 }
