@@ -1,24 +1,21 @@
 //! The proved engine of the touch chart, as safe Rust over its C interface (`include/touchchart.h`).
 //!
 //! A [`Sheet`] is the bytes of its file, and a fresh one has none. Each call gives its result or a [`Refusal`] with the number
-//! and the place of the specification's table, and a refused call leaves the sheet as it was.
+//! and the place of the specification's table, and a refused call leaves the sheet as it was. What a sheet holds (stage, rings,
+//! labels, chart) it gives as values. `examples/rust/draw.rs` shows a host.
 #![warn(missing_docs)]
 
 mod interface;
+mod refusal;
+mod values;
+
+pub use refusal::Refusal;
+pub use values::Stage;
 
 use interface::*;
 
 /// The largest file of a sheet has 5,176 bytes.
 const ROOM: usize = 8192;
-
-/// A refusal: its number, 1 to 17, and its place.
-#[derive(Clone, Copy, Debug, PartialEq, Eq, PartialOrd, Ord, Hash)]
-pub struct Refusal {
-    /// The refusal's number.
-    pub number: u8,
-    /// The refusal's place.
-    pub place: u64,
-}
 
 /// What an answer of the interface says: a value, or the refusal.
 fn read(answer: u64) -> Result<u64, Refusal> {

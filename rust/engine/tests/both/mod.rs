@@ -41,13 +41,31 @@ impl Both {
         }
     }
 
-    /// Compares the two sheets, byte for byte.
+    /// Compares the two sheets, byte for byte, and by what they give as values.
     fn same_sheet(&self) {
+        self.same_values();
         let bytes = match self.reference.plan() {
             Some(_) => reference::encode(&self.reference),
             None => Vec::new(),
         };
         assert_eq!(self.engine.bytes(), bytes);
+    }
+
+    /// Compares the values that the two sheets give.
+    fn same_values(&self) {
+        let (engine, reference) = (&self.engine, &self.reference);
+        assert_eq!(engine.stage() as u8, reference.stage() as u8);
+        let rings = reference.plan().map(reference::Plan::rings);
+        assert_eq!(engine.rings(), rings.unwrap_or_default());
+        assert_eq!(engine.n(), reference.plan().map_or(0, reference::Plan::n));
+        assert_eq!(
+            engine.labels(),
+            reference.labels().map(reference::Labels::bytes)
+        );
+        let chart = reference.chart();
+        assert_eq!(engine.width(), chart.map(|chart| chart.w));
+        assert_eq!(engine.height(), chart.map(|chart| chart.h));
+        assert_eq!(engine.points(), chart.map(|chart| chart.points.clone()));
     }
 
     /// Compares what a call answered and left.
