@@ -2,15 +2,15 @@
 use Prim.Native.Nat.{ℕ}
 use mathlib.Core.Path.{◌≡◌, refl, sym, ap, ◌∙◌, subst}
 use mathlib.Core.List.{List, [], ◌∷◌}
-use mathlib.Core.Bool.{true, false, ◌&&◌}
+use mathlib.Core.Bool.{Bool, true, false, ◌&&◌}
 use mathlib.Core.Option.{Option, some}
 use lib.ListN.{length}
 use lib.Dec.{eqb}
-use borrow.Author.Tests.{eqb-true}
+use borrow.Author.Tests.{eqb-true, eq-eqb}
 use Rattle.lists.specs.Tests.{same_list}
 use Rattle.lists.specs.Parts.{pairs}
-use Rattle.lists.proofs.Bools.{and_yes}
-use Rattle.lists.proofs.Tests.{same-eq}
+use Rattle.lists.proofs.Bools.{and_yes, yes_and}
+use Rattle.lists.proofs.Tests.{same-eq, same_refl}
 use Rattle.model.specs.Outcome.{Outcome, accepted, refused, passed, ◌>>=◌, ◌>>◌, require, taken}
 use Rattle.model.specs.Plan.{Plan, count, dart_count, plan_rules}
 use Rattle.model.specs.Labels.{label_rules}
@@ -20,7 +20,7 @@ use Rattle.model.specs.Turn.{turn, turned_edges, quarters}
 use Rattle.model.specs.File.{Sheet, fresh, opened, labelled, charted}
 use Rattle.model.specs.Calls.{plan_of, labels_of, judge, offered, offer_call, sweep_call, turn_call, chart_call}
 use Rattle.model.specs.CallLists.{Call, open_file, offer_labels, sweep-labels, turn_edges, draw_chart, call, run, Ledger, plan_and_labels, enter, standing}
-use Rattle.model.proofs.Outcomes.{same-value, not-both, bind_accepted, then_accepted, require-passed}
+use Rattle.model.proofs.Outcomes.{same-value, not-both, bind_at, bind_accepted, then_accepted, passed_then, require-passed}
 use Rattle.model.proofs.RingPart.{open_accepted}
 use Rattle.model.proofs.LabelCounts.{turn-accepted}
 use Rattle.guarantee.specs.Verdicts.{newer, last_accepted, draws, present}
@@ -74,6 +74,14 @@ same-chart c d e =
     let (w, h) = and_yes (eqb c.w d.w) (eqb c.h d.h) e₂ in
     λ i. record { w = eqb-true c.w d.w w i; h = eqb-true c.h d.h h i; xs = same-eq c.xs d.xs xs i; ys = same-eq c.ys d.ys ys i }
 
+-- a chart is itself
+chart_itself : (c : Chart) → same_chart c c ≡ true
+unfolding same_chart
+chart_itself c =
+    yes_and (eqb c.w c.w && eqb c.h c.h && same_list c.xs c.xs) (same_list c.ys c.ys)
+    (yes_and (eqb c.w c.w && eqb c.h c.h) (same_list c.xs c.xs) (yes_and (eqb c.w c.w) (eqb c.h c.h) (eq-eqb c.w c.w refl) (eq-eqb c.h c.h refl)) (same_refl c.xs))
+    (same_refl c.ys)
+
 judged_kept : (s : Sheet) → judge s ≡ passed → Kept s
 unfolding judge
 judged_kept fresh j = tt
@@ -84,6 +92,16 @@ judged_kept (charted p ls c) j =
     let (a, b) = then_accepted (plan_rules p) (label_rules p ls) tt r in
     let (d, e, t) = bind_accepted (chart p ls) _ tt k in
     (a, b, e ∙ ap accepted (sym (same-chart c d (require-passed (same_chart c d) 12 0 t))))
+
+-- and what keeps the rules passes as an opened file must
+pub kept_judged : (s : Sheet) → Kept s → judge s ≡ passed
+unfolding judge
+kept_judged fresh h = refl
+kept_judged (opened p) h = h
+kept_judged (labelled p ls) h = passed_then (plan_rules p) (label_rules p ls) h.0 h.1
+kept_judged (charted p ls c) h =
+    let drawn = bind_at (chart p ls) c (λ (x : Chart). require (same_chart c x) 12 0) h.2 ∙ ap (λ (t : Bool). require t 12 0) (chart_itself c) in
+    passed_then (plan_rules p >> label_rules p ls) (chart p ls >>= λ (x : Chart). require (same_chart c x) 12 0) (passed_then (plan_rules p) (label_rules p ls) h.0 h.1) drawn
 
 -- ---- what an accepted call leaves: it keeps the rules, and it has a chart exactly if the call draws one
 pub record After (c : Call) (t : Sheet) : Type 0 where

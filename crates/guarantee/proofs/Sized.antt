@@ -66,30 +66,30 @@ offered_sized p ls ms e =
 swept_sized : (p : Plan) (ms : List ℕ) → plan_rules p ≡ passed → sweep p ≡ accepted ms → LabelsFit p ms
 swept_sized p ms k e = sweep_long p ms e ∙ (sound p k).total
 
--- ---- what an accepted call leaves
+-- ---- what an accepted call leaves: a sheet that fits into a file, which a fresh one does not
 after-labels : {A : Type 0} (o : Outcome A) (plan : A → Plan) (f : A → Outcome (List ℕ)) (t : Sheet) → ((a : A) → o ≡ accepted a → PlanFits (plan a)) → ((a : A) (ms : List ℕ) → o ≡ accepted a → f a ≡ accepted ms → LabelsFit (plan a) ms)
-    → (o >>= λ a. f a >>= λ ms. accepted (labelled (plan a) ms)) ≡ accepted t → Sized t
+    → (o >>= λ a. f a >>= λ ms. accepted (labelled (plan a) ms)) ≡ accepted t → Fits t
 after-labels o plan f t plans labels e =
     let (a, e₁, r) = bind_accepted o _ t e in
     let (ms, e₂, q) = bind_accepted (f a) _ t r in
-    subst Sized (same-value q) (plans a e₁, labels a ms e₁ e₂)
+    subst Fits (same-value q) (plans a e₁, labels a ms e₁ e₂)
 
-after-chart : (s t : Sheet) → Sized s → chart_call s ≡ accepted t → Sized t
+after-chart : (s t : Sheet) → Sized s → chart_call s ≡ accepted t → Fits t
 unfolding chart_call chart
 after-chart s t h e =
     let (a, e₁, r) = bind_accepted (labels_of s) _ t e in
     let (c, e₂, q) = bind_accepted (chart a.0 a.1) _ t r in
     let (k, l) = labels_sized s h a e₁ in
     let is = placed slope a.0 a.1 c (chart-is slope a.0 a.1 c e₂).keeps in
-    subst Sized (same-value q) (k, l, record { xs_each = is.count_x; ys_each = is.count_y })
+    subst Fits (same-value q) (k, l, record { xs_each = is.count_x; ys_each = is.count_y })
 
-leaves_sized : (s t : Sheet) (c : Call) → Kept s → Sized s → call s c ≡ accepted t → Sized t
+pub leaves_fits : (s t : Sheet) (c : Call) → Kept s → Sized s → call s c ≡ accepted t → Fits t
 unfolding call offer_call sweep_call turn_call
-leaves_sized s t (open_file b) k h e = fits_sized t (read_fits b t (open_accepted b t e).0)
-leaves_sized s t (offer_labels ls) k h e = after-labels (plan_of s) (λ p. p) (λ p. offered p ls) t (plan_sized s h) (λ p ms a. offered_sized p ls ms) e
-leaves_sized s t sweep-labels k h e = after-labels (plan_of s) (λ p. p) sweep t (plan_sized s h) (λ p ms a. swept_sized p ms (plan-kept s k p a)) e
-leaves_sized s t (turn_edges items d) k h e = after-labels (labels_of s) (λ a. a.0) (λ a. turn a.0 a.1 items d) t (λ a q. (labels_sized s h a q).0) (λ a ms q f. turn_long a.0 a.1 items d ms f ∙ (labels_sized s h a q).1) e
-leaves_sized s t draw_chart k h e = after-chart s t h e
+leaves_fits s t (open_file b) k h e = read_fits b t (open_accepted b t e).0
+leaves_fits s t (offer_labels ls) k h e = after-labels (plan_of s) (λ p. p) (λ p. offered p ls) t (plan_sized s h) (λ p ms a. offered_sized p ls ms) e
+leaves_fits s t sweep-labels k h e = after-labels (plan_of s) (λ p. p) sweep t (plan_sized s h) (λ p ms a. swept_sized p ms (plan-kept s k p a)) e
+leaves_fits s t (turn_edges items d) k h e = after-labels (labels_of s) (λ a. a.0) (λ a. turn a.0 a.1 items d) t (λ a q. (labels_sized s h a q).0) (λ a ms q f. turn_long a.0 a.1 items d ms f ∙ (labels_sized s h a q).1) e
+leaves_fits s t draw_chart k h e = after-chart s t h e
 
 -- ---- what keeps the rules and is as large as it should be fits the struct
 pub held_sized : (s : Sheet) → Kept s → Sized s → Held s
@@ -107,4 +107,4 @@ pub fresh_good : Good fresh
 fresh_good = record { kept = tt; sized = tt }
 
 pub leaves_good : (s t : Sheet) (c : Call) → Good s → call s c ≡ accepted t → Good t
-leaves_good s t c g e = record { kept = (leaves s t c g.kept e).kept; sized = leaves_sized s t c g.kept g.sized e }
+leaves_good s t c g e = record { kept = (leaves s t c g.kept e).kept; sized = fits_sized t (leaves_fits s t c g.kept g.sized e) }

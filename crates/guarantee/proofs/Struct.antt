@@ -28,7 +28,7 @@ unfolding answer_of
 answer_verdict (accepted t) = refl
 answer_verdict (refused k at) = refl
 
-taken_good : (s : Sheet) (c : Call) → Good s → Good (taken s (call s c))
+pub taken_good : (s : Sheet) (c : Call) → Good s → Good (taken s (call s c))
 unfolding taken
 taken_good s c g = go (call s c) refl
   where

@@ -66,7 +66,7 @@ module _ (t : file.Sheet) (f : Fits t) (d : List ℕ) where
   unfolding write_call
   write_there = let (p, e) = has-plan t f in bind_at (plan_of t) p (λ (q : Plan). room >> given) e
 
-  write_room : length b ≤ length d → write_call t d ≡ given
+  pub write_room : length b ≤ length d → write_call t d ≡ given
   write_room h = write_there ∙ then_at room tt given (ap (λ (v : Bool). require v 16 (length b)) (le-leb (length b) (length d) h))
 
   write_given : (k : ℕ) (d' : List ℕ) → write_call t d ≡ accepted (k, d') → take k d' ≡ b
@@ -76,9 +76,9 @@ module _ (t : file.Sheet) (f : Fits t) (d : List ℕ) where
       ap (λ (r : ℕ × List ℕ). take r.0 r.1) (sym same) ∙ take-append_seam b (drop (length b) d)
 
 -- what was written opens
-opens : (t : file.Sheet) → Fits t → judge t ≡ passed → open_call (encode t) ≡ accepted t
+pub encode-opens : (t : file.Sheet) → Fits t → judge t ≡ passed → open_call (encode t) ≡ accepted t
 unfolding open_call
-opens t f e = bind_at (decode (encode t)) t (λ (s : file.Sheet). judge s >> accepted s) (written_read t f) ∙ then_at (judge t) tt (accepted t) e
+encode-opens t f e = bind_at (decode (encode t)) t (λ (s : file.Sheet). judge s >> accepted s) (written_read t f) ∙ then_at (judge t) tt (accepted t) e
 
 -- THERE AND BACK: what write gives for the struct of a sheet that keeps the rules is opened, and leaves that struct, whatever was there before
 pub written-opens : (t : file.Sheet) → Fits t → judge t ≡ passed → (s : Sheet) (d d' : List ℕ) (k : ℕ) → write_call (reads (packed t)) d ≡ accepted (k, d')
@@ -86,7 +86,7 @@ pub written-opens : (t : file.Sheet) → Fits t → judge t ≡ passed → (s : 
 unfolding answer_of after
 written-opens t f e s d d' k q =
     let same = write_given t f d k d' (ap (λ (u : file.Sheet). write_call u d) (sym (reads-packed t (judged_held t f e))) ∙ q) in
-    let o : open_call (take k d') ≡ accepted t = ap open_call same ∙ opens t f e in
+    let o : open_call (take k d') ≡ accepted t = ap open_call same ∙ encode-opens t f e in
     (ap answer_of o, ap (after s) o)
 
 -- and write does give it, in every buffer that has the room
