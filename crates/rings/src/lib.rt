@@ -17,6 +17,9 @@ pub const SOUTH: u16 = 2;
 
 pub const WEST: u16 = 3;
 
+// The most contexts for which a small table, of 20 rows of 200, has a row each.
+pub const FEW_CONTEXTS: usize = 20;
+
 // A plan in flat arrays: the number of its contexts, the size of each ring, and the entries of all rings in context order.
 #[derive(Clone, Copy)]
 pub struct Table<'a> {
