@@ -55,9 +55,9 @@ impl<'a> Framed<'a> {
             sizes: &self.layout.sizes,
             n: self.layout.n,
         };
-        single::rule4(&rings)?;
-        single::rule5(&rings)?;
-        mutual::rule6(&rings)?;
+        file_ring_rules::rule4(&rings)?;
+        file_ring_rules::rule5(&rings)?;
+        file_ring_rules::rule6(&rings)?;
         if self.is_due() {
             Ok(())
         } else {

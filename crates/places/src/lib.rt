@@ -7,7 +7,7 @@ ghost use Rattle.model.specs.Plan.{ring, adjacent};
 ghost use Rattle.rings.specs.Tables.{plan_of};
 ghost use Rattle.places.specs.Places.{noted, filled, Finds};
 
-use rings::{Ringed, Rings};
+use rings::Rings;
 
 // Rings with a table in which the place of each of their entries stands.
 #[derive(Clone, Copy)]
@@ -18,7 +18,7 @@ pub struct Located<'a> {
 }
 
 // A number noted for the entry v of u's ring, where none is noted yet; rings and entries from 200 on are passed over.
-fn note(table: &mut [u8], u: usize, v: usize, x: u8)
+pub fn note(table: &mut [u8], u: usize, v: usize, x: u8)
     ensures { table.new ≡ noted table.old u v x }
 {
     if let Some(at) = rings::cell(u, v) {
@@ -50,27 +50,6 @@ pub fn fill(table: &mut [u8], rings: &Rings)
             }
         }
     }
-}
-
-// The positions of the rings' entries, in the cells of a table that are 0: the same for rings wherever they stand.
-fn fill_from<R: Ringed>(table: &mut [u8], rings: &R)
-    ensures { table.new ≡ filled (R.plan rings.now) table.old }
-{
-    let m = rings.count().min(200);
-    for u in 0..m {
-        for i in 0..rings.size_of(u) {
-            note(table, u, rings.neighbour_at(u, i), i as u8 + 1);
-        }
-    }
-}
-
-// A table in which the place of each of the rings' entries stands.
-pub fn table<R: Ringed>(rings: &R) -> [u8; 40000]
-    ensures { Finds result (R.plan rings.now) }
-{
-    let mut table = [0u8; 40000];
-    fill_from(&mut table, rings);
-    table
 }
 
 impl Located<'_> {

@@ -20,9 +20,9 @@ fn place_of(rule: Result<(), Refusal>, kept: usize) -> usize {
 // The places that rules 4, 5 and 6 give; whether all are kept.
 fn print_lent_rules(rings: &LentRings) -> bool {
     let n = rings.n;
-    let four = single::rule4(rings);
-    let five = single::rule5(rings);
-    let six = mutual::rule6(rings);
+    let four = file_ring_rules::rule4(rings);
+    let five = file_ring_rules::rule5(rings);
+    let six = file_ring_rules::rule6(rings);
     console::print(format_args!(
         " 4:{} 5:{} 6:{} entries {}",
         place_of(four, n),
@@ -155,6 +155,21 @@ fn print_labels(plan: &Table, labels: &[u8], record: Option<&[u8]>) {
     }
 }
 
+// The entries of all rings, in context order, and zeros behind them; of more than 1,186, the first 1,186.
+fn entries_of(rings: &LentRings) -> [u16; 1186] {
+    let mut entries = [0u16; 1186];
+    let mut at = 0;
+    for u in 0..rings.n {
+        for _ in 0..rings.size_of(u) {
+            if at < 1186 {
+                entries[at] = arrays::word_at(rings.file, rings::entry_offset(u, at));
+                at += 1;
+            }
+        }
+    }
+    entries
+}
+
 // A file with its layout.
 #[derive(Clone, Copy)]
 struct Framed<'a> {
@@ -202,7 +217,7 @@ impl<'a> Framed<'a> {
         if print_lent_rules(&lent) {
             let plan = Table {
                 sizes: &layout.sizes,
-                entries: &lent.entries(),
+                entries: &entries_of(&lent),
                 n: layout.n,
             };
             self.print_flat(&plan, &plan.rings(&starts));

@@ -1,0 +1,18 @@
+-- is_listed meets its contract.
+use mathlib.Core.Path.{refl, ◌∙◌}
+use Rattle.lent.specs.Plans.{lent_of}
+use Rattle.places.proofs.Look.{cell-told, adjacent-cell}
+use Rattle.file_ring_rules.proofs.Whole.{whole_adjacent}
+use Rattle.file_ring_rules.proofs.located.Located.is_listed.Goals as goal
+
+pub returns-in-Some : goal.returns-in-Some
+returns-in-Some c =
+    let a = c.args in
+    let s = a.self.now in
+    adjacent-cell (lent_of s.rings) a.u a.v (cell-told _ _ s.own a.u a.v c.cell.ensures c.in-Some.is c.num.ensures.value)
+
+pub returns-in-None : goal.returns-in-None
+returns-in-None c =
+    let a = c.args in
+    let r = a.self.now.rings in
+    c.is_from.ensures ∙ whole_adjacent r.starts.now r.sizes.now r.file.now r.n a.u a.v _ refl
