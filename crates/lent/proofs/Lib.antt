@@ -1,3 +1,2 @@
 pub mod Rings
 pub mod Copied
-pub mod Entries

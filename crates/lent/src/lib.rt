@@ -1,16 +1,13 @@
 // Rings in a lent file: look-ups where the rings stand, before anything is copied. The file may hold more entries than the flat arrays.
 #![tactic(auto)]
 
-ghost use Rattle.std.specs.Prelude.{◌≡◌, ◌+◌, ◌*◌, ◌<◌, ◌^◌, get_or, take};
-ghost use Rattle.lists.specs.Parts.{concat};
+ghost use Rattle.std.specs.Prelude.{◌≡◌, ◌+◌, ◌*◌, ◌<◌, ◌^◌, get_or};
 ghost use Rattle.lists.specs.Tests.{member};
-ghost use Rattle.lists.specs.Spans.{span, padded};
+ghost use Rattle.lists.specs.Spans.{span};
 ghost use Rattle.model.specs.Plan.{ring};
 ghost use Rattle.rings.specs.Tables.{size_of};
 ghost use Rattle.rings.specs.Lent.{body_at};
 ghost use Rattle.lent.specs.Plans.{lent_of};
-
-use rings::Ringed;
 
 // Rings in a lent file: the file, where each ring begins among the entries of all, the size of each, and how many contexts there are.
 #[derive(Clone, Copy)]
@@ -56,42 +53,5 @@ impl LentRings<'_> {
         ensures { result ≡ member v (span (ring (lent_of self.now) u) a (size_of self.now.sizes.now self.now.n u)) }
     {
         (a..self.size_of(u)).any(|i| v == self.neighbour_at(u, i))
-    }
-
-    // The entries of all rings, in context order, and zeros behind them; of more than 1,186, the first 1,186.
-    #[tactic(auto, using(crate::proofs::Entries::entry_steps))]
-    pub fn entries(&self) -> [u16; 1186]
-        ensures { result ≡ padded 1186 (take 1186 (concat (lent_of self.now).rings)) }
-    {
-        let mut entries = [0u16; 1186];
-        let mut at = 0;
-        for u in 0..self.n {
-            for i in 0..self.size_of(u) {
-                if at == 1186 {
-                    return entries;
-                }
-                entries[at] = self.entry_at(u, i);
-                at += 1;
-            }
-        }
-        entries
-    }
-}
-
-impl Ringed for LentRings<'_> {
-    ghost plan = { lent_of };
-
-    #[tactic(auto, using(crate::proofs::Rings::look_ups))]
-    fn count(&self) -> usize {
-        self.n
-    }
-
-    #[tactic(auto, using(crate::proofs::Rings::look_ups))]
-    fn size_of(&self, u: usize) -> usize {
-        self.size_of(u)
-    }
-
-    fn neighbour_at(&self, u: usize, i: usize) -> usize {
-        self.neighbour_at(u, i)
     }
 }

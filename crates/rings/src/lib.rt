@@ -1,7 +1,7 @@
-// Rings in flat arrays: where they begin, their sizes and their neighbours by place, each equal to a definition of the model on the plan that the arrays hold. Rings wherever they stand (Ringed), and the cell of a pair in a table of 200 rows of 200, are here too.
+// Rings in flat arrays: where they begin, their sizes and their neighbours by place, each equal to a definition of the model on the plan that the arrays hold. The cell of a pair in a table of 200 rows of 200 is here too.
 #![tactic(auto)]
 
-ghost use Rattle.std.specs.Prelude.{◌≡◌, ◌+◌, ◌-◌, min, ◌<◌, ◌^◌, get_or, length};
+ghost use Rattle.std.specs.Prelude.{◌≡◌, ◌+◌, ◌-◌, min, ◌<◌, ◌^◌, get_or};
 ghost use Rattle.model.specs.Plan.{Plan, count, dart_count, labels_due, neighbour, ring};
 ghost use Rattle.model.specs.File.{entry_offset};
 ghost use Rattle.rings.specs.Tables.{size_of, starts_of, plan_of, cell};
@@ -155,40 +155,5 @@ impl Rings<'_> {
         ensures { result ≡ get_or (ring (plan_of self.now) u) i 0 }
     {
         neighbour_of(usize::from(self.entry_at(u, i)))
-    }
-}
-
-// Rings wherever they stand, by the plan that they are.
-pub trait Ringed {
-    // the plan
-    ghost plan: { Self → Plan };
-
-    // How many contexts there are.
-    fn count(&self) -> usize
-        ensures { result ≡ count (plan self.now) };
-
-    // The size of u's ring.
-    fn size_of(&self, u: usize) -> usize
-        ensures value { result ≡ length (ring (plan self.now) u) }
-        ensures upper_bound { result < 2 ^ 8 };
-
-    // The i-th neighbour in u's ring; 0 past its end.
-    fn neighbour_at(&self, u: usize, i: usize) -> usize
-        ensures { result ≡ get_or (ring (plan self.now) u) i 0 };
-}
-
-impl Ringed for Rings<'_> {
-    ghost plan = { plan_of };
-
-    fn count(&self) -> usize {
-        self.n
-    }
-
-    fn size_of(&self, u: usize) -> usize {
-        self.size_of(u)
-    }
-
-    fn neighbour_at(&self, u: usize, i: usize) -> usize {
-        self.neighbour_at(u, i)
     }
 }
