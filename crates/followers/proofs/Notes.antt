@@ -73,10 +73,6 @@ module _ {u z e i after : ℕ} {es : List ℕ} {s₀ s : Noted} (inv : Back u z 
   pub back_end : {a : ℕ} → i ≡ a → Leaves s.0 s.1 (note_ring u z (map neighbour (span es a e)) s₀)
   back_end q = parts (sym (inv.same ∙ ap (λ (k : ℕ). note_ring u z (map neighbour (span es k e)) s₀) q))
 
-  -- the table is as long as it was
-  pub back_long : length s.0 ≡ length s₀.0
-  back_long = ap (λ (s : Noted). length s.0) inv.same ∙ ring_long u z (map neighbour (span es i e)) s₀
-
 -- ---- one ring of a plan
 abbrev pub row : Plan → ℕ → Noted → Noted
 row p u = note_ring u (get_or (ring p u) 0 0) (ring p u)

@@ -4,7 +4,7 @@ use mathlib.Core.Path.{◌≡◌, refl, sym, ap, ◌∙◌}
 use mathlib.Core.List.{List, [], ◌∷◌}
 use mathlib.Core.Bool.{Bool, true, false, cond, ◌&&◌, ◌||◌, false≢true, true≢false}
 use native.Mathlib.Omega.{arith}
-use lib.ListN.{length, get_or, set}
+use lib.ListN.{length, get_or, set, get_or-eq_default}
 use lib.Seq.{get_or-set_same, get_or-set_other}
 use lib.Arith.{lt_of_le-ne}
 use lib.Dec.{eqb, ltb}
@@ -213,14 +213,9 @@ next-mark v r e = go (ltb (suc i) (length r)) refl
     one : i + 1 ≡ suc i
     one = omega arith
 
-    beyond : (l : List ℕ) (k d : ℕ) → length l ≤ k → get_or l k d ≡ d
-    beyond [] k d h = refl
-    beyond (a ∷ l) zero d h = absurd (omega arith)
-    beyond (a ∷ l) (suc k) d h = beyond l k d (omega arith)
-
     go : (b : Bool) → ltb (suc i) (length r) ≡ b → get_or r (suc i) (get_or r 0 0) ≡ next v r
     go true q = let h = ltb-true (suc i) (length r) q in get_d_any r (suc i) (get_or r 0 0) 0 h ∙ ap (λ (k : ℕ). get_or r k 0) (sym one) ∙ next-after v r i (length r) refl refl (omega arith)
-    go false q = let h = ltb-false (suc i) (length r) q in beyond r (suc i) (get_or r 0 0) h ∙ last h (ltb 0 i) refl
+    go false q = let h = ltb-false (suc i) (length r) q in get_or-eq_default r (get_or r 0 0) h ∙ last h (ltb 0 i) refl
       where
         last : length r ≤ suc i → (b : Bool) → ltb 0 i ≡ b → get_or r 0 0 ≡ next v r
         last h true f = next_round v r i (length r) refl refl (omega arith) (ltb-true 0 i f)

@@ -1,7 +1,7 @@
 -- The entries of a lent file, copied in order: the flat arrays hold the plan that the file holds.
-use Prim.Native.Nat.{ℕ, zero, suc, ◌+◌, ◌-◌, ◌≤◌, ◌<◌}
+use Prim.Native.Nat.{ℕ, zero, suc, ◌-◌, ◌≤◌, ◌<◌}
 use mathlib.Core.Path.{◌≡◌, sym, ap, ◌∙◌}
-use mathlib.Core.List.{List, [], ◌++◌, map, append-nil}
+use mathlib.Core.List.{List, [], ◌++◌, map}
 use native.Mathlib.Omega.{arith}
 use lib.ListN.{length, get_or, take}
 use lib.Seq.{take-length}
@@ -9,7 +9,6 @@ use Rattle.lists.specs.Ranges.{from}
 use Rattle.lists.specs.Parts.{concat}
 use Rattle.lists.specs.Spans.{stretch, zeros, padded}
 use Rattle.lists.proofs.Ranges.{length-map-from, get_or-map-from}
-use Rattle.lists.proofs.Spans.{get_or-stretch}
 use Rattle.lists.proofs.Stretches.{length-joined-more, stretch-joined, map-from-same}
 use Rattle.model.specs.Plan.{Plan, entry_count}
 use Rattle.rings.specs.Tables.{start_of, starts_of, rows, table}
@@ -34,16 +33,6 @@ module _ (f : ℕ → List ℕ) (sizes : List ℕ) (n : ℕ) (long : (u : ℕ) �
       let s = start-more sizes u in
       let k = ap length (ring-at u h) ∙ long u in
       omega arith
-
-  -- entry i of u's ring among all entries
-  pub entry-joined : (u i : ℕ) → u < n → i < get_or sizes u 0 → get_or (concat all-rings) (start_of sizes u + i) 0 ≡ get_or (f u) i 0
-  entry-joined u i h l =
-      let r = get_or all-rings u [] in
-      let size : length r ≡ get_or sizes u 0 = ap length (ring-at u h) ∙ long u in
-      let s = start-joined u (omega arith) in
-      (λ t. get_or (sym (append-nil (concat all-rings)) t) (s t + i) 0)
-      ∙ sym (get_or-stretch (concat all-rings ++ []) (length (concat (take u all-rings))) (length r) i (omega arith))
-      ∙ ap (λ (m : List ℕ). get_or m i 0) (stretch-joined all-rings [] u ∙ ring-at u h)
 
   -- all rings together have as many entries as their sizes add up to
   total-joined : length (concat all-rings) ≡ start_of sizes n

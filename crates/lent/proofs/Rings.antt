@@ -1,7 +1,7 @@
 -- The ring of a context as it stands in a lent file, look-ups in it, and how many entries all rings have.
 use Prim.Native.Nat.{ℕ, zero, suc, ◌+◌, ◌-◌, ◌*◌, ◌^◌, min, ◌≤◌, ◌<◌}
 use mathlib.Core.Path.{◌≡◌, refl, sym, ap, ◌∙◌}
-use mathlib.Core.List.{List, map}
+use mathlib.Core.List.{List}
 use mathlib.Core.Logic.{◌⊎◌, inl, inr}
 use native.Mathlib.Omega.{arith}
 use lib.ListN.{length, get_or}
@@ -9,10 +9,10 @@ use Rattle.lists.specs.Spans.{span}
 use Rattle.lists.proofs.Ranges.{lt-or-le}
 use Rattle.lists.proofs.Spans.{past_word}
 use Rattle.lists.proofs.Stretches.{span_whole}
-use Rattle.model.specs.Plan.{count, neighbour, entries, ring}
+use Rattle.model.specs.Plan.{count, neighbour, ring}
 use Rattle.rings.specs.Tables.{size_of}
 use Rattle.rings.specs.Lent.{words_at, body_at, lent}
-use Rattle.rings.proofs.Made.{Reads, entries-made, ring-made, count-made, size-made, past-made, at-made}
+use Rattle.rings.proofs.Made.{Reads, count-made, size-made, past-made, at-made}
 
 -- the number of two bytes at an offset
 abbrev pub word_of : List ℕ → ℕ → ℕ
@@ -43,18 +43,6 @@ unfolding words_at
 lent_reads starts file = record { none = λ u. refl; long = λ u k. length-words-at file (body_at starts u) k; at = λ u k i h. get_or-words-at file (body_at starts u) k i h }
 
 module _ (starts sizes file : List ℕ) (n : ℕ) where
-  abbrev Body : ℕ → List ℕ
-  Body u = words_at file (body_at starts u) (size_of sizes n u)
-
-  -- u's ring as it is given, for every u
-  pub entries-lent : (u : ℕ) → entries (lent starts sizes file n) u ≡ Body u
-  unfolding lent
-  entries-lent u = entries-made (lent_reads starts file) sizes n u
-
-  pub ring-lent : (u : ℕ) → ring (lent starts sizes file n) u ≡ map neighbour (Body u)
-  unfolding lent
-  ring-lent u = ring-made (lent_reads starts file) sizes n u
-
   pub count-lent : count (lent starts sizes file n) ≡ n
   unfolding lent
   count-lent = count-made (lent_reads starts file) sizes n

@@ -55,11 +55,6 @@ module _ {file before now : List ℕ} {at i : ℕ} (inv : Copied file at i befor
             ∙ ap (λ (j : ℕ). words_at file at j ++ drop j before) (sym e);
       }
 
-  pub copied_end : i ≡ length before → now ≡ words_at file at (length before)
-  copied_end e =
-      let whole : length before ≤ length before = omega arith in
-      inv.same ∙ ap (λ (j : ℕ). words_at file at j ++ drop j before) e ∙ ap (words_at file at (length before) ++◌) (drop_of_length-le before whole) ∙ append-nil (words_at file at (length before))
-
 -- all that is left from an offset on, or from the end
 pub rest-from : (s : List ℕ) (at : ℕ) {from : ℕ} → from ≡ min at (length s) → take (length s - from) (drop from s) ≡ drop at s
 rest-from s at {from} e = take_all (length s - from) (drop from s) (omega (arith, length-drop from s)) ∙ go (lt-or-le at (length s))

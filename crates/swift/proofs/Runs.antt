@@ -4,7 +4,8 @@ use mathlib.Core.Path.{◌≡◌, sym, ap, ◌∙◌, subst}
 use mathlib.Core.List.{List}
 use mathlib.Core.Bool.{Bool, true, false, cond}
 use native.Mathlib.Omega.{arith}
-use lib.ListN.{length, take, length-take}
+use lib.ListN.{length, take}
+use lib.Seq.{length-take-le}
 use Rattle.std.specs.Prelude.{Option, Some, None}
 use Rattle.model.specs.Outcome.{Outcome, accepted, refused, ◌>>=◌}
 use Rattle.model.specs.Plan.{Plan}
@@ -22,10 +23,6 @@ use Rattle.swift.specs.Courses.{Holds}
 use Rattle.swift.specs.Moves.{Steps}
 use Rattle.swift.specs.Picks.{picked_as, Listed}
 use Rattle.swift.specs.Running.{Running, Takes, Settles}
-
--- the front of a list has its length
-pub take_long : (q : ℕ) (l : List ℕ) → q ≤ length l → length (take q l) ≡ q
-take_long q l h = let z = length-take q l in omega arith
 
 module _ {p : Plan} (rules : Sound p) where
   -- ---- the search
@@ -105,7 +102,7 @@ module _ {p : Plan} (rules : Sound p) where
     pub take_resumes : {limit : ℕ} → d.q ≤ length array → limit ≡ suc (suc (reach p (advance p st i j).frontier (i + 1 + d.q))) → limit ≡ resume p st i j
     unfolding resume landing
     take_resumes room z =
-        let at : i + 1 + d.q ≡ suc i + length (listed p st.frontier i j) = omega (arith, sym (take_long d.q array room) ∙ ap length (t.lists.same ∙ sym own-list)) in
+        let at : i + 1 + d.q ≡ suc i + length (listed p st.frontier i j) = omega (arith, sym (length-take-le d.q array room) ∙ ap length (t.lists.same ∙ sym own-list)) in
         z ∙ ap (λ (n : ℕ). suc (suc (reach p (advance p st i j).frontier n))) at
 
     -- what the sweep has come to afterwards

@@ -2,7 +2,7 @@
 use Prim.Native.Nat.{ℕ, suc, ◌+◌, ◌-◌, ◌≤◌, ◌<◌}
 use mathlib.Core.Path.{◌≡◌, refl, sym, ap, ◌∙◌}
 use mathlib.Core.List.{List, Memᴰ}
-use mathlib.Core.Bool.{Bool, true, false, not, ◌&&◌}
+use mathlib.Core.Bool.{Bool, true, false, not, ◌&&◌, not-not}
 use mathlib.Core.Logic.{◌⊎◌, inl, inr}
 use native.Mathlib.Omega.{arith}
 use lib.ListN.{length, get_or}
@@ -31,10 +31,6 @@ module _ (p : Plan) (rules : Sound p) (f marks : List ℕ) (once : Once f) (smal
   -- a context of the ring is one of the line exactly where it is marked
   marked : (u w : ℕ) → Memᴰ w (ring p u) → not (eqb (get_or marks w 0) 0) ≡ member w f
   marked u w m = ap not (on.mark w (small u w m)) ∙ not-not (member w f)
-    where
-      not-not : (b : Bool) → not (not b) ≡ b
-      not-not true = refl
-      not-not false = refl
 
   abbrev at : ℕ → ℕ
   at k = get_or f k 0

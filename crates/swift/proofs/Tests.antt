@@ -2,7 +2,7 @@
 use Prim.Native.Nat.{ℕ, suc, ◌-◌, ◌≤◌, ◌<◌, min}
 use mathlib.Core.Path.{◌≡◌, refl, sym, ap, ◌∙◌}
 use mathlib.Core.List.{List, [], ◌∷◌, ◌++◌, reverse}
-use mathlib.Core.Bool.{Bool, true, false, cond, not, ◌&&◌}
+use mathlib.Core.Bool.{Bool, true, false, cond, not, ◌&&◌, not-not, and-false}
 use mathlib.Core.Logic.{◌⊎◌, inl, inr}
 use native.Mathlib.Omega.{arith}
 use lib.ListN.{length, get_or, take, drop}
@@ -65,24 +65,16 @@ module _ (v : Course) (p : Plan) (i j : ℕ) (l : List ℕ) where
     -- an entry may not be on it
     pub good_unfair : a ≡ false → false ≡ good_on v p i j l
     unfolding good_on
-    good_unfair e = sym (ap (λ (t : Bool). not (empty l) && (t && chordless p l)) (sym told ∙ e) ∙ go (not (empty l)))
-      where
-        go : (t : Bool) → (t && false) ≡ false
-        go true = refl
-        go false = refl
+    good_unfair e = sym (ap (λ (t : Bool). not (empty l) && (t && chordless p l)) (sym told ∙ e) ∙ and-false (not (empty l)))
 
     -- it is what its chords are
     pub good_told : {b : Bool} → (length l ≡ 0 → ⊥) → a ≡ true → b ≡ not (chordless p l) → not b ≡ good_on v p i j l
     unfolding good_on
-    good_told n e c = ap not c ∙ twice (chordless p l) ∙ sym (λ t. not (some l n t) && ((sym told ∙ e) t && chordless p l))
+    good_told n e c = ap not c ∙ not-not (chordless p l) ∙ sym (λ t. not (some l n t) && ((sym told ∙ e) t && chordless p l))
       where
         some : (l : List ℕ) → (length l ≡ 0 → ⊥) → empty l ≡ false
         some [] n = absurd (n refl)
         some (c ∷ l) n = refl
-
-        twice : (t : Bool) → not (not t) ≡ t
-        twice true = refl
-        twice false = refl
 
 -- ---- the course that holds a state
 module _ {p : Plan} {s : State} {cnt : List ℕ} {v : Course} (h : Holds p s cnt v) where
