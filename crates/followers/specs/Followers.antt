@@ -1,6 +1,6 @@
 -- The table of followers of a plan: which context comes after each entry of each ring, for rings and entries below 200; and look-ups in it.
 -- A ring is noted from its last entry to its first, so that of equal entries the first one counts.
-use Rattle.std.specs.Prelude.{ℕ, suc, ◌+◌, ◌*◌, min, List, [], ◌∷◌, Bool, true, cond, ◌&&◌, get_or, set, eqb, ltb}
+use Rattle.std.specs.Prelude.{ℕ, suc, min, List, [], ◌∷◌, Bool, true, cond, ◌&&◌, get_or, set, eqb}
 use Rattle.lists.specs.Folds.{through}
 use Rattle.lists.specs.Spans.{zeros}
 use Rattle.model.specs.Plan.{Plan, count, ring}
