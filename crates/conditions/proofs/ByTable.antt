@@ -1,25 +1,33 @@
--- The label that is found by a table of labels, and a ring with its labels where they stand in the arrays: by the plan's own table they are what the model says.
+-- The rings of a plan that fits with a table of labels, filled: each entry has a cell, in which the mark of its label stands; and a ring with its labels, where they stand in the arrays.
 use Prim.Native.Nat.{ℕ, zero, suc, ◌+◌, ◌-◌, ◌*◌, ◌≤◌, ◌<◌}
 use mathlib.Core.Path.{◌≡◌, refl, sym, ap, ◌∙◌}
 use mathlib.Core.List.{List, [], ◌∷◌, map}
 use mathlib.Core.Bool.{Bool, true, false, cond}
 use native.Mathlib.Omega.{arith}
-use lib.ListN.{length, get_or, take, drop}
+use lib.ListN.{replicate, length, get_or, take, drop}
 use lib.Dec.{ltb}
 use lib.Seq.{slice, take-nil}
-use borrow.Author.Tests.{ltb-true, ltb-false, lt-ltb}
-use Rattle.lists.specs.Tests.{member}
+use borrow.Author.Tests.{ltb-true, ltb-false}
+use Rattle.lists.specs.Tests.{any, member}
+use Rattle.lists.specs.Folds.{some_within}
 use Rattle.lists.specs.Parts.{index_of}
-use Rattle.lists.specs.Spans.{stretch, span, zeros}
-use Rattle.model.specs.Plan.{Plan, neighbour, ring}
-use Rattle.model.specs.Labels.{unlabelled, labels_around, label_of}
+use Rattle.lists.specs.Spans.{stretch, zeros}
+use Rattle.lists.proofs.Chains.{any_some, any_entry}
+use Rattle.lists.proofs.Spans.{length-zeros}
+use Rattle.lists.proofs.Tests.{any-map}
+use Rattle.model.specs.Plan.{Plan, count, neighbour, ring}
+use Rattle.model.specs.Labels.{unlabelled, start, labels_around, label_of}
+use Rattle.model.proofs.Eligible.{get_or-mem}
+use Rattle.model.proofs.Plans.{adjacent-from, mem-adjacent}
 use Rattle.rings.specs.Tables.{starts_of, size_of, table, plan_of}
 use Rattle.rings.specs.declared.Rings.{Rings}
-use Rattle.rings.proofs.Rows.{size_outside, ring-rows, ring-size, member_index}
+use Rattle.rings.proofs.Rows.{size_outside, count-rows, ring-rows, ring-size, ring-at, member_index}
+use Rattle.fit.specs.Fits.{fit}
+use Rattle.fit.proofs.Fits.{fit-says}
 use Rattle.places.specs.Places.{cell}
 use Rattle.labels.proofs.Places.{is-table, start-held, size-rows, label_there, label_none}
-use Rattle.conditions.specs.LabelBy.{mark, labelled, mark_by, around_by}
-use Rattle.conditions.proofs.Noted.{labelled_cell}
+use Rattle.conditions.specs.LabelBy.{mark, labelled, Marked}
+use Rattle.conditions.proofs.Noted.{labelled-long, labelled_cell}
 
 drop-take : (s k : ℕ) (l : List ℕ) → drop s (take (s + k) l) ≡ take k (drop s l)
 drop-take zero k l = let z : 0 + k ≡ k = omega arith in rw z
@@ -31,60 +39,87 @@ mark-none : mark unlabelled ≡ 0
 unfolding mark
 mark-none = refl
 
-module _ (r : Rings) (same : r.starts.now ≡ starts_of r.sizes.now) (small : r.n ≤ 200) (ls : List ℕ) where
-  -- the plan of the rings, by their sizes alone
-  abbrev P : Plan
-  P = table r.sizes.now r.entries.now r.n
+module _ (r : Rings) (fits : fit (plan_of r) ≡ true) where
+  -- there are as many contexts as the rings say
+  pub counted : count (plan_of r) ≡ r.n
+  counted = count-rows r.starts.now r.sizes.now r.entries.now r.n
 
-  -- By the plan's own table, with a row for each context, the mark that is found for contexts below 200 is that of the dart's label
-  pub mark_own : {k : ℕ} → 200 * r.n ≤ k → {t : List ℕ} → t ≡ labelled r ls (zeros k) → (u v : ℕ) → u < 200 → v < 200 → mark_by t u v ≡ mark (label_of P ls u v)
-  unfolding mark_by
-  mark_own {k} room {t} own u v h l = rw (lt-ltb u 200 h, lt-ltb v 200 l) (ap (λ (s : List ℕ). get_or s (cell u v) 0) own ∙ labelled_cell r ls small room u v h l ∙ go (member v (ring (plan_of r) u)) refl)
-    where
-      i : ℕ
-      i = index_of v (ring (plan_of r) u)
+  -- at most 200
+  pub few : r.n ≤ 200
+  few = let h = (fit-says (plan_of r) fits).few in let c = counted in omega arith
 
-      j : ℕ
-      j = get_or r.starts.now u 0 + i
+  -- only a context has entries, and each of them is one
+  pub entry_low : (u i : ℕ) {a e : ℕ} → a ≡ get_or r.starts.now u 0 → e ≡ get_or r.starts.now u 0 + size_of r.sizes.now r.n u → a ≤ i → i < e → (u < r.n) × (neighbour (get_or r.entries.now i 0) < r.n)
+  entry_low u i {a} {e} from to h l =
+      let size = ring-size r.starts.now r.sizes.now r.entries.now r.n u in
+      let z : get_or r.starts.now u 0 + (i - a) ≡ i = omega arith in
+      let m = get_or-mem (ring (plan_of r) u) (i - a) (omega arith) in
+      let low = (fit-says (plan_of r) fits).inside u (get_or (ring (plan_of r) u) (i - a) 0) m in
+      let there = adjacent-from (plan_of r) u (get_or (ring (plan_of r) u) (i - a) 0) (mem-adjacent (plan_of r) u (get_or (ring (plan_of r) u) (i - a) 0) m) in
+      let is = ring-at r.starts.now r.sizes.now r.entries.now r.n u (i - a) (omega arith) ∙ ap (λ (j : ℕ). neighbour (get_or r.entries.now j 0)) z in
+      let c = counted in
+      (omega arith, omega arith)
 
-      m : ℕ
-      m = length (ring (plan_of r) u)
+  module _ (same : r.starts.now ≡ starts_of r.sizes.now) (ls : List ℕ) where
+    -- in a table that was all zeros, with a row for each context, the marks of all labels stand
+    cell_own : {k : ℕ} → 200 * r.n ≤ k → (u v : ℕ) → u < 200 → v < 200 → get_or (labelled r ls (zeros k)) (cell u v) 0 ≡ mark (label_of (plan_of r) ls u v)
+    cell_own room u v h l = labelled_cell r ls few room u v h l ∙ go (member v (ring (plan_of r) u)) refl ∙ ap (λ (p : Plan). mark (label_of p ls u v)) (sym (is-table r.starts.now r.sizes.now r.entries.now r.n same few))
+      where
+        P : Plan
+        P = table r.sizes.now r.entries.now r.n
 
-      size : m ≡ size_of r.sizes.now r.n u
-      size = ring-size r.starts.now r.sizes.now r.entries.now r.n u
+        i : ℕ
+        i = index_of v (ring (plan_of r) u)
 
-      inside : member v (ring (plan_of r) u) ≡ ltb i m
-      inside = member_index v (ring (plan_of r) u)
+        j : ℕ
+        j = get_or r.starts.now u 0 + i
 
-      go : (b : Bool) → member v (ring (plan_of r) u) ≡ b → cond (member v (ring (plan_of r) u)) (mark (get_or ls j unlabelled)) 0 ≡ mark (label_of P ls u v)
-      go true q =
-          let there = label_there r.starts.now r.sizes.now r.entries.now r.n same small u v refl refl size ls (ltb-true i m (sym inside ∙ q)) in
-          ap (λ (b : Bool). cond b (mark (get_or ls j unlabelled)) 0) q ∙ ap mark there
-      go false q =
-          let none = label_none r.starts.now r.sizes.now r.entries.now r.n same small u v refl refl size ls (ltb-false i m (sym inside ∙ q)) in
-          ap (λ (b : Bool). cond b (mark (get_or ls j unlabelled)) 0) q ∙ sym mark-none ∙ ap mark none
+        m : ℕ
+        m = length (ring (plan_of r) u)
 
-  -- a dart that leaves no context has no label
-  pub label_outside : (u v : ℕ) → r.n ≤ u → label_of P ls u v ≡ unlabelled
-  label_outside u v h =
-      sym (label_none r.starts.now r.sizes.now r.entries.now r.n same small u v {s = get_or r.starts.now u 0} {i = index_of v (ring (plan_of r) u)} {k = 0} refl refl (sym (size_outside r.sizes.now r.n u h)) ls (omega arith))
+        size : m ≡ size_of r.sizes.now r.n u
+        size = ring-size r.starts.now r.sizes.now r.entries.now r.n u
 
-  -- the labels around u
-  pub around_own : (u : ℕ) → u < r.n → around_by r ls u ≡ labels_around P ls u
-  unfolding around_by labels_around
-  around_own u h =
-      (λ j. take (sym (size-rows r.starts.now r.sizes.now r.entries.now r.n same small u) j) (drop (start-held r.starts.now r.sizes.now r.entries.now r.n same small u h j) ls))
-      ∙ ap (λ (p : Plan). labels_around p ls u) (is-table r.starts.now r.sizes.now r.entries.now r.n same small)
+        inside : member v (ring (plan_of r) u) ≡ ltb i m
+        inside = member_index v (ring (plan_of r) u)
 
--- ---- a ring and its labels, where they stand in the arrays
-module _ (r : Rings) (u : ℕ) {a e : ℕ} (from-a : a ≡ get_or r.starts.now u 0) (to-e : e ≡ get_or r.starts.now u 0 + size_of r.sizes.now r.n u) where
-  -- the ring
-  pub ring_there : map neighbour (span r.entries.now a e) ≡ ring (plan_of r) u
-  ring_there =
-      let z : e - a ≡ size_of r.sizes.now r.n u = omega arith in
-      (λ j. map neighbour (stretch r.entries.now (from-a j) (z j))) ∙ sym (ring-rows r.starts.now r.sizes.now r.entries.now r.n u)
+        go : (b : Bool) → member v (ring (plan_of r) u) ≡ b → cond (member v (ring (plan_of r) u)) (mark (get_or ls j unlabelled)) 0 ≡ mark (label_of P ls u v)
+        go true q =
+            let there = label_there r.starts.now r.sizes.now r.entries.now r.n same few u v refl refl size ls (ltb-true i m (sym inside ∙ q)) in
+            ap (λ (b : Bool). cond b (mark (get_or ls j unlabelled)) 0) q ∙ ap mark there
+        go false q =
+            let none = label_none r.starts.now r.sizes.now r.entries.now r.n same few u v refl refl size ls (ltb-false i m (sym inside ∙ q)) in
+            ap (λ (b : Bool). cond b (mark (get_or ls j unlabelled)) 0) q ∙ sym mark-none ∙ ap mark none
 
-  -- its labels
-  pub around_there : (ls : List ℕ) → slice a e ls ≡ around_by r ls u
-  unfolding around_by
-  around_there ls = (λ j. slice (from-a j) (to-e j) ls) ∙ drop-take (get_or r.starts.now u 0) (size_of r.sizes.now r.n u) ls
+    pub marked_filled : {k : ℕ} → 200 * r.n ≤ k → {t₀ t : List ℕ} → t₀ ≡ replicate k 0 → t ≡ labelled r ls t₀ → Marked r ls t
+    unfolding zeros
+    marked_filled {k} room {t₀} {t} none e =
+        let is : t ≡ labelled r ls (zeros k) = e ∙ ap (labelled r ls) none in
+        let long : length t ≡ k = ap length is ∙ labelled-long r ls (zeros k) ∙ length-zeros k in
+        let small = few in
+        record { room = omega arith; cells = λ u v h l. ap (λ (s : List ℕ). get_or s (cell u v) 0) is ∙ cell_own room u v (omega arith) (omega arith) }
+
+    -- the labels around u
+    pub around_is : (u : ℕ) {a e : ℕ} → a ≡ get_or r.starts.now u 0 → e ≡ get_or r.starts.now u 0 + size_of r.sizes.now r.n u → slice a e ls ≡ labels_around (plan_of r) ls u
+    unfolding labels_around
+    around_is u from to =
+        (λ j. slice (from j) (to j) ls)
+        ∙ drop-take (get_or r.starts.now u 0) (size_of r.sizes.now r.n u) ls
+        ∙ go (ltb u r.n) refl
+        ∙ (λ j. take (sym (size-rows r.starts.now r.sizes.now r.entries.now r.n same few u) j) (drop (start (plan_of r) u) ls))
+      where
+        go : (b : Bool) → ltb u r.n ≡ b → take (size_of r.sizes.now r.n u) (drop (get_or r.starts.now u 0) ls) ≡ take (size_of r.sizes.now r.n u) (drop (start (plan_of r) u) ls)
+        go true q = ap (λ (s : ℕ). take (size_of r.sizes.now r.n u) (drop s ls)) (start-held r.starts.now r.sizes.now r.entries.now r.n same few u (ltb-true u r.n q))
+        go false q = let z = size_outside r.sizes.now r.n u (ltb-false u r.n q) in rw z
+
+-- whether some entry of a ring passes, where they stand in the arrays
+pub some_ring : (r : Rings) (u : ℕ) (f : ℕ → Bool) {a e : ℕ} → a ≡ get_or r.starts.now u 0 → e ≡ get_or r.starts.now u 0 + size_of r.sizes.now r.n u
+    → some_within (λ (i : ℕ). f (neighbour (get_or r.entries.now i 0))) a e ≡ any f (ring (plan_of r) u)
+some_ring r u f {a} {e} from to =
+    let es = r.entries.now in
+    let size : e - a ≡ size_of r.sizes.now r.n u = omega arith in
+    sym (any_some (λ (i : ℕ). f (neighbour (get_or es i 0))) a (e - a))
+    ∙ any_entry es (λ (x : ℕ). f (neighbour x)) a (e - a)
+    ∙ any-map f neighbour (stretch es a (e - a))
+    ∙ (λ i. any f (map neighbour (stretch es (from i) (size i))))
+    ∙ sym (ap (any f) (ring-rows r.starts.now r.sizes.now es r.n u))

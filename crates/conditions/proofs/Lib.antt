@@ -1,4 +1,3 @@
 pub mod Noted
 pub mod ByTable
 pub mod Breaks
-pub mod Rows

@@ -68,6 +68,11 @@ module _ (t : List ℕ) (u v l : ℕ) where
   unfolding note_label
   note_here h k f = rw (lt-ltb u 200 h, lt-ltb v 200 k) (get_or-set_same t (cell u v) (mark l) 0 f)
 
+  -- where there is a cell, the mark is put there
+  pub note_put : u < 200 → v < 200 → {x : ℕ} → x ≡ mark l → set t (cell u v) x ≡ note_label u v l t
+  unfolding note_label
+  note_put h k e = ap (set t (cell u v)) e ∙ sym (rw (lt-ltb u 200 h, lt-ltb v 200 k))
+
   -- the other cells stay
   note-apart : (c : ℕ) → (v < 200 → c ≡ cell u v → ⊥) → get_or (note_label u v l t) c 0 ≡ get_or t c 0
   unfolding note_label
@@ -133,7 +138,7 @@ module _ (r : Rings) (ls : List ℕ) where
   Ring u = ring (plan_of r) u
 
   -- the table keeps its length
-  around-long : (u : ℕ) (t : List ℕ) → length (note_around r ls u t) ≡ length t
+  pub around-long : (u : ℕ) (t : List ℕ) → length (note_around r ls u t) ≡ length t
   unfolding note_around
   around-long u t = labels-long r.entries.now ls u (get_or r.starts.now u 0) (size_of r.sizes.now r.n u) t
 
@@ -159,6 +164,16 @@ module _ (r : Rings) (ls : List ℕ) where
   each-other c i (suc k) other t =
       each-other c (suc i) k (λ u w x y. other u w (omega arith) (omega arith)) (note_around r ls i t)
       ∙ around-other c i (λ w. other i w (omega arith) (omega arith)) t
+
+  -- and keeps the table's length
+  each-long : (i k : ℕ) (t : List ℕ) → length (each (note_around r ls) i k t) ≡ length t
+  unfolding each
+  each-long i zero t = refl
+  each-long i (suc k) t = each-long (suc i) k (note_around r ls i t) ∙ around-long i t
+
+  pub labelled-long : (t : List ℕ) → length (labelled r ls t) ≡ length t
+  unfolding labelled
+  labelled-long t = each-long 0 (r.n - 0) t
 
   -- and notes theirs
   each-cell : (u v : ℕ) → v < 200 → (i k : ℕ) → i ≤ u → u < i + k → i + k ≤ 200 → (t : List ℕ) → cell u v < length t → get_or t (cell u v) 0 ≡ 0 → get_or (each (note_around r ls) i k t) (cell u v) 0 ≡ Says u v

@@ -1,32 +1,46 @@
 -- has_wrong meets its contract.
-use mathlib.Core.Path.{refl, ◌∙◌}
-use mathlib.Core.Bool.{Bool}
-use Prim.Native.Nat.{ℕ, ◌-◌}
-use lib.ListN.{get_or}
-use borrow.Author.Tests.{tests}
-use borrow.Author.Rules.{rules}
-use Rattle.lists.specs.Spans.{span}
-use Rattle.lists.proofs.Chains.{any_in_range, any_entry}
-use Rattle.lists.proofs.Tests.{any-map}
-use Rattle.model.specs.Plan.{neighbour}
-use Rattle.conditions.specs.LabelBy.{wrong_dart_by}
-use Rattle.conditions.proofs.Breaks.{inner-ring}
+use mathlib.Core.Path.{refl, sym, ap, ◌∙◌}
 use native.Mathlib.Omega.{arith}
+use Rattle.lists.proofs.Folds.{seeks_hit, seeks_on, seeks_end}
+use Rattle.model.specs.Plan.{neighbour}
+use Rattle.rings.specs.Tables.{plan_of}
+use Rattle.conditions.specs.LabelBy.{wrong_dart}
+use Rattle.conditions.proofs.ByTable.{entry_low, some_ring}
 use Rattle.conditions.proofs.Labelled.has_wrong.Goals as goal
 
-pub returns-then-e-self : goal.returns-then-e-self
-returns-then-e-self c =
+pub loop-i-init : goal.loop-i-init
+loop-i-init c = (omega arith, record { same = refl })
+
+pub is_wrong-requires : goal.is_wrong-requires
+is_wrong-requires c =
     let a = c.args in
     let s = a.self.now in
-    inner-ring s.table.now a.u (omega arith) s.rings.entries.now a.a a.e (omega arith) (omega arith) refl c.has_bad_inner.ensures
+    let h = c.loop-i.invariant.0 in
+    let low = entry_low s.rings s.fits a.u c.loop-i.i c.span-start.ensures.start c.span-start.ensures.end (omega arith) (omega arith) in
+    let e = c.neighbour_of.ensures ∙ ap neighbour c.num.ensures.value in
+    let (x, y) = low in
+    (omega arith, omega arith)
+
+pub returns-then-is_wrong : goal.returns-then-is_wrong
+returns-then-is_wrong c =
+    let a = c.args in
+    let s = a.self.now in
+    let wrong = wrong_dart (plan_of s.rings) s.labels.now a.u in
+    let e = c.neighbour_of.ensures ∙ ap neighbour c.num.ensures.value in
+    seeks_hit c.loop-i.invariant.1 (omega arith) (ap wrong (sym e) ∙ sym c.is_wrong.ensures ∙ c.if-is_wrong.true)
+    ∙ some_ring s.rings a.u wrong c.span-start.ensures.start c.span-start.ensures.end
+
+pub loop-i-preserved : goal.loop-i-preserved
+loop-i-preserved c =
+    let a = c.args in
+    let s = a.self.now in
+    let wrong = wrong_dart (plan_of s.rings) s.labels.now a.u in
+    let h = c.loop-i.invariant.0 in
+    let e = c.neighbour_of.ensures ∙ ap neighbour c.num.ensures.value in
+    (omega arith, seeks_on c.loop-i.invariant.1 (omega arith) (ap wrong (sym e) ∙ sym c.is_wrong.ensures ∙ c.if-is_wrong.false))
 
 pub returns : goal.returns
 returns c =
     let a = c.args in
     let s = a.self.now in
-    let l = s.rings.entries.now in
-    let wrong : ℕ → Bool = wrong_dart_by s.table.now a.u in
-    let test : ℕ → Bool = λ i. wrong (neighbour (get_or l i 0)) in
-    any_in_range test a.a a.e c.any.ensures.ran (λ x b f k. search (rules, tests))
-    ∙ any_entry l (λ (x : ℕ). wrong (neighbour x)) a.a (a.e - a.a)
-    ∙ any-map wrong neighbour (span l a.a a.e)
+    seeks_end c.loop-i.invariant.1 (omega arith) ∙ some_ring s.rings a.u (wrong_dart (plan_of s.rings) s.labels.now a.u) c.span-start.ensures.start c.span-start.ensures.end
