@@ -1,9 +1,9 @@
 -- The engine's answer is the model's: each case of the answer, and the labels beside it.
-use Prim.Native.Nat.{ℕ, ◌/◌, ◌%◌, ◌≤◌, ◌<◌, min}
+use Prim.Native.Nat.{ℕ, ◌/◌, ◌%◌, ◌≤◌, ◌<◌}
 use mathlib.Core.Path.{◌≡◌, refl, sym, ap, ◌∙◌}
 use mathlib.Core.Logic.{◌≢◌}
 use mathlib.Core.List.{List, [], ◌∷◌, ◌++◌}
-use mathlib.Core.Bool.{Bool, true, false, cond}
+use mathlib.Core.Bool.{Bool, true, false}
 use native.Mathlib.Omega.{arith}
 use lib.ListN.{length, drop, take-append-drop}
 use lib.Dec.{leb}
@@ -13,19 +13,18 @@ use Rattle.lists.specs.Parts.{pairs}
 use Rattle.lists.specs.Spans.{stretch}
 use Rattle.lists.proofs.Parts.{length_pairs}
 use Rattle.lists.proofs.Spans.{length-stretch, stretch-first}
-use Rattle.lists.proofs.Stretches.{stretch-front}
-use Rattle.model.specs.Outcome.{Outcome, accepted, refused, ◌>>◌, require, rule, taken}
+use Rattle.model.specs.Outcome.{Outcome, accepted, refused, mapped, ◌>>◌, require, taken}
 use Rattle.model.specs.Plan.{Plan, Dart, count, entry_count}
 use Rattle.model.specs.Labels.{label_of, turned, put, breaks, label_rules}
 use Rattle.model.specs.Turn.{bad_pair, quarters, turn_dart, turned_edges, turn}
-use Rattle.rings.specs.Tables.{start_of, starts_of, table, held, in_bounds}
-use Rattle.rings.proofs.Rows.{count-rows, held_small}
-use Rattle.labels.proofs.Darts.{label_behind, put-behind, rules_behind}
 use Rattle.model.proofs.LabelCounts.{turns_long}
+use Rattle.model.proofs.Outcomes.{mapped_at, mapped_off}
+use Rattle.fit.specs.Fits.{fit}
+use Rattle.fit.proofs.Fits.{fit-says}
+use Rattle.labels.proofs.Darts.{label_behind, put-behind, rules_behind}
 use Rattle.turn.specs.Run.{pairs_turned}
-use Rattle.turn.specs.Turned.{labels_in, turn_of, held_labels, in_array}
+use Rattle.turn.specs.Turned.{labels_in, put_into}
 use Rattle.turn.proofs.Named.{turn_long}
-use Rattle.turn.proofs.Turns.{count-table}
 
 -- ---- edges turned in an array that holds labels, and something behind them
 module _ (p : Plan) (q : ℕ) where
@@ -115,123 +114,74 @@ module _ (p : Plan) (q : ℕ) (es : List Dart) (old : List ℕ) where
       go false h e = (leb-false _ _ h, e)
 
 -- ---- the answer
-module _ (sizes es : List ℕ) (n : ℕ) (labels items : List ℕ) (direction : ℕ) where
-  -- what the contract says of an answer
-  abbrev pub Answers : Outcome (List ℕ) → Type 0
-  Answers r = record {
-    answer : held_labels sizes n r ≡ turn_of sizes es n labels items direction;
-    labels : r ≡ in_array labels (turn_of sizes es n labels items direction);
-  }
+module _ (p : Plan) (fits : fit p ≡ true) (labels items : List ℕ) (direction : ℕ) (full : length labels ≡ 1186) where
+  -- the labels that the array holds
+  abbrev Old : List ℕ
+  Old = labels_in p labels
 
-  -- a refusal
-  refusal : {k at : ℕ} → turn_of sizes es n labels items direction ≡ refused k at → Answers (refused k at)
-  refusal e = record { answer = sym e; labels = sym (ap (in_array labels) e) }
+  -- what stands behind them
+  abbrev Rest : List ℕ
+  Rest = drop (entry_count p) labels
 
-  -- rings that do not fit
-  pub answer_unfit : in_bounds sizes n ≡ false → Answers (refused 13 0)
-  unfolding turn_of
-  answer_unfit e = refusal (ap (λ (t : Bool). cond t (turn (table sizes es n) (labels_in sizes n labels) items direction) (refused 13 0)) e)
+  -- what the model's turn makes of the array
+  abbrev Answer : Outcome (List ℕ)
+  Answer = mapped (put_into labels) (turn p Old items direction)
 
-  module _ (small : n ≤ 200) (few : start_of sizes n ≤ 1186) (full : length labels ≡ 1186) where
-    -- the plan
-    abbrev P : Plan
-    P = table sizes es n
+  -- one for each entry
+  old-each : length Old ≡ entry_count p
+  old-each = length-stretch labels 0 (entry_count p)
 
-    -- its labels
-    abbrev Old : List ℕ
-    Old = labels_in sizes n labels
+  -- the array begins with them
+  old-front : labels ≡ Old ++ Rest
+  old-front = let h = (fit-says p fits).room in array_split labels (entry_count p) (omega arith)
 
-    -- what stands behind them
-    abbrev Rest : List ℕ
-    Rest = drop (start_of sizes n) labels
+  -- 15 at the first bad pair
+  pub answer_pair : (q : ℕ) {k at : ℕ} → refused k at ≡ pairs_turned p q (pairs items) labels → refused k at ≡ Answer
+  answer_pair q {k} {at} e =
+      let (h, same) = pairs_bad p q (pairs items) labels e in
+      sym (mapped_off (put_into labels) (turn p Old items direction) k at (turn-pair p Old items direction h ∙ sym same))
 
-    -- what fits is turned by the model
-    fits : turn_of sizes es n labels items direction ≡ turn P Old items direction
-    unfolding turn_of in_bounds
-    fits = rw (le-leb n 200 small, le-leb (start_of sizes n) 1186 (omega arith))
+  module _ (q : ℕ) {new : List ℕ} (passed : accepted new ≡ pairs_turned p q (pairs items) labels) where
+    good : Many p Old items direction ≤ First p Old items direction
+    good = (pairs_good p q (pairs items) labels passed).0
 
-    -- as many labels as the sizes say
-    old_long : length Old ≡ start_of sizes n
-    unfolding labels_in
-    old_long = length-stretch labels 0 (start_of sizes n)
+    -- 15 at the number of pairs, for an item over
+    pub answer_odd : {m : ℕ} → m ≡ length items / 2 → length items % 2 ≢ 0 → refused 15 m ≡ Answer
+    answer_odd {m} halves odd = sym (mapped_off (put_into labels) (turn p Old items direction) 15 m (turn_odd p Old items direction good odd ∙ ap (refused 15) (length_pairs items ∙ sym halves)))
 
-    -- one for each entry
-    old-each : length Old ≡ entry_count P
-    old-each = old_long ∙ sym (count-table (starts_of sizes) sizes es n refl small)
+    module _ (even : length items % 2 ≡ 0) where
+      -- 15 at the number of pairs, for a direction above 1
+      pub answer_direction : {m : ℕ} → m ≡ length items / 2 → 1 < direction → refused 15 m ≡ Answer
+      answer_direction {m} halves far = sym (mapped_off (put_into labels) (turn p Old items direction) 15 m (turn_direction p Old items direction good even (omega arith) ∙ ap (refused 15) (length_pairs items ∙ sym halves)))
 
-    -- the array begins with them
-    old-front : labels ≡ Old ++ Rest
-    unfolding labels_in
-    old-front = array_split labels (start_of sizes n) (omega arith)
+      module _ (near : direction ≤ 1) (by : q ≡ quarters direction) where
+        -- the labels after all edges are turned
+        abbrev New : List ℕ
+        New = After p Old items direction
 
-    -- the plan has n contexts
-    many : count P ≡ n
-    unfolding table
-    many = count-rows (starts_of sizes) sizes es n
+        -- the array begins with them, and what was behind is there still
+        new_front : new ≡ New ++ Rest
+        new_front =
+            (pairs_good p q (pairs items) labels passed).1
+            ∙ (λ i. turned_edges p (by i) (pairs items) (old-front i))
+            ∙ edges_behind p (quarters direction) (pairs items) Old Rest old-each
 
-    -- 15 at the first bad pair
-    pub answer_pair : (q : ℕ) {k at : ℕ} → refused k at ≡ pairs_turned P q (pairs items) labels → Answers (refused k at)
-    answer_pair q e =
-        let (h, same) = pairs_bad P q (pairs items) labels e in
-        refusal (fits ∙ turn-pair P Old items direction h ∙ sym same)
+        -- they are as many as before
+        new_long : length New ≡ entry_count p
+        new_long = turns_long p (quarters direction) (pairs items) Old ∙ old-each
 
-    module _ (q : ℕ) {new : List ℕ} (passed : accepted new ≡ pairs_turned P q (pairs items) labels) where
-      good : Many P Old items direction ≤ First P Old items direction
-      good = (pairs_good P q (pairs items) labels passed).0
+        -- only the label rules are left, on the array as on the labels alone
+        answered : {judged : Outcome (Unit {0})} → judged ≡ label_rules p new → turn p Old items direction ≡ (judged >> accepted New)
+        unfolding label_rules
+        answered ten =
+            let same : lowest (breaks p new) (count p) ≡ lowest (breaks p New) (count p) = ap (λ (l : List ℕ). lowest (breaks p l) (count p)) new_front ∙ rules_behind p New Rest new_long (count p) in
+            turn_rules p Old items direction good even (omega arith)
+            ∙ ap (λ (o : Outcome (Unit {0})). o >> accepted New) (sym (ten ∙ ap (λ (u : ℕ). require (leb (count p) u) 10 u) same))
 
-      -- 15 at the number of pairs, for an item over
-      pub answer_odd : {m : ℕ} → m ≡ length items / 2 → length items % 2 ≢ 0 → Answers (refused 15 m)
-      answer_odd halves odd = refusal (fits ∙ turn_odd P Old items direction good odd ∙ ap (refused 15) (length_pairs items ∙ sym halves))
+        -- 10 at the lowest context that breaks them
+        pub answer_broken : {k at : ℕ} → refused k at ≡ label_rules p new → refused k at ≡ Answer
+        answer_broken {k} {at} ten = sym (mapped_off (put_into labels) (turn p Old items direction) k at (answered ten))
 
-      module _ (even : length items % 2 ≡ 0) where
-        -- 15 at the number of pairs, for a direction above 1
-        pub answer_direction : {m : ℕ} → m ≡ length items / 2 → 1 < direction → Answers (refused 15 m)
-        answer_direction halves far = refusal (fits ∙ turn_direction P Old items direction good even (omega arith) ∙ ap (refused 15) (length_pairs items ∙ sym halves))
-
-        module _ (near : direction ≤ 1) (by : q ≡ quarters direction) where
-          -- the labels after all edges are turned
-          abbrev New : List ℕ
-          New = After P Old items direction
-
-          -- the array begins with them, and what was behind is there still
-          new_front : new ≡ New ++ Rest
-          new_front =
-              (pairs_good P q (pairs items) labels passed).1
-              ∙ (λ i. turned_edges P (by i) (pairs items) (old-front i))
-              ∙ edges_behind P (quarters direction) (pairs items) Old Rest old-each
-
-          -- they are as many as before
-          new_long : length New ≡ length Old
-          new_long = turns_long P (quarters direction) (pairs items) Old
-
-          -- the lowest context that breaks the rules, by the array and by the labels alone
-          lowest_behind : lowest (breaks P new) n ≡ lowest (breaks P New) (count P)
-          lowest_behind = (λ i. lowest (breaks P (new_front i)) (sym many i)) ∙ rules_behind P New Rest (new_long ∙ old-each) (count P)
-
-          module _ {judged : Outcome (Unit {0})} (ten : judged ≡ rule 10 (min n 200) (breaks (held sizes es n) new)) where
-            -- the rules of n contexts
-            all-judged : judged ≡ rule 10 n (breaks P new)
-            all-judged = let z : min n 200 ≡ n = omega arith in ten ∙ (λ i. rule 10 (z i) (breaks (held_small sizes es n small i) new))
-
-            -- only the label rules are left
-            answered : turn_of sizes es n labels items direction ≡ (judged >> accepted New)
-            unfolding label_rules
-            answered =
-                fits
-                ∙ turn_rules P Old items direction good even (omega arith)
-                ∙ ap (λ (o : Outcome (Unit {0})). o >> accepted New) (sym (all-judged ∙ λ i. require (leb (sym many i) (lowest_behind i)) 10 (lowest_behind i)))
-
-          -- 10 at the lowest context that breaks them
-          pub answer_broken : {k at : ℕ} → refused k at ≡ rule 10 (min n 200) (breaks (held sizes es n) new) → Answers (refused k at)
-          answer_broken ten = refusal (answered ten)
-
-          -- none breaks them
-          pub answer_labelled : accepted tt ≡ rule 10 (min n 200) (breaks (held sizes es n) new) → Answers (accepted new)
-          unfolding labels_in
-          answer_labelled ten =
-              let done : turn_of sizes es n labels items direction ≡ accepted New = answered ten in
-              let size : length New ≡ start_of sizes n = new_long ∙ old_long in
-              record {
-                answer = (λ i. accepted (stretch (new_front i) 0 (sym size i))) ∙ ap accepted (stretch-front New Rest) ∙ sym done;
-                labels = ap accepted (new_front ∙ ap (λ (k : ℕ). New ++ drop k labels) (sym size)) ∙ ap (in_array labels) (sym done);
-              }
+        -- none breaks them
+        pub answer_labelled : accepted tt ≡ label_rules p new → accepted new ≡ Answer
+        answer_labelled ten = ap accepted (new_front ∙ ap (λ (k : ℕ). New ++ drop k labels) (sym new_long)) ∙ sym (mapped_at (put_into labels) (turn p Old items direction) New (answered ten))

@@ -19,10 +19,13 @@ use Rattle.model.specs.Outcome.{accepted, refused, ◌>>◌, require}
 use Rattle.model.specs.Plan.{Plan, Dart, ring, adjacent, border, inner_edge, entry_count}
 use Rattle.model.specs.Labels.{unlabelled, start, label_of, turned}
 use Rattle.model.specs.Turn.{same_edge, bad_pair, turn_dart, turned_edges}
-use Rattle.rings.specs.Tables.{start_of, starts_of, size_of, rows, table}
+use Rattle.rings.specs.Tables.{starts_of, size_of, table, plan_of}
+use Rattle.rings.specs.declared.Rings.{Rings}
 use Rattle.rings.proofs.Rows.{count-rows}
-use Rattle.labels.proofs.Places.{start-table, dart_test, place_there}
-use Rattle.labels.proofs.Darts.{Place, start_last, label_at-place, put-at-place, put_nowhere}
+use Rattle.fit.specs.Fits.{fit}
+use Rattle.fit.proofs.Fits.{fit-says}
+use Rattle.labels.proofs.Places.{is-table, dart_test, place_there}
+use Rattle.labels.proofs.Darts.{Place, label_at-place, put-at-place, put_nowhere}
 use Rattle.turn.specs.Run.{place_of, turn_at, bad_at, unturned, pairs_turned}
 use Rattle.turn.proofs.Named.{dart, Marks, marks-start, marks-on}
 
@@ -36,24 +39,29 @@ chunk_is (a ∷ b ∷ l) (suc m) zero h w e f = λ i. dart (sym e i) (sym f i)
 chunk_is (a ∷ b ∷ l) (suc m) (suc k) h w e f = chunk_is l m k (omega arith) (omega arith) e f
 
 -- ---- the place of a dart's label in an array
-module _ (starts sizes es : List ℕ) (n : ℕ) (same : starts ≡ starts_of sizes) (small : n ≤ 200) where
-  -- how many entries there are, by the sizes alone
-  pub count-table : entry_count (table sizes es n) ≡ start_of sizes n
-  unfolding table
-  count-table =
-      let c = count-rows (starts_of sizes) sizes es n in
-      sym (start_last (rows (starts_of sizes) sizes es n)) ∙ ap (start (rows (starts_of sizes) sizes es n)) c ∙ start-table starts sizes es n same small n (omega arith)
+module _ (r : Rings) (fits : fit (plan_of r) ≡ true) (same : r.starts.now ≡ starts_of r.sizes.now) (u v : ℕ) {s i k : ℕ} (from-s : s ≡ get_or r.starts.now u 0) (at : i ≡ index_of v (ring (plan_of r) u)) (size : k ≡ size_of r.sizes.now r.n u) where
+  small : r.n ≤ 200
+  small =
+      let h = (fit-says (plan_of r) fits).few in
+      let n = count-rows r.starts.now r.sizes.now r.entries.now r.n in
+      omega arith
 
-  module _ (u v : ℕ) {s i k : ℕ} (from-s : s ≡ get_or starts u 0) (at : i ≡ index_of v (ring (rows starts sizes es n) u)) (size : k ≡ size_of sizes n u) where
-    -- the index is below the size: the start and the index
-    pub place_found : i < k → Some (s + i) ≡ place_of (table sizes es n) u v
-    unfolding place_of
-    place_found h = ap Some (place_there starts sizes es n same small u v from-s at size h) ∙ sym (rw (dart_test starts sizes es n same small u v from-s at size ∙ lt-ltb i k h))
+  -- by the sizes alone
+  by-sizes : place_of (table r.sizes.now r.entries.now r.n) u v ≡ place_of (plan_of r) u v
+  by-sizes = ap (λ (p : Plan). place_of p u v) (sym (is-table r.starts.now r.sizes.now r.entries.now r.n same small))
 
-    -- it is not: there is no dart
-    pub place_missing : k ≤ i → None ≡ place_of (table sizes es n) u v
-    unfolding place_of
-    place_missing h = sym (rw (dart_test starts sizes es n same small u v from-s at size ∙ le-ltb i k h))
+  -- the index is below the size: the start and the index
+  pub place_found : i < k → Some (s + i) ≡ place_of (plan_of r) u v
+  unfolding place_of
+  place_found h =
+      ap Some (place_there r.starts.now r.sizes.now r.entries.now r.n same small u v from-s at size h)
+      ∙ sym (rw (dart_test r.starts.now r.sizes.now r.entries.now r.n same small u v from-s at size ∙ lt-ltb i k h))
+      ∙ by-sizes
+
+  -- it is not: there is no dart
+  pub place_missing : k ≤ i → None ≡ place_of (plan_of r) u v
+  unfolding place_of
+  place_missing h = sym (rw (dart_test r.starts.now r.sizes.now r.entries.now r.n same small u v from-s at size ∙ le-ltb i k h)) ∙ by-sizes
 
 -- ---- a dart turned at its place
 module _ (p : Plan) (u v : ℕ) where

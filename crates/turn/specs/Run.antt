@@ -1,20 +1,10 @@
 -- The turn as the engine runs it, on arrays: each definition is one function of src/.
-use Rattle.std.specs.Prelude.{ℕ, ◌+◌, ◌≡◌, ◌≤◌, List, Bool, cond, not, ◌&&◌, ◌||◌, Option, Some, None, length, get_or, set, eqb}
+use Rattle.std.specs.Prelude.{ℕ, ◌+◌, List, Bool, cond, not, ◌&&◌, ◌||◌, Option, Some, None, length, get_or, set, eqb}
 use Rattle.lists.specs.Parts.{index_of}
 use Rattle.model.specs.Outcome.{Outcome, accepted, ◌>>◌, rule}
 use Rattle.model.specs.Plan.{Plan, Dart, ring, adjacent, border}
 use Rattle.model.specs.Labels.{unlabelled, start, turned}
 use Rattle.model.specs.Turn.{bad_pair, turned_edges}
-use Rattle.rings.specs.Tables.{start_of, starts_of, table}
-use Rattle.rings.specs.declared.Rings.{Rings}
-
--- the plan of rings in flat arrays, by their sizes alone
-abbrev pub sized : Rings → Plan
-sized r = table r.sizes.now r.entries.now r.n
-
--- rings that fit into the arrays, with the starts that their sizes give
-abbrev pub Fits : Rings → Type 0
-Fits r = (r.starts.now ≡ starts_of r.sizes.now) × (r.n ≤ 200) × (start_of r.sizes.now r.n ≤ 1186)
 
 -- where the label of the dart from u to v stands, if there is a dart
 unfoldable pub place_of : Plan → ℕ → ℕ → Option ℕ

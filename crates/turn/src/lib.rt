@@ -1,20 +1,20 @@
-// The turn: both darts of each named edge by a quarter, equal to the model's on every plan that fits the arrays.
+// The turn: both darts of each named edge by a quarter, equal to the model's on every plan that fits.
 // One pass tests and turns the named edges. An edge named before is known by its label, which is not the old one any more.
 #![tactic(auto)]
 
-ghost use Rattle.std.specs.Prelude.{◌≡◌, ◌≤◌, ◌<◌, ◌*◌, ◌%◌};
+ghost use Rattle.std.specs.Prelude.{◌≡◌, ◌≤◌, ◌<◌, ◌*◌, ◌%◌, true};
 ghost use Rattle.lists.specs.Parts.{pairs};
-ghost use Rattle.model.specs.Turn.{quarters};
+ghost use Rattle.model.specs.Outcome.{mapped};
+ghost use Rattle.model.specs.Turn.{quarters, turn};
 ghost use Rattle.refusal.specs.Refusals.{told};
-ghost use Rattle.turn.specs.Turned.{turn_of, held_labels, in_array};
-ghost use Rattle.turn.specs.Run.{sized, Fits, place_of, turn_at, unturned, pairs_turned};
+ghost use Rattle.rings.specs.Tables.{starts_of, plan_of, table_of};
+ghost use Rattle.fit.specs.Fits.{fit};
+ghost use Rattle.turn.specs.Turned.{labels_in, put_into};
+ghost use Rattle.turn.specs.Run.{place_of, turn_at, unturned, pairs_turned};
 
+use fit::Fit;
 use places::Located;
 use refusal::Refusal;
-use rings::{Rings, Table};
-
-// The most contexts for which a small table has rows.
-const FEW: usize = 20;
 
 // The quarters of a direction: one clockwise, three counterclockwise.
 // A number, and no enum: the pass over the edges comes before the direction is tested, and turns by whatever direction it is given.
@@ -34,17 +34,18 @@ fn turn_at(labels: &mut [u8], i: usize, q: u8)
     arrays::put(labels, i, turned);
 }
 
-// The rings of a plan that fits the arrays, with a table that finds their entries: by them the label of each dart is found where the model has it.
+// The rings of a plan that fits, with a table that finds their entries: by them the label of each dart is found where the model has it.
 #[derive(Clone, Copy)]
 struct Placed<'a> {
     located: Located<'a>,
-    ghost fits: { Fits located.rings },
+    ghost fits: { fit (plan_of located.rings) ≡ true },
+    ghost begins: { located.rings.starts.now ≡ starts_of located.rings.sizes.now },
 }
 
 impl Placed<'_> {
     // Where the label of the dart from u to v stands, if there is a dart.
     fn place_of(&self, u: usize, v: usize) -> Option<usize>
-        ensures { result ≡ place_of (sized self.now.located.rings) u v }
+        ensures { result ≡ place_of (plan_of self.now.located.rings) u v }
     {
         let i = self.located.index_of(u, v);
         let rings = self.located.rings;
@@ -57,7 +58,7 @@ impl Placed<'_> {
     // Where the label of the dart from u to v stands, if it is an inner dart whose label was not turned yet.
     #[tactic(auto, unfolding(crate::specs::Run::unturned, crate::specs::Run::bad_at))]
     fn unturned_place(&self, old: &[u8], new: &[u8], u: usize, v: usize) -> Option<usize>
-        ensures { result ≡ unturned old.now new.now u v (place_of (sized self.now.located.rings) u v) }
+        ensures { result ≡ unturned old.now new.now u v (place_of (plan_of self.now.located.rings) u v) }
     {
         let i = self.place_of(u, v)?;
         if labels::both_border(u, v) {
@@ -72,7 +73,7 @@ impl Placed<'_> {
     // The labels with each named edge turned by q quarters, where every pair is an inner edge that was not named before.
     fn turn_pairs(&self, labels: [u8; 1186], items: &[u16], q: u8) -> Result<[u8; 1186], Refusal>
         requires { (q < 4) × (q % 2 ≡ 1) }
-        ensures { told result ≡ pairs_turned (sized self.now.located.rings) q (pairs items.now) labels }
+        ensures { told result ≡ pairs_turned (plan_of self.now.located.rings) q (pairs items.now) labels }
     {
         let (pairs, _) = items.as_chunks::<2>();
         let mut turned = labels;
@@ -93,20 +94,22 @@ impl Placed<'_> {
 
 // The labels with each named edge turned by q quarters, with a table of N cells, which has a row for each context.
 fn turn_in<const N: usize>(
-    rings: &Rings,
+    fit: &Fit,
     labels: [u8; 1186],
     items: &[u16],
     q: u8,
 ) -> Result<[u8; 1186], Refusal>
     requires quarters { (q < 4) × (q % 2 ≡ 1) }
-    requires rings { Fits rings.now }
-    requires room { (200 * rings.now.n ≤ N) × (N ≤ 40000) }
-    ensures { told result ≡ pairs_turned (sized rings.now) q (pairs items.now) labels }
+    requires room { (200 * fit.now.plan.n ≤ N) × (N ≤ 40000) }
+    ensures { told result ≡ pairs_turned (table_of fit.now.plan) q (pairs items.now) labels }
 {
+    let plan = fit.plan;
+    let starts = rings::starts_of(plan.sizes);
+    let rings = plan.rings(&starts);
     let mut places = [0u8; N];
-    places::fill(&mut places, rings);
+    places::fill(&mut places, &rings);
     let located = Located {
-        rings: *rings,
+        rings,
         places: &places,
     };
     let placed = Placed { located };
@@ -114,43 +117,30 @@ fn turn_in<const N: usize>(
 }
 
 // The same; the table is small for few contexts.
-fn turn_edges(
-    rings: &Rings,
-    labels: [u8; 1186],
-    items: &[u16],
-    q: u8,
-) -> Result<[u8; 1186], Refusal>
-    requires quarters { (q < 4) × (q % 2 ≡ 1) }
-    requires rings { Fits rings.now }
-    ensures { told result ≡ pairs_turned (sized rings.now) q (pairs items.now) labels }
+fn turn_edges(fit: &Fit, labels: [u8; 1186], items: &[u16], q: u8) -> Result<[u8; 1186], Refusal>
+    requires { (q < 4) × (q % 2 ≡ 1) }
+    ensures { told result ≡ pairs_turned (table_of fit.now.plan) q (pairs items.now) labels }
 {
-    if rings.n <= FEW {
-        turn_in::<4000>(rings, labels, items, q)
+    if fit.plan.n <= rings::FEW_CONTEXTS {
+        turn_in::<4000>(fit, labels, items, q)
     } else {
-        turn_in::<40000>(rings, labels, items, q)
+        turn_in::<40000>(fit, labels, items, q)
     }
 }
 
 // The labels with both darts of each named edge turned by a quarter, after the list, the direction and the label rules are tested.
 pub fn turn_labels(
     labels: [u8; 1186],
-    plan: &Table,
+    fit: &Fit,
     items: &[u16],
     direction: u8,
 ) -> Result<[u8; 1186], Refusal>
-    ensures answer { held_labels plan.now.sizes.now plan.now.n (told result) ≡ turn_of plan.now.sizes.now plan.now.entries.now plan.now.n labels items.now direction }
-    ensures labels { told result ≡ in_array labels (turn_of plan.now.sizes.now plan.now.entries.now plan.now.n labels items.now direction) }
+    ensures { told result ≡ mapped (put_into labels) (turn (table_of fit.now.plan) (labels_in (table_of fit.now.plan) labels) items.now direction) }
 {
-    if !fit::is_in_bounds(plan.sizes, plan.n) {
-        return Err(Refusal::TooEarly);
-    }
-    let starts = rings::starts_of(plan.sizes);
-    let plan = *plan;
-    let rings = plan.rings(&starts);
-    let turned = turn_edges(&rings, labels, items, quarters_of(direction))?;
+    let turned = turn_edges(fit, labels, items, quarters_of(direction))?;
     if items.len() % 2 != 0 || 1 < direction {
         return Err(Refusal::BadPair(items.len() / 2));
     }
-    conditions::check(&plan, &turned)?;
+    conditions::check(fit, &turned)?;
     Ok(turned)
 }

@@ -1,16 +1,17 @@
 -- turn_pairs meets its contract.
 use mathlib.Core.Path.{◌≡◌, sym, ap, ◌∙◌}
-use Prim.Native.Nat.{ℕ, ◌≤◌}
+use Prim.Native.Nat.{ℕ}
 use Rattle.std.proofs.Common.{Some, None, Err}
 use Rattle.std.proofs.lemmas.Result.{err_from_is_err_and}
 use Rattle.lists.proofs.Parts.{length_pairs}
-use Rattle.model.specs.Plan.{Plan, entry_count}
+use Rattle.model.specs.Plan.{Plan}
 use Rattle.model.specs.Turn.{turn_dart}
 use Rattle.refusal.specs.Refusals.{told}
 use Rattle.refusal.specs.declared.Refusal.TheVariants.{BadPair}
-use Rattle.rings.specs.Tables.{table}
+use Rattle.rings.specs.Tables.{plan_of}
+use Rattle.fit.proofs.Fits.{fit-says}
 use Rattle.turn.proofs.Named.{dart}
-use Rattle.turn.proofs.Turns.{count-table, chunk_is, turns-start, turns_long, turns_hit, turns-on, turns_end, turned-at, turned_none}
+use Rattle.turn.proofs.Turns.{chunk_is, turns-start, turns_long, turns_hit, turns-on, turns_end, turned-at, turned_none}
 use native.Mathlib.Omega.{arith}
 use mathlib.Core.List.{List, []}
 use Prim.Native.Nat.{◌/◌}
@@ -37,7 +38,7 @@ returns-in_err-i c =
     let ev = c.from-v.ensures ∙ ap (λ (l : List (List ℕ)). get_or (get_or l c.loop-k.k []) 1 0) f in
     chunk_is items (length items / 2) c.loop-k.k (omega arith) (omega arith) eu ev
     in
-    let room : entry_count (table r.sizes.now r.entries.now r.n) ≤ 1186 = let e = count-table r.starts.now r.sizes.now r.entries.now r.n s.fits.0 s.fits.1 in let h = s.fits.2 in omega arith in
+    let room = (fit-says (plan_of r) s.fits).room in
     let hit = turns_hit inv.1 room (omega arith) c.from-u.result c.from-v.result pair (sym (length_pairs items)) (omega arith) (sym none ∙ c.unturned_place.ensures) in
     let p = err_from_is_err_and c.from_residual.result c.from_residual.ensures.1 in
     let bad : c.in_err-i.field-0.0 ≡ BadPair c.loop-k.k = grind arith in
@@ -48,7 +49,7 @@ loop-k-preserved c =
     let r = c.args.self.now.located.rings in
     let s = c.args.self.now in
     let items = c.args.items.now in
-    let plan : Plan = table r.sizes.now r.entries.now r.n in
+    let plan : Plan = plan_of r in
     let u : ℕ = c.from-u.result in
     let v : ℕ = c.from-v.result in
     let inv = c.loop-k.invariant in
@@ -61,7 +62,7 @@ loop-k-preserved c =
     let ev = c.from-v.ensures ∙ ap (λ (l : List (List ℕ)). get_or (get_or l c.loop-k.k []) 1 0) f in
     chunk_is items (length items / 2) c.loop-k.k (omega arith) (omega arith) eu ev
     in
-    let room : entry_count plan ≤ 1186 = let e = count-table r.starts.now r.sizes.now r.entries.now r.n s.fits.0 s.fits.1 in omega arith in
+    let room = (fit-says plan s.fits).room in
     let back : c.match-place_of.turned ≡ turn_dart plan c.args.q (dart v u) c.loop-k.turned = elim c.match-place_of.branch [
       | in-Some w ↦ w.turned-is ∙ w.turn_at.ensures ∙ turned-at plan v u c.args.q c.loop-k.turned w.in-Some.ensures
       | in_default w ↦ w.turned-is ∙ turned_none plan v u c.args.q c.loop-k.turned w.in_default.ensures

@@ -2,10 +2,10 @@
 use mathlib.Core.Path.{◌≡◌}
 use lib.ListN.{length}
 use Rattle.lists.specs.Parts.{pairs}
-use Rattle.turn.specs.Run.{sized}
+use Rattle.rings.specs.Tables.{plan_of}
 use Rattle.turn.proofs.Turns.{Turns}
 use Rattle.turn.proofs.Placed.turn_pairs.Given as goal
 
 abbrev pub invariant-loop-k : goal.invariant-loop-k
 invariant-loop-k l =
-    (length l.turned ≡ 1186) × Turns (sized l.self.located.rings) l.q (pairs l.items) l.labels l.k l.turned
+    (length l.turned ≡ 1186) × Turns (plan_of l.self.located.rings) l.q (pairs l.items) l.labels l.k l.turned
