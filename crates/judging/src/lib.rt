@@ -24,11 +24,10 @@ fn flat_part(sheet: &Sheet) -> Result<(), Refusal>
 }
 
 // 10 of a sheet whose plan fits.
-#[tactic(auto, using(sheet::proofs::Reading::rules_held))]
 fn label_part(fitting: &Fitting) -> Result<(), Refusal>
     ensures { told result ≡ label_rules (held_plan fitting.now.sheet.now) (held_labels fitting.now.sheet.now) }
 {
-    conditions::check(&fitting.plan(), fitting.labels())
+    conditions::check(&fitting.fit(), fitting.labels())
 }
 
 // 11 and 12 of a sheet whose plan fits: the chart in its arrays is the plan's chart.
