@@ -1,10 +1,10 @@
 // The label rules of a plan that fits: the lowest context that breaks them, with the label of each dart found by a table of labels.
 #![tactic(auto)]
 
-ghost use Rattle.std.specs.Prelude.{◌≡◌, ◌≤◌, ◌<◌, ◌*◌, ◌&&◌, true, length};
+ghost use Rattle.std.specs.Prelude.{◌≡◌, ◌≤◌, ◌<◌, ◌*◌, true, length};
 ghost use Rattle.lists.specs.Tests.{any};
 ghost use Rattle.model.specs.Outcome.{rule};
-ghost use Rattle.model.specs.Plan.{ring, border};
+ghost use Rattle.model.specs.Plan.{ring};
 ghost use Rattle.model.specs.Labels.{label_of, bad_dart, not_due, breaks, label_rules};
 ghost use Rattle.refusal.specs.Refusals.{told};
 ghost use Rattle.rings.specs.Tables.{starts_of, plan_of, table_of};
