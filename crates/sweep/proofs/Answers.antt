@@ -1,5 +1,5 @@
 -- The engine's answer is the model's: the label rules on an array that holds labels, and each case of the answer.
-use Prim.Native.Nat.{ℕ, ◌-◌, min}
+use Prim.Native.Nat.{ℕ, ◌-◌}
 use mathlib.Core.Path.{◌≡◌, refl, sym, ap, ◌∙◌}
 use mathlib.Core.Logic.{◌⊎◌, inl, inr}
 use mathlib.Core.List.{List, []}
@@ -17,10 +17,6 @@ use Rattle.fit.specs.Fits.{fit}
 use Rattle.labelling.specs.Labelling.{in_array, swept}
 use Rattle.steps.specs.Run.{steps_of}
 use Rattle.sweep.specs.Swept.{sweep_of}
-use Rattle.rings.specs.Tables.{starts_of, table}
-use Rattle.rings.proofs.Rows.{count-rows, held_small}
-use Rattle.rings.specs.Tables.{held}
-use Rattle.fit.proofs.Fits.{fit-says}
 use Rattle.steps.proofs.Endings.{swept_14, swept_long}
 
 -- ---- the answer
@@ -110,22 +106,3 @@ module _ (p : Plan) where
       where
         go : (fit p ≡ true) × Labels → accepted l ≡ in_array (sweep_of p)
         go (f, (ls, z, y)) = ap {B = Outcome (List ℕ)} (λ (a : List ℕ). accepted a) y ∙ sym (ap in_array (answered ten ls f z y))
-
--- ---- the same of a plan in flat arrays
-module _ (sizes es : List ℕ) (n : ℕ) where
-  -- the plan
-  abbrev plan : Plan
-  plan = table sizes es n
-
-  -- how many contexts it has
-  pub counted : count plan ≡ n
-  unfolding table
-  counted = count-rows (starts_of sizes) sizes es n
-
-  -- the label rules, of at most 200 contexts
-  pub ruled : (ls : List ℕ) → fit plan ≡ true → rule 10 (min n 200) (breaks (held sizes es n) ls) ≡ rule 10 (count plan) (breaks plan ls)
-  ruled ls fits =
-      let c = counted in
-      let few = (fit-says plan fits).few in
-      let most : min n 200 ≡ count plan = omega arith in
-      λ i. rule 10 (most i) (breaks (held_small sizes es n (omega arith) i) ls)

@@ -7,6 +7,7 @@ ghost use Rattle.refusal.specs.Refusals.{told};
 ghost use Rattle.steps.specs.Run.{steps_of};
 ghost use Rattle.sweep.specs.Swept.{in_array, sweep_of};
 
+use fit::Fit;
 use refusal::Refusal;
 use rings::Table;
 use steps::RuledTable;
@@ -17,7 +18,7 @@ fn tested(plan: &Table, stepped: Result<[u8; 1186], Refusal>) -> Result<[u8; 118
     ensures { told result ≡ in_array (sweep_of (table_of plan.now)) }
 {
     let labels = stepped?;
-    conditions::check(plan, &labels)?;
+    conditions::check(&Fit { plan: *plan }, &labels)?;
     Ok(labels)
 }
 
