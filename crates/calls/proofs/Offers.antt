@@ -17,7 +17,7 @@ use Rattle.sheet.specs.declared.Sheet.{Sheet}
 use Rattle.sheet.specs.Sheets.{held_plan, reads}
 use Rattle.sheet.specs.Sheets.{rank, stage_read, fits}
 use Rattle.model.proofs.Outcomes.{bind_at, bind_off, then_at, then_off}
-use Rattle.sheet.proofs.Reading.{fitting_refused, fitting_missed, fitting_reached, packed-off, packed-at, rules_held, few, plan_early, plan_there, count_held}
+use Rattle.sheet.proofs.Reading.{fitting_refused, fitting_missed, fitting_reached, packed-off, packed-at, few, plan_early, plan_there, count_held}
 
 -- the steps on a plan
 module _ (p : Plan) (ls : List ℕ) where
@@ -54,13 +54,16 @@ module _ (s : Sheet) (ls : List ℕ) where
     ruled : offered (held_plan s) ls ≡ (label_rules (held_plan s) ls >> accepted ls)
     ruled = offered_ruled (held_plan s) ls (q ∙ e)
 
-    pub offer_broken : (k at : ℕ) → refused k at ≡ label_rules (held_plan s) ls → offer_call (reads s) ls ≡ refused k at
-    offer_broken k at w = offer_there h ∙ bind_off (offered (held_plan s) ls) k at (stored (held_plan s)) (ruled ∙ then_off (label_rules (held_plan s) ls) k at (accepted ls) (sym w))
+    -- as they are told of the plan that the call reads
+    module _ {p : Plan} where
+      pub offer_broken : (k at : ℕ) → refused k at ≡ label_rules p ls → p ≡ held_plan s → offer_call (reads s) ls ≡ refused k at
+      offer_broken k at w f =
+          offer_there h ∙ bind_off (offered (held_plan s) ls) k at (stored (held_plan s)) (ruled ∙ then_off (label_rules (held_plan s) ls) k at (accepted ls) (sym (w ∙ ap (λ (x : Plan). label_rules x ls) f)))
 
-    pub offer_kept : fits s ≡ true → passed ≡ label_rules (held_plan s) ls → offer_call (reads s) ls ≡ accepted (file.labelled (held_plan s) (take 1186 ls))
-    offer_kept f w =
-        offer_there h ∙ bind_at (offered (held_plan s) ls) ls (stored (held_plan s)) (ruled ∙ then_at (label_rules (held_plan s) ls) tt (accepted ls) (sym w))
-        ∙ ap (λ (l : List ℕ). accepted (file.labelled (held_plan s) l)) (sym (offer_room d e q f))
+      pub offer_kept : fits s ≡ true → passed ≡ label_rules p ls → p ≡ held_plan s → offer_call (reads s) ls ≡ accepted (file.labelled (held_plan s) (take 1186 ls))
+      offer_kept f w g =
+          offer_there h ∙ bind_at (offered (held_plan s) ls) ls (stored (held_plan s)) (ruled ∙ then_at (label_rules (held_plan s) ls) tt (accepted ls) (sym (w ∙ ap (λ (x : Plan). label_rules x ls) g)))
+          ∙ ap (λ (l : List ℕ). accepted (file.labelled (held_plan s) l)) (sym (offer_room d e q f))
 
 -- for the call itself, step by step
-pub ruleset steps = (fitting_refused, fitting_missed, fitting_reached, packed-off, packed-at, offer_early, offer_count, offer_broken, offer_kept, rules_held)
+pub ruleset steps = (fitting_refused, fitting_missed, fitting_reached, packed-off, packed-at, offer_early, offer_count, offer_broken, offer_kept)

@@ -28,7 +28,7 @@ pub fn offer(sheet: Sheet, labels: &[u8]) -> Result<Sheet, Refusal>
     if labels.len() != labels_due(&sheet) {
         return Err(Refusal::OtherRecord(0));
     }
-    conditions::check(&fitting.plan(), labels)?;
+    conditions::check(&fitting.fit(), labels)?;
     Ok(fitting.relabelled(labels))
 }
 
@@ -61,7 +61,7 @@ pub fn turn(sheet: Sheet, items: &[u16], direction: u8) -> Result<Sheet, Refusal
     ensures { told result ≡ packed_as (turn_call (reads sheet) items.now direction) }
 {
     let fitting = sheet::require_fitting(&sheet, Stage::Labelled)?;
-    let turned = turn::turn_labels(sheet.labels, &fitting.plan(), items, direction)?;
+    let turned = turn::turn_labels(sheet.labels, &fitting.fit(), items, direction)?;
     Ok(fitting.with_labels(&turned))
 }
 
