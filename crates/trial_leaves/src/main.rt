@@ -146,9 +146,12 @@ fn print_chart(plan: &Table, labels: &[u8], record: Option<&[u8]>) {
     }
 }
 
-// The place of the label rules, and the chart where they are kept.
+// The place of the label rules, and the chart where they are kept, of a plan that fits.
 fn print_labels(plan: &Table, labels: &[u8], record: Option<&[u8]>) {
-    let ten = conditions::check(plan, labels);
+    let Some(fit) = fit::of(plan) else {
+        return;
+    };
+    let ten = conditions::check(&fit, labels);
     console::print(format_args!(" 10:{}", place_of(ten, plan.n)));
     if ten.is_ok() {
         print_chart(plan, labels, record);
