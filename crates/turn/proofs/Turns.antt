@@ -39,29 +39,30 @@ chunk_is (a ∷ b ∷ l) (suc m) zero h w e f = λ i. dart (sym e i) (sym f i)
 chunk_is (a ∷ b ∷ l) (suc m) (suc k) h w e f = chunk_is l m k (omega arith) (omega arith) e f
 
 -- ---- the place of a dart's label in an array
-module _ (r : Rings) (fits : fit (plan_of r) ≡ true) (same : r.starts.now ≡ starts_of r.sizes.now) (u v : ℕ) {s i k : ℕ} (from-s : s ≡ get_or r.starts.now u 0) (at : i ≡ index_of v (ring (plan_of r) u)) (size : k ≡ size_of r.sizes.now r.n u) where
+module _ (r : Rings) (fits : fit (plan_of r) ≡ true) (same : r.starts.now ≡ starts_of r.sizes.now) where
   small : r.n ≤ 200
   small =
       let h = (fit-says (plan_of r) fits).few in
       let n = count-rows r.starts.now r.sizes.now r.entries.now r.n in
       omega arith
 
-  -- by the sizes alone
-  by-sizes : place_of (table r.sizes.now r.entries.now r.n) u v ≡ place_of (plan_of r) u v
-  by-sizes = ap (λ (p : Plan). place_of p u v) (sym (is-table r.starts.now r.sizes.now r.entries.now r.n same small))
+  module _ (u v : ℕ) {s i k : ℕ} (from-s : s ≡ get_or r.starts.now u 0) (at : i ≡ index_of v (ring (plan_of r) u)) (size : k ≡ size_of r.sizes.now r.n u) where
+    -- by the sizes alone
+    by-sizes : place_of (table r.sizes.now r.entries.now r.n) u v ≡ place_of (plan_of r) u v
+    by-sizes = ap (λ (p : Plan). place_of p u v) (sym (is-table r.starts.now r.sizes.now r.entries.now r.n same small))
 
-  -- the index is below the size: the start and the index
-  pub place_found : i < k → Some (s + i) ≡ place_of (plan_of r) u v
-  unfolding place_of
-  place_found h =
-      ap Some (place_there r.starts.now r.sizes.now r.entries.now r.n same small u v from-s at size h)
-      ∙ sym (rw (dart_test r.starts.now r.sizes.now r.entries.now r.n same small u v from-s at size ∙ lt-ltb i k h))
-      ∙ by-sizes
+    -- the index is below the size: the start and the index
+    pub place_found : i < k → Some (s + i) ≡ place_of (plan_of r) u v
+    unfolding place_of
+    place_found h =
+        ap Some (place_there r.starts.now r.sizes.now r.entries.now r.n same small u v from-s at size h)
+        ∙ sym (rw (dart_test r.starts.now r.sizes.now r.entries.now r.n same small u v from-s at size ∙ lt-ltb i k h))
+        ∙ by-sizes
 
-  -- it is not: there is no dart
-  pub place_missing : k ≤ i → None ≡ place_of (plan_of r) u v
-  unfolding place_of
-  place_missing h = sym (rw (dart_test r.starts.now r.sizes.now r.entries.now r.n same small u v from-s at size ∙ le-ltb i k h)) ∙ by-sizes
+    -- it is not: there is no dart
+    pub place_missing : k ≤ i → None ≡ place_of (plan_of r) u v
+    unfolding place_of
+    place_missing h = sym (rw (dart_test r.starts.now r.sizes.now r.entries.now r.n same small u v from-s at size ∙ le-ltb i k h)) ∙ by-sizes
 
 -- ---- a dart turned at its place
 module _ (p : Plan) (u v : ℕ) where
