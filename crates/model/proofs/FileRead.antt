@@ -198,7 +198,8 @@ rest_read [] c parts e = go (empty c.rest) refl e
 rest_read (d ∷ due) c parts e = go (rest_read due) (empty c.rest) refl e
   where
     go : ((f : Cursor) (l : List Part) → frame_rest due f ≡ accepted l → RestAs due f l) → (t : Bool) → empty c.rest ≡ t
-        → cond t (accepted []) (cond (d.skippable && not (eqb (word (drop 2 c.rest)) d.kind)) (frame_rest due c) (frame c d.kind (eqb d.size) >>= λ (f : Framed). frame_rest due f.1 >>= λ (l : List Part). accepted ((d.kind, f.0) ∷ l))) ≡ accepted parts
+        → cond t (accepted [])
+        (cond (d.skippable && not (eqb (word (drop 2 c.rest)) d.kind)) (frame_rest due c) (frame c d.kind (eqb d.size) >>= λ (f : Framed). frame_rest due f.1 >>= λ (l : List Part). accepted ((d.kind, f.0) ∷ l))) ≡ accepted parts
         → RestAs (d ∷ due) c parts
     go r true y e = rest-none (d ∷ due) c parts y e
     go r false y e = rest_more d due c parts r (eqb (word (drop 2 c.rest)) d.kind) refl d.skippable refl e

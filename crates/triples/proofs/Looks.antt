@@ -116,6 +116,7 @@ above p fits u b f near = go (any f (from (suc b) (count p - suc b))) refl
             none_of f (from (suc b) (count p - suc b)) e c (from-mem (suc b) (count p - suc b) c (omega arith) (omega arith))
 
 -- the two together
-pub any_above : (r : rings.Rings) → fit (plan_of r) ≡ true → (u b : ℕ) (f : ℕ → Bool) → ((c : ℕ) → f c ≡ true → adjacent (plan_of r) u c ≡ true) → {a e : ℕ} → a ≡ get_or r.starts.now u 0 → e ≡ get_or r.starts.now u 0 + size_of r.sizes.now r.n u
+pub any_above : (r : rings.Rings) → fit (plan_of r) ≡ true → (u b : ℕ) (f : ℕ → Bool) → ((c : ℕ) → f c ≡ true → adjacent (plan_of r) u c ≡ true)
+    → {a e : ℕ} → a ≡ get_or r.starts.now u 0 → e ≡ get_or r.starts.now u 0 + size_of r.sizes.now r.n u
     → list_any (λ (i : ℕ). ltb b (neighbour (get_or r.entries.now i 0)) && f (neighbour (get_or r.entries.now i 0))) (range_with_len a (e - a)) ≡ any f (after (plan_of r) b)
 any_above r fits u b f near from to = ring_any r u (λ (c : ℕ). ltb b c && f c) from to ∙ above (plan_of r) fits u b f near

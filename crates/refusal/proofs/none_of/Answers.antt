@@ -16,7 +16,10 @@ pub returns-in-Some : goal.returns-in-Some
 returns-in-Some g c = λ k bad says refusals.
     let n = c.args.n in
     let small = c.ranges.n.fits in
-    let found = found-below bad n (2 ^ 64) (omega arith) c.find.result (first_from_Range _ _ _ c.find.result (λ (u : ℕ). u < 2 ^ 64 → bad u ≡ true) (λ (u : ℕ). u < 2 ^ 64 → bad u ≡ false) c.find.ensures.ran (λ x q f. search (rules, tests, says)) (λ x q f. search (rules, tests, says))) in
+    let hits : ℕ → Type 0 = λ (u : ℕ). u < 2 ^ 64 → bad u ≡ true in
+    let misses : ℕ → Type 0 = λ (u : ℕ). u < 2 ^ 64 → bad u ≡ false in
+    let first = first_from_Range _ _ _ c.find.result hits misses c.find.ensures.ran (λ x q f. search (rules, tests, says)) (λ x q f. search (rules, tests, says)) in
+    let found = found-below bad n (2 ^ 64) (omega arith) c.find.result first in
     let low : c.in-Some.u < n = (subst (Found bad n) c.in-Some.is found).1 in
     let (number, place) = refusals c.in-Some.u c.refuse.result (omega arith) c.refuse.ensures in
     (λ i. refused (number i) (place i)) ∙ found_one bad n passed (refused k) found c.in-Some.is
@@ -25,5 +28,8 @@ pub returns : goal.returns
 returns g c = λ k bad says refusals.
     let n = c.args.n in
     let small = c.ranges.n.fits in
-    let found = found-below bad n (2 ^ 64) (omega arith) c.find.result (first_from_Range _ _ _ c.find.result (λ (u : ℕ). u < 2 ^ 64 → bad u ≡ true) (λ (u : ℕ). u < 2 ^ 64 → bad u ≡ false) c.find.ensures.ran (λ x q f. search (rules, tests, says)) (λ x q f. search (rules, tests, says))) in
+    let hits : ℕ → Type 0 = λ (u : ℕ). u < 2 ^ 64 → bad u ≡ true in
+    let misses : ℕ → Type 0 = λ (u : ℕ). u < 2 ^ 64 → bad u ≡ false in
+    let first = first_from_Range _ _ _ c.find.result hits misses c.find.ensures.ran (λ x q f. search (rules, tests, says)) (λ x q f. search (rules, tests, says)) in
+    let found = found-below bad n (2 ^ 64) (omega arith) c.find.result first in
     found_none bad n passed (refused k) found c.in-None.is
