@@ -4,7 +4,7 @@ use mathlib.Core.Path.{◌≡◌, refl, ap, ◌∙◌}
 use mathlib.Core.List.{List, [], ◌∷◌}
 use native.Mathlib.Omega.{arith}
 use lib.ListN.{length}
-use Rattle.model.specs.Outcome.{Outcome, accepted, refused, ◌>>=◌}
+use Rattle.model.specs.Outcome.{Outcome, accepted, refused, mapped}
 use Rattle.model.specs.File as file
 use Rattle.model.specs.Calls.{open_call, write_call}
 use Rattle.writing.specs.Files.{buffer_after}
@@ -34,9 +34,9 @@ some_in (a ∷ b) h = refl
 -- ---- what a call tells, where the sheet that it leaves fits into the struct
 pub given-packed : (r : Result Sheet Refusal) (o : Outcome file.Sheet) → told r ≡ packed_as o → ((t : file.Sheet) → o ≡ accepted t → Held t) → given r ≡ o
 unfolding given packed_as
-given-packed r o e h = ap (λ (q : Outcome Sheet). q >>= λ (s : Sheet). accepted (reads s)) e ∙ go o h
+given-packed r o e h = ap (mapped reads) e ∙ go o h
   where
-    go : (p : Outcome file.Sheet) → ((t : file.Sheet) → p ≡ accepted t → Held t) → (packed_as p >>= λ (s : Sheet). accepted (reads s)) ≡ p
+    go : (p : Outcome file.Sheet) → ((t : file.Sheet) → p ≡ accepted t → Held t) → mapped reads (packed_as p) ≡ p
     go (accepted t) k = ap accepted (reads-packed t (k t refl))
     go (refused n at) k = refl
 

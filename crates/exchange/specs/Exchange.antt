@@ -1,6 +1,6 @@
 -- Sheets handed over as bytes, and handed back as bytes. What a sheet's bytes are is said by sheet_of_bytes and bytes_back alone; a file is what open takes.
 use Rattle.std.specs.Prelude.{◌≡◌, ℕ, List, [], ◌∷◌}
-use Rattle.model.specs.Outcome.{Outcome, accepted, ◌>>=◌}
+use Rattle.model.specs.Outcome.{Outcome, accepted, ◌>>=◌, mapped}
 use Rattle.model.specs.File as file
 use Rattle.model.specs.Calls.{open_call, write_call}
 use Rattle.model.specs.CallLists.{Call, call}
@@ -23,11 +23,11 @@ bytes_back o buffer = o >>= λ (t : file.Sheet). write_call t buffer
 
 -- what a result tells of what is handed over: the sheet that its struct holds, or the refusal
 unfoldable pub handed : Result Judged Refusal → Outcome file.Sheet
-handed r = told r >>= λ (j : Judged). accepted (reads j.sheet)
+handed r = mapped (λ (j : Judged). reads j.sheet) (told r)
 
 -- what a result tells of what a call leaves: the sheet that its struct holds, or the refusal
 unfoldable pub given : Result Sheet Refusal → Outcome file.Sheet
-given r = told r >>= λ (s : Sheet). accepted (reads s)
+given r = mapped reads (told r)
 
 -- a call of which this is said gives what the model's call c gives
 abbrev pub Makes : (Judged → Result Sheet Refusal → Type 0) → Call → Type 0

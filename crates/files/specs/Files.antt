@@ -11,7 +11,7 @@ use Rattle.files.specs.declared.Part.{Part}
 
 -- what ring answers: the offset and the length of a part, or the refusal
 abbrev pub part_of : Result Part Refusal → model.Outcome (ℕ × ℕ)
-part_of r = told r >>= λ (p : Part). model.accepted (p.at, p.size)
+part_of r = model.mapped (λ (p : Part). (p.at, p.size)) (told r)
 
 -- a file of its own length at the front of a buffer, whose later bytes stay; 16 where the buffer is short
 abbrev pub copied : List ℕ → List ℕ → model.Outcome (ℕ × List ℕ)

@@ -10,7 +10,7 @@ use Rattle.lists.specs.Spans.{stretch, zeros, padded}
 use Rattle.lists.proofs.Ranges.{get_or-map-from}
 use Rattle.lists.proofs.Loops.{padded-none, padded-put}
 use Rattle.lists.proofs.Padded.{stretch-padded}
-use Rattle.model.specs.Outcome.{Outcome, accepted, refused, ◌>>=◌}
+use Rattle.model.specs.Outcome.{Outcome, accepted, refused, mapped, ◌>>=◌}
 use Rattle.model.specs.File.{Cursor, Framed, frame, fits_ring, frame_rings}
 use Rattle.rings.specs.Tables.{start_of, starts_of}
 use Rattle.rings.specs.Lent.{words_at, body_at, lent}
@@ -53,8 +53,7 @@ rings-lent file b u (suc k) at h e =
 
 -- rings put before those that are still to be framed
 abbrev after : List (List ℕ) → Outcome (List (List ℕ) × Cursor) → Outcome (List (List ℕ) × Cursor)
-after done (accepted r) = accepted (done ++ r.0, r.1)
-after done (refused k p) = refused k p
+after done o = mapped (λ (r : List (List ℕ) × Cursor). (done ++ r.0, r.1)) o
 
 after_more : (done : List (List ℕ)) (r : List ℕ) (o : Outcome (List (List ℕ) × Cursor))
     → after done (o >>= λ (t : List (List ℕ) × Cursor). accepted (r ∷ t.0, t.1)) ≡ after (done ++ r ∷ []) o
@@ -108,7 +107,8 @@ module _ {file : List ℕ} {n at i : ℕ} {sizes : List ℕ} (inv : Walks file n
       let count = inv.count in
       let body = words-stretch file (at + 4) z (2 * z) refl in
       let stand = inv.stands in
-      let last : rings_in file 6 l ++ (words (stretch file (at + 4) (2 * z)) ∷ []) ≡ rings_in file 6 (l ++ z ∷ []) = (λ t. rings_in file 6 l ++ ((body ∙ ap (λ (k : ℕ). words_at file (k + 4) z) stand) t ∷ [])) ∙ sym (rings-more file 6 l z) in
+      let ring = body ∙ ap (λ (k : ℕ). words_at file (k + 4) z) stand in
+      let last : rings_in file 6 l ++ (words (stretch file (at + 4) (2 * z)) ∷ []) ≡ rings_in file 6 (l ++ z ∷ []) = (λ t. rings_in file 6 l ++ (ring t ∷ [])) ∙ sym (rings-more file 6 l z) in
       record {
         reached = omega arith;
         near = omega arith;

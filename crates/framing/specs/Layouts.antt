@@ -1,7 +1,7 @@
 -- The layout of a lent file: what it says of the file in the terms of the model.
 use Rattle.std.specs.Prelude.{ℕ, ◌+◌, ◌*◌, List, [], ◌∷◌, Bool, false, cond, ◌&&◌, leb, Result, Ok, Err}
 use Rattle.lists.specs.Spans.{stretch}
-use Rattle.model.specs.Outcome.{Outcome, accepted, ◌>>=◌, ◌>>◌, require}
+use Rattle.model.specs.Outcome.{Outcome, accepted, ◌>>=◌, ◌>>◌, mapped, require}
 use Rattle.model.specs.Plan.{Plan, count, labels_due}
 use Rattle.model.specs.Chart.{Chart}
 use Rattle.model.specs.File.{Sheet, opened, labelled, charted, frame_rings, Due, Part, frame_rest, optional, chart_in, sheet_of}
@@ -39,9 +39,7 @@ laid file l = sheet_with file l.n (plan_in file l.sizes l.n) l.parts
 
 -- The sheet that is found in a file by its layout, or the refusal
 abbrev pub sheet_in : List ℕ → Result Layout Refusal → Outcome Sheet
-sheet_in file r = do
-  l ← told r
-  accepted (laid file l)
+sheet_in file r = mapped (laid file) (told r)
 
 -- ---- what is still to be framed, for the steps of frame_file
 
@@ -53,9 +51,7 @@ parts_in file p (Parts.Chart labels chart) = (3, labels_in file p labels) ∷ (4
 
 -- the same, by their offsets, or the refusal
 abbrev pub parts_of : List ℕ → Plan → Result Parts Refusal → Outcome (List Part)
-parts_of file p r = do
-  q ← told r
-  accepted (parts_in file p q)
+parts_of file p r = mapped (parts_in file p) (told r)
 
 -- a record that may not be skipped
 abbrev pub row : ℕ → ℕ → Due

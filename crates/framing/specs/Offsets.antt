@@ -1,7 +1,7 @@
 -- The records of a lent file by their offsets: what the answers about one record and about the rings say in the terms of the model.
 use Rattle.std.specs.Prelude.{ℕ, ◌+◌, ◌-◌, ◌*◌, ◌<◌, ◌≤◌, ◌≡◌, List, [], Bool, cond, ◌&&◌, length, drop, leb, Option, Some, None, Result, Ok, Err}
 use Rattle.lists.specs.Spans.{stretch, padded}
-use Rattle.model.specs.Outcome.{Outcome, accepted, ◌>>=◌, ◌>>◌, require}
+use Rattle.model.specs.Outcome.{Outcome, accepted, ◌>>=◌, ◌>>◌, mapped, require}
 use Rattle.model.specs.File.{Cursor, Framed, Part}
 use Rattle.refusal.specs.declared.Refusal.{Refusal}
 use Rattle.refusal.specs.Refusals.{told}
@@ -44,9 +44,7 @@ end_of r = told r >> accepted []
 
 -- a ring record by the number of its entries
 abbrev pub ring_of : code.Cursor → Result ℕ Refusal → Outcome Framed
-ring_of c r = do
-  z ← told r
-  accepted (stretch c.file.now (c.at + 4) (2 * z), cursor c.file.now (c.at + 4 + 2 * z))
+ring_of c r = mapped (λ (z : ℕ). (stretch c.file.now (c.at + 4) (2 * z), cursor c.file.now (c.at + 4 + 2 * z))) (told r)
 
 -- a ring has fewer entries than there are contexts
 abbrev pub RingBelow : ℕ → Result ℕ Refusal → Type 0
@@ -55,9 +53,7 @@ RingBelow n (Err r) = Unit {0}
 
 -- all ring records: the rings, and the place behind them
 abbrev pub walk_of : List ℕ → ℕ → Result Walk Refusal → Outcome (List (List ℕ) × Cursor)
-walk_of file n r = do
-  w ← told r
-  accepted ((lent (starts_of w.sizes) w.sizes file n).rings, cursor file w.at)
+walk_of file n r = mapped (λ (w : Walk). ((lent (starts_of w.sizes) w.sizes file n).rings, cursor file w.at)) (told r)
 
 -- the sizes of n rings, zeros after them, and an offset that n rings of fewer than 200 entries can reach
 abbrev pub WalkBounds : ℕ → Result Walk Refusal → Type 0
