@@ -148,7 +148,8 @@ small-sweep p h = small_bind (sweep_from p (count p) (first_state p)) _ (small-s
 small-offered : (p : Plan) (ls : List ℕ) → count p ≤ 200 → Small (offered p ls)
 unfolding offered
 small-offered p ls h =
-    small_then (require (eqb (length ls) (dart_count (count p))) 2 0) _ (small-require (eqb (length ls) (dart_count (count p))) 2 0 (omega arith) (omega arith)) (λ _ _. small_then (label_rules p ls) _ (small-labels p ls h) (λ _ _. small-accepted _))
+    let right = eqb (length ls) (dart_count (count p)) in
+    small_then (require right 2 0) _ (small-require right 2 0 (omega arith) (omega arith)) (λ _ _. small_then (label_rules p ls) _ (small-labels p ls h) (λ _ _. small-accepted _))
 
 -- The calls that change a sheet
 pub small-call : (s : Sheet) (c : Call) → Good s → Small (call s c)
@@ -164,12 +165,17 @@ pub small_write : (t : Sheet) (buffer : List ℕ) → Good t → Small (write_ca
 unfolding write_call
 small_write t buffer g =
     let short = file_short t g in
-    small-plan_of t _ g (λ p k. small_then (require (leb (length (encode t)) (length buffer)) 16 (length (encode t))) _ (small-require (leb (length (encode t)) (length buffer)) 16 (length (encode t)) (omega arith) (omega arith)) (λ _ _. small-accepted _))
+    let b = encode t in
+    let room = leb (length b) (length buffer) in
+    small-plan_of t _ g (λ p k. small_then (require room 16 (length b)) _ (small-require room 16 (length b) (omega arith) (omega arith)) (λ _ _. small-accepted _))
 
 -- Scan
-pub small-scan : (s : Sheet) → Good s → Small (scan_call s)
-unfolding scan_call
-small-scan s g = small-plan_of s _ g (λ p k. small-accepted _)
+pub small-scan : (s : Sheet) → Small (scan_call s)
+unfolding scan_call plan_of
+small-scan fresh = small-refused _ _ (omega arith) (omega arith)
+small-scan (opened p) = small-accepted _
+small-scan (labelled p ls) = small-accepted _
+small-scan (charted p ls c) = small-accepted _
 
 -- Same
 pub small_same : (s t : Sheet) → Small (same_call s t)

@@ -3,9 +3,11 @@ use Prim.Native.Nat.{ℕ, zero, suc, ◌+◌, ◌-◌, ◌*◌, ◌≤◌, ◌<�
 use mathlib.Core.Path.{◌≡◌, refl, sym, ap, ◌∙◌}
 use mathlib.Core.List.{List, [], ◌∷◌, ◌++◌}
 use mathlib.Core.Bool.{Bool, true, false, cond, not, ◌&&◌, ◌||◌}
-use mathlib.Core.Option.{some, some-injective, none-ne-some}
 use native.Mathlib.Omega.{arith}
 use lib.ListN.{length, get_or, take, length-append}
+use Rattle.std.specs.Prelude.{Some}
+use Rattle.std.specs.List.{find}
+use Rattle.std.proofs.lemmas.Option.{none-some, same_Some}
 use Rattle.lists.specs.Parts.{concat}
 use Rattle.lists.specs.Words.{bytes}
 use Rattle.lists.proofs.Bools.{and_yes}
@@ -14,7 +16,7 @@ use Rattle.model.specs.Outcome.{passed}
 use Rattle.model.specs.Plan.{Plan, count, entries, adjacent, entry_count, plan_rules}
 use Rattle.model.specs.Labels.{start}
 use Rattle.model.specs.Chart.{Chart}
-use Rattle.model.specs.Scan.{Triple, inner_face, enclosing, first_enclosing, triples, scan}
+use Rattle.model.specs.Scan.{Triple, inner_face, enclosing, triples, scan}
 use Rattle.model.specs.File.{Sheet, fresh, opened, labelled, charted, entry, points, chart_out, rings_out, plan_out, encode}
 use Rattle.model.specs.Calls.{ring_start}
 use Rattle.model.proofs.Plans.{adjacent-from}
@@ -70,17 +72,16 @@ file_short (charted p ls c) g =
 
 -- ---- the scan
 -- what is found encloses
-found_encloses : (p : Plan) (ts : List Triple) (t : Triple) → first_enclosing p ts ≡ some t → enclosing p t ≡ true
-unfolding first_enclosing
-found_encloses p [] t e = absurd (none-ne-some t e)
+found_encloses : (p : Plan) (ts : List Triple) (t : Triple) → find (enclosing p) ts ≡ Some t → enclosing p t ≡ true
+found_encloses p [] t e = absurd (none-some t e)
 found_encloses p (q ∷ ts) t e = go (enclosing p q) refl (found_encloses p ts t) e
   where
-    go : (b : Bool) → enclosing p q ≡ b → (first_enclosing p ts ≡ some t → enclosing p t ≡ true) → cond b (some q) (first_enclosing p ts) ≡ some t → enclosing p t ≡ true
-    go true h r e = ap (enclosing p) (sym (some-injective q t e)) ∙ h
+    go : (b : Bool) → enclosing p q ≡ b → (find (enclosing p) ts ≡ Some t → enclosing p t ≡ true) → cond b (Some q) (find (enclosing p) ts) ≡ Some t → enclosing p t ≡ true
+    go true h r e = ap (enclosing p) (sym (same_Some q t e)) ∙ h
     go false h r e = r e
 
 -- The three contexts are contexts of the plan
-pub scan-inside : (p : Plan) → ((u v : ℕ) → adjacent p u v ≡ true → v < count p) → (a b c : ℕ) → scan p ≡ some (a, b, c) → (a < count p) × (b < count p) × (c < count p)
+pub scan-inside : (p : Plan) → ((u v : ℕ) → adjacent p u v ≡ true → v < count p) → (a b c : ℕ) → scan p ≡ Some (a, b, c) → (a < count p) × (b < count p) × (c < count p)
 unfolding scan enclosing
 scan-inside p inside a b c e =
     let known = found_encloses p (triples p) (a, b, c) e in

@@ -5,7 +5,7 @@ use mathlib.Core.Bool.{Bool, true, false, cond}
 use native.Mathlib.Omega.{arith}
 use lib.Dec.{leb}
 use Rattle.lists.specs.Ranges.{first_from, lowest}
-use Rattle.model.specs.Outcome.{Outcome, accepted, refused, require, rule, ◌>>=◌, ◌>>◌}
+use Rattle.model.specs.Outcome.{Outcome, accepted, refused, mapped, require, rule, ◌>>=◌, ◌>>◌}
 use Rattle.model.proofs.Outcomes.{not-both, same-refusal}
 
 -- An outcome whose refusal, if it is one, has a number up to 17 and a place below 2^17
@@ -25,6 +25,11 @@ small-refused k at a b = record { says = λ j t e. let (n, p) = same-refusal e i
 pub small_bind : {A B : Type 0} (o : Outcome A) (f : A → Outcome B) → Small o → ((a : A) → o ≡ accepted a → Small (f a)) → Small (o >>= f)
 small_bind (accepted a) f s h = h a refl
 small_bind (refused k at) f s h = let (a, b) = s.says k at refl in small-refused k at a b
+
+-- one step, its result mapped
+pub small_mapped : {A B : Type 0} (f : A → B) (o : Outcome A) → Small o → Small (mapped f o)
+small_mapped f (accepted a) s = small-accepted (f a)
+small_mapped f (refused k at) s = let (a, b) = s.says k at refl in small-refused k at a b
 
 -- two steps, the second without a result
 pub small_then : {A B : Type 0} (o : Outcome A) (b : Outcome B) → Small o → ((a : A) → o ≡ accepted a → Small b) → Small (o >> b)

@@ -2,7 +2,7 @@
 use Prim.Native.Nat.{ℕ}
 use mathlib.Core.Path.{◌≡◌, refl, sym, ap, ap₂, ◌∙◌}
 use mathlib.Core.List.{List, [], ◌∷◌}
-use Rattle.model.specs.Outcome.{Outcome, accepted, refused, ◌>>=◌, ◌>>◌, taken}
+use Rattle.model.specs.Outcome.{Outcome, accepted, refused, ◌>>=◌, ◌>>◌, mapped, taken}
 use Rattle.model.specs.Plan.{Plan}
 use Rattle.model.specs.Chart.{Chart, chart}
 use Rattle.model.specs.Sweep.{sweep}
@@ -10,11 +10,12 @@ use Rattle.model.specs.Turn.{turn}
 use Rattle.model.specs.File.{Sheet, fresh, opened, labelled, charted}
 use Rattle.model.specs.Calls.{plan_of, labels_of, offered, offer_call, sweep_call, turn_call, chart_call}
 use Rattle.model.specs.CallLists.{Call, open_file, offer_labels, sweep-labels, turn_edges, draw_chart, call, run, Ledger, both, ledger_plan, ledger_labels, plan_and_labels, enter, ledger}
-use Rattle.guarantee.specs.Verdicts.{verdict, judgements}
+use Rattle.sheet.specs.Answers.{answer_of}
+use Rattle.guarantee.specs.Verdicts.{judgements}
 
 -- what the ledger enters for what a call leaves
 abbrev pub entered : Outcome Sheet → Outcome Ledger
-entered o = o >>= λ t. accepted (plan_and_labels t)
+entered o = mapped plan_and_labels o
 
 -- both stand at the same stage, as far as plan and labels go
 plan-same : (s : Sheet) → ledger_plan (plan_and_labels s) ≡ plan_of s
@@ -81,14 +82,15 @@ unfolding run ledger
 ledger_follows [] s = refl
 ledger_follows (c ∷ cs) s = ledger_follows cs (taken s (call s c)) ∙ ap (λ (g : Ledger). ledger g cs) (follows s c)
 
-same-verdict : (o : Outcome Sheet) → verdict o ≡ verdict (entered o)
-same-verdict (accepted t) = refl
-same-verdict (refused k at) = refl
+same-answer : (o : Outcome Sheet) → answer_of o ≡ answer_of (entered o)
+unfolding answer_of
+same-answer (accepted t) = refl
+same-answer (refused k at) = refl
 
 -- what is answered to each call, by the definitions
 unfoldable pub answers : Sheet → List Call → List (Outcome (Unit {0}))
 answers s [] = []
-answers s (c ∷ cs) = verdict (call s c) ∷ answers (taken s (call s c)) cs
+answers s (c ∷ cs) = answer_of (call s c) ∷ answers (taken s (call s c)) cs
 
 -- and each was answered as the ledger judges it
 pub same-answers : (cs : List Call) (s : Sheet) → answers s cs ≡ judgements (plan_and_labels s) cs
@@ -96,5 +98,5 @@ unfolding answers judgements
 same-answers [] s = refl
 same-answers (c ∷ cs) s =
     ap₂ (λ (a : Outcome (Unit {0})) (l : List (Outcome (Unit {0}))). a ∷ l)
-    (same-verdict (call s c) ∙ ap (λ (o : Outcome Ledger). verdict o) (sym (agrees s c)))
+    (same-answer (call s c) ∙ ap (λ (o : Outcome Ledger). answer_of o) (sym (agrees s c)))
     (same-answers cs (taken s (call s c)) ∙ ap (λ (g : Ledger). judgements g cs) (follows s c))

@@ -3,7 +3,7 @@ use Prim.Native.Nat.{ℕ}
 use mathlib.Core.Path.{◌≡◌, refl, ap}
 use mathlib.Core.List.{List, [], ◌∷◌}
 use mathlib.Core.Bool.{true, false}
-use mathlib.Core.Option.{none, some}
+use Rattle.std.specs.Prelude.{Some, None}
 use Rattle.lists.specs.Ranges.{first_from}
 use Rattle.lists.specs.Tests.{tally}
 use Rattle.model.specs.Outcome.{refused, passed, taken}
@@ -18,6 +18,7 @@ use Rattle.model.specs.Calls.{calls_computes}
 use Rattle.model.specs.CallLists.{Call, open_file, sweep-labels, turn_edges, draw_chart, run, standing, neither, both, ledger, call_lists_computes}
 use Rattle.model.specs.Trenches.{B}
 use Rattle.sheet.specs.Sheets.{reads}
+use Rattle.sheet.specs.Answers.{answer_of}
 use Rattle.guarantee.specs.Engine.{start, left, told}
 use Rattle.guarantee.specs.Verdicts.{newer, last_accepted, draws}
 use Rattle.guarantee.specs.Guarantee.{Owed}
@@ -34,10 +35,10 @@ chart_b = record { w = 2; h = 3; xs = 2 ∷ 2 ∷ 0 ∷ 0 ∷ 1 ∷ 1 ∷ []; ys
 
 -- the turn of 4,5 is 10 at 4, so the chart stays
 pub answered : told start draw_b ≡ passed ∷ passed ∷ passed ∷ refused 10 4 ∷ []
-unfolding draw_b answers taken first_from plan_computes labels_computes sweep_computes chart_computes turn_computes file_computes calls_computes call_lists_computes
+unfolding draw_b answers answer_of taken first_from plan_computes labels_computes sweep_computes chart_computes turn_computes file_computes calls_computes call_lists_computes
 answered = told_same draw_b fresh fresh_good
 
-pub stands : standing (reads (left start draw_b)) ≡ some chart_b
+pub stands : standing (reads (left start draw_b)) ≡ Some chart_b
 unfolding draw_b chart_b taken first_from plan_computes labels_computes sweep_computes chart_computes turn_computes file_computes calls_computes call_lists_computes
 stands = ap standing (left-reads draw_b)
 
@@ -46,7 +47,7 @@ pub owed : (p : Plan) × (ls : List ℕ) × (ledger neither draw_b ≡ both p ls
 owed = (guarantee draw_b).such_chart chart_b stands
 
 -- written and opened again, it stands
-pub stands_again : draws (last_accepted none neither (open_file (encode (run fresh draw_b)) ∷ [])) ≡ true
+pub stands_again : draws (last_accepted None neither (open_file (encode (run fresh draw_b)) ∷ [])) ≡ true
 unfolding draw_b draws newer last_accepted taken first_from plan_computes labels_computes sweep_computes chart_computes turn_computes file_computes calls_computes call_lists_computes
 stands_again = refl
 

@@ -2,7 +2,8 @@
 use Prim.Native.Nat.{ℕ}
 use mathlib.Core.Path.{◌≡◌, refl, sym, ap, subst, ◌∙◌}
 use mathlib.Core.List.{List}
-use mathlib.Core.Option.{none, some, some-injective, none-ne-some}
+use Rattle.std.specs.Prelude.{Some, None, is_some}
+use Rattle.std.proofs.lemmas.Option.{none-some, same_Some}
 use Rattle.model.specs.Outcome.{accepted, passed}
 use Rattle.model.specs.Plan.{Plan, plan_rules}
 use Rattle.model.specs.Labels.{label_rules}
@@ -13,7 +14,7 @@ use Rattle.sheet.specs.Sheets.{packed}
 use Rattle.model.proofs.PlanRules.{sound}
 use Rattle.model.proofs.LabelRules.{labels_exactly}
 use Rattle.model.proofs.Placements.{placed, chart-is}
-use Rattle.guarantee.specs.Verdicts.{draws, present}
+use Rattle.guarantee.specs.Verdicts.{draws}
 use Rattle.guarantee.specs.Guarantee.{Owed, Guarantee}
 use Rattle.plan_theory.proofs.Drawing.{placement_draws}
 use Rattle.guarantee.proofs.Agreement.{ledger_follows, same-answers}
@@ -29,22 +30,22 @@ owed p ls c rules labels e =
     record { least = least; drawn = placement_draws p (sound p rules) ls ((labels_exactly p ls).0 labels) slope c (placed slope p ls c least.keeps) }
 
 -- the chart of a sheet that keeps the rules
-stored : (s : Sheet) → Kept s → (g : Ledger) → plan_and_labels s ≡ g → (c : Chart) → standing s ≡ some c → (p : Plan) × (ls : List ℕ) × (g ≡ both p ls) × Owed p ls c
+stored : (s : Sheet) → Kept s → (g : Ledger) → plan_and_labels s ≡ g → (c : Chart) → standing s ≡ Some c → (p : Plan) × (ls : List ℕ) × (g ≡ both p ls) × Owed p ls c
 unfolding standing plan_and_labels
-stored fresh h g e c q = absurd (none-ne-some c q)
-stored (opened p) h g e c q = absurd (none-ne-some c q)
-stored (labelled p ls) h g e c q = absurd (none-ne-some c q)
-stored (charted p ls d) h g e c q = (p, ls, sym e, subst (Owed p ls) (some-injective d c q) (owed p ls d h.0 h.1 h.2))
+stored fresh h g e c q = absurd (none-some c q)
+stored (opened p) h g e c q = absurd (none-some c q)
+stored (labelled p ls) h g e c q = absurd (none-some c q)
+stored (charted p ls d) h g e c q = (p, ls, sym e, subst (Owed p ls) (same_Some d c q) (owed p ls d h.0 h.1 h.2))
 
 -- DEMAND 3
 pub guarantee : (calls : List Call) → Guarantee calls
-unfolding plan_and_labels standing present draws
+unfolding plan_and_labels standing draws
 guarantee calls =
     let same = left-reads calls in
     record {
       same_verdicts = told_same calls fresh fresh_good ∙ same-answers calls fresh;
       same_ledger = ap plan_and_labels same ∙ ledger_follows calls fresh;
-      stands_exactly = ap (λ (s : Sheet). present (standing s)) same ∙ stands_after calls fresh none tt refl;
+      stands_exactly = ap (λ (s : Sheet). is_some (standing s)) same ∙ stands_after calls fresh None tt refl;
       such_chart = λ c e. stored (run fresh calls) (run-kept calls fresh tt) (ledger neither calls) (ledger_follows calls fresh) c (ap standing (sym same) ∙ e);
       nothing_else = left-packed calls fresh fresh_good ∙ ap packed (sym same);
     }

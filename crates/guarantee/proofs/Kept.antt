@@ -3,10 +3,10 @@ use Prim.Native.Nat.{ℕ}
 use mathlib.Core.Path.{◌≡◌, refl, sym, ap, ◌∙◌, subst}
 use mathlib.Core.List.{List, [], ◌∷◌}
 use mathlib.Core.Bool.{Bool, true, false, ◌&&◌}
-use mathlib.Core.Option.{Option, some}
 use lib.ListN.{length}
 use lib.Dec.{eqb}
 use borrow.Author.Tests.{eqb-true, eq-eqb}
+use Rattle.std.specs.Prelude.{Option, Some, is_some}
 use Rattle.lists.specs.Tests.{same_list}
 use Rattle.lists.specs.Parts.{pairs}
 use Rattle.lists.proofs.Bools.{and_yes, yes_and}
@@ -23,7 +23,7 @@ use Rattle.model.specs.CallLists.{Call, open_file, offer_labels, sweep-labels, t
 use Rattle.model.proofs.Outcomes.{same-value, not-both, bind_at, bind_accepted, then_accepted, passed_then, require-passed}
 use Rattle.model.proofs.RingPart.{open_accepted}
 use Rattle.model.proofs.LabelCounts.{turn-accepted}
-use Rattle.guarantee.specs.Verdicts.{newer, last_accepted, draws, present}
+use Rattle.guarantee.specs.Verdicts.{newer, last_accepted, draws}
 use Rattle.guarantee.proofs.Records.{opened_holds}
 use Rattle.guarantee.proofs.Agreement.{entered, agrees}
 
@@ -106,19 +106,19 @@ kept_judged (charted p ls c) h =
 -- ---- what an accepted call leaves: it keeps the rules, and it has a chart exactly if the call draws one
 pub record After (c : Call) (t : Sheet) : Type 0 where
   pub kept : Kept t
-  pub drawn : present (standing t) ≡ draws (some c)
+  pub drawn : is_some (standing t) ≡ draws (Some c)
 
-after-labels : {A : Type 0} (c : Call) (o : Outcome A) (plan : A → Plan) (f : A → Outcome (List ℕ)) (t : Sheet) → draws (some c) ≡ false
+after-labels : {A : Type 0} (c : Call) (o : Outcome A) (plan : A → Plan) (f : A → Outcome (List ℕ)) (t : Sheet) → draws (Some c) ≡ false
     → ((a : A) → o ≡ accepted a → plan_rules (plan a) ≡ passed) → ((a : A) (ms : List ℕ) → f a ≡ accepted ms → label_rules (plan a) ms ≡ passed)
     → (o >>= λ a. f a >>= λ ms. accepted (labelled (plan a) ms)) ≡ accepted t → After c t
-unfolding standing present
+unfolding standing
 after-labels c o plan f t undrawn plans labels e =
     let (a, e₁, r) = bind_accepted o _ t e in
     let (ms, e₂, q) = bind_accepted (f a) _ t r in
     subst (After c) (same-value q) (record { kept = (plans a e₁, labels a ms e₂); drawn = sym undrawn })
 
 after-chart : (s t : Sheet) → Kept s → chart_call s ≡ accepted t → After draw_chart t
-unfolding chart_call standing present draws
+unfolding chart_call standing draws
 after-chart s t h e =
     let (a, e₁, r) = bind_accepted (labels_of s) _ t e in
     let (c, e₂, q) = bind_accepted (chart a.0 a.1) _ t r in
@@ -144,16 +144,16 @@ run-kept (c ∷ cs) s h = run-kept cs (taken s (call s c)) (go (call s c) refl)
     go (refused k at) e = h
 
 -- and a chart stands exactly if the last accepted call draws one
-pub stands_after : (cs : List Call) (s : Sheet) (last : Option Call) → Kept s → present (standing s) ≡ draws last → present (standing (run s cs)) ≡ draws (last_accepted last (plan_and_labels s) cs)
+pub stands_after : (cs : List Call) (s : Sheet) (last : Option Call) → Kept s → is_some (standing s) ≡ draws last → is_some (standing (run s cs)) ≡ draws (last_accepted last (plan_and_labels s) cs)
 unfolding run last_accepted taken newer
 stands_after [] s last h q = q
 stands_after (c ∷ cs) s last h q = go (call s c) refl (stands_after cs)
   where
-    go : (o : Outcome Sheet) → call s c ≡ o → ((t : Sheet) (l : Option Call) → Kept t → present (standing t) ≡ draws l → present (standing (run t cs)) ≡ draws (last_accepted l (plan_and_labels t) cs))
-        → present (standing (run (taken s o) cs)) ≡ draws (last_accepted (newer (enter (plan_and_labels s) c) c last) (taken (plan_and_labels s) (enter (plan_and_labels s) c)) cs)
+    go : (o : Outcome Sheet) → call s c ≡ o → ((t : Sheet) (l : Option Call) → Kept t → is_some (standing t) ≡ draws l → is_some (standing (run t cs)) ≡ draws (last_accepted l (plan_and_labels t) cs))
+        → is_some (standing (run (taken s o) cs)) ≡ draws (last_accepted (newer (enter (plan_and_labels s) c) c last) (taken (plan_and_labels s) (enter (plan_and_labels s) c)) cs)
     go (accepted t) e later =
         let l = leaves s t c h e in
-        later t (some c) l.kept l.drawn
+        later t (Some c) l.kept l.drawn
         ∙ ap (λ (o : Outcome Ledger). draws (last_accepted (newer o c last) (taken (plan_and_labels s) o) cs)) (sym (agrees s c ∙ ap entered e))
     go (refused k at) e later =
         later s last h q

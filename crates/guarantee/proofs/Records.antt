@@ -6,6 +6,7 @@ use mathlib.Core.Bool.{Bool, true, false, cond, not, ◌&&◌, ◌||◌, false�
 use native.Mathlib.Omega.{arith}
 use lib.ListN.{length, drop, length-drop}
 use lib.Dec.{eqb, leb}
+use Rattle.std.specs.Prelude.{is_some}
 use Rattle.lists.specs.Tests.{empty, member}
 use Rattle.lists.specs.Words.{word, words}
 use Rattle.model.specs.Outcome.{Outcome, accepted, refused, ◌>>=◌, ◌>>◌, require}
@@ -16,7 +17,6 @@ use Rattle.model.specs.CallLists.{standing, kinds, holds_chart}
 use Rattle.model.proofs.Outcomes.{same-value, not-both, bind_accepted, then_accepted}
 use Rattle.model.proofs.RingPart.{open_accepted}
 use Rattle.model.proofs.FileRead.{frame-says}
-use Rattle.guarantee.specs.Verdicts.{present}
 
 -- ---- whether kind 4 is among the kinds of these bytes
 abbrev Finds : List ℕ → Bool → Type 0
@@ -72,16 +72,16 @@ finds_rest (d ∷ due) c parts e = go (finds_rest due) (empty c.rest) refl (d.sk
         let (l, e₂, h) = bind_accepted (frame_rest due f.1) _ parts g in
         subst (λ (m : List Part). Finds c.rest (member 4 (kinds_of m))) (same-value h) (finds_record c d.kind (eqb d.size) f (member 4 (kinds_of l)) e₁ (later f.1 l e₂))
 
-found-chart : (p : Plan) (parts : List Part) → member 4 (kinds_of parts) ≡ present (standing (sheet_of p parts))
-unfolding sheet_of standing present
+found-chart : (p : Plan) (parts : List Part) → member 4 (kinds_of parts) ≡ is_some (standing (sheet_of p parts))
+unfolding sheet_of standing
 found-chart p parts = go (member 4 (kinds_of parts)) (member 3 (kinds_of parts))
   where
-    go : (t u : Bool) → t ≡ present (standing (cond t (charted p (body_of 3 parts) (chart_in (words (body_of 4 parts)))) (cond u (labelled p (body_of 3 parts)) (opened p))))
+    go : (t u : Bool) → t ≡ is_some (standing (cond t (charted p (body_of 3 parts) (chart_in (words (body_of 4 parts)))) (cond u (labelled p (body_of 3 parts)) (opened p))))
     go true u = refl
     go false true = refl
     go false false = refl
 
-finds_file : (b : List ℕ) (s : Sheet) → decode b ≡ accepted s → Finds b (present (standing s))
+finds_file : (b : List ℕ) (s : Sheet) → decode b ≡ accepted s → Finds b (is_some (standing s))
 unfolding decode
 finds_file b s e =
     let start : Cursor = record { at = 0; rest = b } in
@@ -91,10 +91,10 @@ finds_file b s e =
     let (g, e₂, q₃) = bind_accepted (frame_rings n n f.1) _ s q₂ in
     let p : Plan = record { rings = g.0 } in
     let (parts, e₃, q₄) = bind_accepted (frame_rest (optional p) g.1) _ s q₃ in
-    let chart_there : member 4 (kinds_of parts) ≡ present (standing s) = found-chart p parts ∙ ap (λ (z : Sheet). present (standing z)) (same-value q₄) in
-    finds_record start 1 (eqb 2) f (present (standing s)) e₁ (finds_rings n n f.1 g (present (standing s)) e₂ (subst (Finds g.1.rest) chart_there (finds_rest (optional p) g.1 parts e₃)))
+    let chart_there : member 4 (kinds_of parts) ≡ is_some (standing s) = found-chart p parts ∙ ap (λ (z : Sheet). is_some (standing z)) (same-value q₄) in
+    finds_record start 1 (eqb 2) f (is_some (standing s)) e₁ (finds_rings n n f.1 g (is_some (standing s)) e₂ (subst (Finds g.1.rest) chart_there (finds_rest (optional p) g.1 parts e₃)))
 
 -- A file that is opened holds a chart exactly when one stands afterwards
-pub opened_holds : (b : List ℕ) (s : Sheet) → open_call b ≡ accepted s → present (standing s) ≡ holds_chart b
+pub opened_holds : (b : List ℕ) (s : Sheet) → open_call b ≡ accepted s → is_some (standing s) ≡ holds_chart b
 unfolding holds_chart
 opened_holds b s e = sym (finds_file b s (open_accepted b s e).0 (length b) (omega arith))

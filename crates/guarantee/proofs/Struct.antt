@@ -9,7 +9,6 @@ use Rattle.sheet.specs.Sheets.{reads, packed}
 use Rattle.sheet.specs.Answers.{answer_of, after}
 use Rattle.sheet.proofs.Packed.{reads-packed}
 use Rattle.guarantee.specs.Engine.{start, left, told}
-use Rattle.guarantee.specs.Verdicts.{verdict}
 use Rattle.guarantee.proofs.Agreement.{answers}
 use Rattle.guarantee.proofs.Sized.{Good, fresh_good, leaves_good, held_sized}
 
@@ -22,11 +21,6 @@ after-packed : (s : Sheet) (o : Outcome Sheet) → after (packed s) o ≡ packed
 unfolding after taken
 after-packed s (accepted t) = refl
 after-packed s (refused k at) = refl
-
-answer_verdict : (o : Outcome Sheet) → answer_of o ≡ verdict o
-unfolding answer_of
-answer_verdict (accepted t) = refl
-answer_verdict (refused k at) = refl
 
 pub taken_good : (s : Sheet) (c : Call) → Good s → Good (taken s (call s c))
 unfolding taken
@@ -50,7 +44,7 @@ pub told_same : (cs : List Call) (s : Sheet) → Good s → told (packed s) cs �
 unfolding told answers
 told_same [] s g = refl
 told_same (c ∷ cs) s g =
-    let first = ap (λ (t : Sheet). answer_of (call t c)) (read_back s g) ∙ answer_verdict (call s c) in
+    let first = ap (λ (t : Sheet). answer_of (call t c)) (read_back s g) in
     let rest = ap (λ (t : struct.Sheet). told t cs) (call-packed s c g) ∙ told_same cs (taken s (call s c)) (taken_good s c g) in
     λ i. first i ∷ rest i
 

@@ -1,14 +1,13 @@
 -- Demand 3: what holds after every list of open, offer, sweep, turn and chart calls on a fresh sheet, refused calls included.
-use Rattle.std.specs.Prelude.{ℕ, ◌≡◌}
+use Rattle.std.specs.Prelude.{ℕ, ◌≡◌, Some, None, is_some}
 use mathlib.Core.List.{List}
-use Rattle.std.proofs.Math.Option.{none, some}
 use Rattle.model.specs.Plan.{Plan}
 use Rattle.model.specs.Chart.{Chart, IsChart, slope}
 use Rattle.model.specs.CallLists.{Call, standing, plan_and_labels, neither, both, ledger}
 use Rattle.plan_theory.specs.Draws.{Draws}
 use Rattle.sheet.specs.Sheets.{reads, packed}
 use Rattle.guarantee.specs.Engine.{start, left, told}
-use Rattle.guarantee.specs.Verdicts.{judgements, last_accepted, draws, present}
+use Rattle.guarantee.specs.Verdicts.{judgements, last_accepted, draws}
 
 -- What is owed of a chart c that stands. Lines and inner faces are those of the ledger's plan p; ls are the ledger's labels.
 pub record Owed (p : Plan) (ls : List ℕ) (c : Chart) : Type 0 where
@@ -24,8 +23,8 @@ pub record Guarantee (calls : List Call) : Type 0 where
   -- The sheet's plan and labels, if any, are the ledger's.
   pub same_ledger : plan_and_labels (reads (left start calls)) ≡ ledger neither calls
   -- A chart stands exactly when the last accepted call was chart, or an open of a file that holds a chart.
-  pub stands_exactly : present (standing (reads (left start calls))) ≡ draws (last_accepted none neither calls)
+  pub stands_exactly : is_some (standing (reads (left start calls))) ≡ draws (last_accepted None neither calls)
   -- A chart that stands is owed all of the above, for the ledger's plan and labels.
-  pub such_chart : (c : Chart) → standing (reads (left start calls)) ≡ some c → (p : Plan) × (ls : List ℕ) × (ledger neither calls ≡ both p ls) × Owed p ls c
+  pub such_chart : (c : Chart) → standing (reads (left start calls)) ≡ Some c → (p : Plan) × (ls : List ℕ) × (ledger neither calls ≡ both p ls) × Owed p ls c
   -- The struct holds nothing else: what is not in use is zero.
   pub nothing_else : left start calls ≡ packed (reads (left start calls))

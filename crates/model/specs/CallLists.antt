@@ -1,9 +1,8 @@
 -- Lists of calls: what they leave on a sheet, and the ledger that 01 keeps beside it.
-use Rattle.std.specs.Prelude.{ℕ, zero, suc, ◌+◌, List, [], ◌∷◌, Bool, length, drop}
-use Rattle.std.proofs.Math.Option.{Option, none, some}
+use Rattle.std.specs.Prelude.{ℕ, zero, suc, ◌+◌, List, [], ◌∷◌, Bool, length, drop, Option, Some, None}
 use Rattle.lists.specs.Tests.{member}
 use Rattle.lists.specs.Words.{word}
-use Rattle.model.specs.Outcome.{Outcome, accepted, refused, ◌>>=◌, ◌>>◌, taken}
+use Rattle.model.specs.Outcome.{Outcome, accepted, refused, ◌>>=◌, ◌>>◌, mapped, taken}
 use Rattle.model.specs.Plan.{Plan}
 use Rattle.model.specs.Chart.{Chart, chart}
 use Rattle.model.specs.Sweep.{sweep}
@@ -59,7 +58,7 @@ plan_and_labels (charted p ls c) = both p ls
 
 -- the ledger after an accepted call, judged by its arguments and the ledger alone
 unfoldable pub enter : Ledger → Call → Outcome Ledger
-enter g (open_file b) = open_call b >>= λ s. accepted (plan_and_labels s)
+enter g (open_file b) = mapped plan_and_labels (open_call b)
 enter g (offer_labels ls) = do
   p ← ledger_plan g
   ms ← offered p ls
@@ -84,10 +83,10 @@ ledger g (c ∷ cs) = ledger (taken g (enter g c)) cs
 
 -- A chart stands when the stage is CHARTED; it is the stored w, h, x and y
 unfoldable pub standing : Sheet → Option Chart
-standing fresh = none
-standing (opened p) = none
-standing (labelled p ls) = none
-standing (charted p ls c) = some c
+standing fresh = None
+standing (opened p) = None
+standing (labelled p ls) = None
+standing (charted p ls c) = Some c
 
 -- the kinds of a file's records, in file order
 unfoldable pub kinds : ℕ → List ℕ → List ℕ

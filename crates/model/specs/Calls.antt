@@ -1,7 +1,6 @@
 -- The calls on a sheet: open, offer, sweep, turn, chart, write, scan, same, ring. The stage comes first, then the order of 01's table.
-use Rattle.std.specs.Prelude.{ℕ, ◌*◌, List, [], ◌++◌, Bool, ◌&&◌, length, take, drop, eqb, ltb, leb}
-use Rattle.std.proofs.Math.Option.{Option}
-use Rattle.model.specs.Outcome.{Outcome, accepted, refused, passed, ◌>>=◌, ◌>>◌, require}
+use Rattle.std.specs.Prelude.{ℕ, ◌*◌, List, [], ◌++◌, Bool, ◌&&◌, length, take, drop, eqb, ltb, leb, Option}
+use Rattle.model.specs.Outcome.{Outcome, accepted, refused, passed, ◌>>=◌, ◌>>◌, mapped, require}
 use Rattle.model.specs.Plan.{Plan, count, entries, labels_due, plan_rules}
 use Rattle.model.specs.Labels.{start, label_rules}
 use Rattle.model.specs.Chart.{Chart, chart, same_chart}
@@ -102,9 +101,7 @@ write_call s buffer =
 
 -- scan names the smallest triple, or says that there is none
 unfoldable pub scan_call : Sheet → Outcome (Option Triple)
-scan_call s = do
-  p ← plan_of s
-  accepted (scan p)
+scan_call s = mapped scan (plan_of s)
 
 -- same says yes exactly when n, w, h and all points are equal
 unfoldable pub same_call : Sheet → Sheet → Outcome Bool

@@ -1,7 +1,7 @@
 -- Scan: the smallest triple of mutual neighbours that are no inner face.
 -- Standard term: a separating triangle, where the plan lies flat.
-use Rattle.std.specs.Prelude.{ℕ, suc, ◌-◌, List, [], ◌∷◌, map, Bool, cond, not, ◌&&◌, ◌||◌}
-use Rattle.std.proofs.Math.Option.{Option, none, some}
+use Rattle.std.specs.Prelude.{ℕ, suc, ◌-◌, List, [], ◌∷◌, map, Bool, not, ◌&&◌, ◌||◌, Option}
+use Rattle.std.specs.List.{find}
 use Rattle.lists.specs.Tests.{same_list}
 use Rattle.lists.specs.Ranges.{from}
 use Rattle.lists.specs.Parts.{concat}
@@ -29,16 +29,11 @@ enclosing p t =
     let (a, b, c) = t in
     adjacent p a b && adjacent p a c && adjacent p b c && not (inner_face p a b c || inner_face p a c b)
 
--- the first of the triples that encloses
-unfoldable pub first_enclosing : Plan → List Triple → Option Triple
-first_enclosing p [] = none
-first_enclosing p (t ∷ ts) = let later = first_enclosing p ts in cond (enclosing p t) (some t) later
-
--- The scan: the first such triple, or none
+-- The scan: the first of the triples that encloses, or none
 unfoldable pub scan : Plan → Option Triple
-scan p = first_enclosing p (triples p)
+scan p = find (enclosing p) (triples p)
 
 -- who unfolds this unfolds all of the above: for facts that are computed
 unfoldable pub scan_computes : Unit {0}
-unfolding after triples inner_face enclosing first_enclosing scan
+unfolding after triples inner_face enclosing scan
 scan_computes = tt

@@ -1,8 +1,7 @@
 -- Four trenches, and the table of what 01 says is to be shown of them.
-use Rattle.std.specs.Prelude.{ℕ, ◌+◌, ◌%◌, ◌≡◌, List, [], ◌∷◌, ◌++◌, map, pos}
-use Rattle.std.proofs.Math.Option.{none, some}
+use Rattle.std.specs.Prelude.{ℕ, ◌+◌, ◌%◌, ◌≡◌, List, [], ◌∷◌, ◌++◌, map, pos, Some, None}
 use Rattle.lists.specs.Parts.{concat}
-use Rattle.model.specs.Outcome.{Outcome, accepted, refused, passed, ◌>>=◌}
+use Rattle.model.specs.Outcome.{Outcome, accepted, refused, passed, ◌>>=◌, mapped}
 use Rattle.model.specs.Plan.{Plan, faces}
 use Rattle.model.specs.Labels.{labels_around, label_rules}
 use Rattle.model.specs.Chart.{Chart, chart}
@@ -66,20 +65,20 @@ Holds (r ∷ rs) = (r.worked ≡ r.said) × Holds rs
 unfoldable pub table : List Row
 table =
     -- A's sweep labels 4 as 0,1,2,3
-    row (sweep A >>= λ ls. accepted (labels_around A ls 4)) (accepted (0 ∷ 1 ∷ 2 ∷ 3 ∷ []))
+    row (mapped (λ ls. labels_around A ls 4) (sweep A)) (accepted (0 ∷ 1 ∷ 2 ∷ 3 ∷ []))
     -- A's chart is 2 by 2 with 4 at (1,1)
     ∷ row (swept_chart A) (accepted (record { w = 2; h = 2; xs = 2 ∷ 2 ∷ 0 ∷ 0 ∷ 1 ∷ []; ys = 2 ∷ 0 ∷ 0 ∷ 2 ∷ 1 ∷ [] }))
     -- B's is 2 by 3 with 4 at (1,1), 5 at (1,2)
     ∷ row (swept_chart B) (accepted (record { w = 2; h = 3; xs = 2 ∷ 2 ∷ 0 ∷ 0 ∷ 1 ∷ 1 ∷ []; ys = 3 ∷ 0 ∷ 0 ∷ 3 ∷ 1 ∷ 2 ∷ [] }))
     -- face 3,4,5 in B has doubled area 1; B's areas sum to 12
-    ∷ row (swept_chart B >>= λ c. accepted (area c (3 ∷ 4 ∷ 5 ∷ []))) (accepted (pos 1))
-    ∷ row (swept_chart B >>= λ c. accepted (areas c (faces B))) (accepted (pos 12))
+    ∷ row (mapped (λ c. area c (3 ∷ 4 ∷ 5 ∷ [])) (swept_chart B)) (accepted (pos 1))
+    ∷ row (mapped (λ c. areas c (faces B)) (swept_chart B)) (accepted (pos 12))
     -- turning 4,5 in B clockwise is 10 at 4
     ∷ row (sweep B >>= λ ls. turn B ls (4 ∷ 5 ∷ []) 0) (refused 10 4)
     -- scan of A and B names none; scan of C names 0,1,4
-    ∷ row (scan A) none
-    ∷ row (scan B) none
-    ∷ row (scan C) (some (0, 1, 4))
+    ∷ row (scan A) None
+    ∷ row (scan B) None
+    ∷ row (scan C) (Some (0, 1, 4))
     -- sweep of C is 14
     ∷ row (sweep C) (refused 14 0)
     -- D's labels with A's swept ones pass; their chart is 11; sweep of D is 10 at 5

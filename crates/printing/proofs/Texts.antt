@@ -3,15 +3,13 @@ use Prim.Native.Nat.{ℕ, zero, suc, ◌+◌, ◌≤◌}
 use mathlib.Core.Path.{◌≡◌, refl, sym, ap, ◌∙◌}
 use mathlib.Core.List.{List, [], ◌∷◌, ◌++◌}
 use mathlib.Core.Bool.{true}
-use mathlib.Core.Option.{Option}
 use native.Mathlib.Omega.{arith}
 use native.Mathlib.Numerals.{add-one}
 use lib.ListN.{get_or}
 use Rattle.lists.proofs.Padded.{get_or-padded}
 use Rattle.lists.specs.Spans.{padded}
-use Rattle.std.proofs.Common.{length-append, Some, None}
-use Rattle.std.specs.declared.option.Option.{Option as Found}
-use Rattle.triples.specs.Scanned.{scanned_as}
+use Rattle.std.specs.Prelude.{Option, Some, None}
+use Rattle.std.proofs.Common.{length-append}
 use Rattle.buffer.proofs.Puts.{put_join}
 use Rattle.model.specs.Outcome.{Outcome, accepted, refused}
 use Rattle.model.specs.Plan.{Plan, count}
@@ -157,14 +155,14 @@ module _ (s : file.Sheet) where
   scan-accepted found e = ap (λ (o : Outcome (Option Triple)). told o (λ (f : Option Triple). triangle_line f ++ sweep_text s)) e
 
 -- the two lines that a scan may print
-module _ {found : Found (ℕ × ℕ × ℕ)} where
-  pub none_line : found ≡ None → triangle_line (scanned_as found) ≡ letters "triangle none\n"
-  unfolding scanned_as triangle_line
-  none_line is = ap (λ (o : Found (ℕ × ℕ × ℕ)). triangle_line (scanned_as o)) is
+module _ {found : Option Triple} where
+  pub none_line : found ≡ None → triangle_line found ≡ letters "triangle none\n"
+  unfolding triangle_line
+  none_line is = ap triangle_line is
 
-  pub found_line : {a b c : ℕ} → found ≡ Some (a, b, c) → triangle_line (scanned_as found) ≡ line "triangle # # #\n" (a ∷ b ∷ c ∷ [])
-  unfolding scanned_as triangle_line
-  found_line is = ap (λ (o : Found (ℕ × ℕ × ℕ)). triangle_line (scanned_as o)) is
+  pub found_line : {a b c : ℕ} → found ≡ Some (a, b, c) → triangle_line found ≡ line "triangle # # #\n" (a ∷ b ∷ c ∷ [])
+  unfolding triangle_line
+  found_line is = ap triangle_line is
 
 -- ---- open
 -- where the struct's plan is read, its number of contexts is printed

@@ -1,6 +1,5 @@
 -- The text of sheetprint, as 01 has it: open, scan, sweep, chart, and a line or more for each but the sweep. In each line `#` stands for the next number.
-use Rattle.std.specs.Prelude.{ℕ, zero, suc, List, [], ◌∷◌, ◌++◌, cond, length, get_or, take, drop, leb}
-use Rattle.std.proofs.Math.Option.{Option, none, some}
+use Rattle.std.specs.Prelude.{ℕ, zero, suc, List, [], ◌∷◌, ◌++◌, cond, length, get_or, take, drop, leb, Option, Some, None}
 use Rattle.model.specs.Outcome.{Outcome, accepted, refused}
 use Rattle.model.specs.Plan.{Plan, count}
 use Rattle.model.specs.Chart.{Chart}
@@ -16,8 +15,8 @@ plan_line n = line "plan #\n" (n ∷ [])
 
 -- the scan: three numbers if found
 unfoldable pub triangle_line : Option Triple → List ℕ
-triangle_line none = letters "triangle none\n"
-triangle_line (some (a, b, c)) = line "triangle # # #\n" (a ∷ b ∷ c ∷ [])
+triangle_line None = letters "triangle none\n"
+triangle_line (Some (a, b, c)) = line "triangle # # #\n" (a ∷ b ∷ c ∷ [])
 
 -- w and h
 unfoldable pub size_line : ℕ → ℕ → List ℕ

@@ -2,7 +2,6 @@
 #![tactic(auto)]
 
 ghost use Rattle.std.specs.Prelude.{◌≡◌, ◌++◌, ◌+◌, ◌*◌, ◌≤◌, length, take};
-ghost use Rattle.triples.specs.Scanned.{scanned_as};
 ghost use Rattle.refusal.specs.Refusals.{number_of, place_of};
 ghost use Rattle.sheet.specs.Sheets.{reads};
 ghost use Rattle.buffer.specs.Puts.{put};
@@ -74,8 +73,8 @@ fn put_swept(to: &mut Buffer, sheet: &Sheet)
 // The line of what a scan finds: three contexts, or none.
 #[tactic(auto, using(crate::proofs::Prints::lines), unfolding(forms::specs::Forms::line, forms::specs::Words::letters))]
 fn put_triangle(to: &mut Buffer, found: Option<(usize, usize, usize)>)
-    ensures value { to.new ≡ put to.old (triangle_line (scanned_as found)) }
-    ensures upper_bound { length (triangle_line (scanned_as found)) ≤ 72 }
+    ensures value { to.new ≡ put to.old (triangle_line found) }
+    ensures upper_bound { length (triangle_line found) ≤ 72 }
 {
     match found {
         None => to.put_bytes(b"triangle none\n"),
@@ -84,7 +83,7 @@ fn put_triangle(to: &mut Buffer, found: Option<(usize, usize, usize)>)
 }
 
 // From scan on.
-#[tactic(auto, using(crate::proofs::Texts::scanned), unfolding(reports::specs::Scanned::scanned_as))]
+#[tactic(auto, using(crate::proofs::Texts::scanned))]
 fn put_scanned(to: &mut Buffer, sheet: &Sheet)
     ensures value { to.new ≡ put to.old (scan_text (reads sheet.now)) }
     ensures upper_bound { length (scan_text (reads sheet.now)) ≤ 3738 }

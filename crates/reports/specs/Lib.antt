@@ -1,2 +1,1 @@
 pub mod FileParts
-pub mod Scanned

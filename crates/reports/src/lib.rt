@@ -9,7 +9,6 @@ ghost use Rattle.writing.specs.Files.{sheet_held, buffer_after};
 ghost use Rattle.sheet.specs.Sheets.{held_chart, reads};
 ghost use Rattle.sheet.specs.Answers.{length_of};
 ghost use Rattle.reports.specs.FileParts.{written_at};
-ghost use Rattle.reports.specs.Scanned.{scanned_as};
 
 use refusal::Refusal;
 use sheet::{Sheet, Stage};
@@ -46,9 +45,9 @@ pub fn write(sheet: &Sheet, out: &mut [u8]) -> Result<usize, Refusal>
 }
 
 // Scan (OPEN up): the smallest triple of mutual neighbours that are no inner face, or that there is none.
-#[tactic(auto, using(crate::proofs::Scans::steps), unfolding(sheet::specs::Sheets::rank, sheet::specs::Answers::answer_of, crate::specs::Scanned::scanned_as))]
+#[tactic(auto, using(crate::proofs::Scans::steps), unfolding(sheet::specs::Sheets::rank, sheet::specs::Answers::answer_of))]
 pub fn scan(sheet: &Sheet) -> Result<Option<(usize, usize, usize)>, Refusal>
-    ensures { scanned_as result ≡ scan_call (reads sheet.now) }
+    ensures { told result ≡ scan_call (reads sheet.now) }
 {
     let fitting = sheet::require_fitting(sheet, Stage::Open)?;
     Ok(triples::scan(&fitting.fit()))

@@ -3,13 +3,12 @@ use Prim.Native.Nat.{ℕ, ◌+◌, ◌-◌, ◌≤◌, ◌<◌}
 use mathlib.Core.Path.{◌≡◌, refl, sym, ap}
 use mathlib.Core.List.{List}
 use mathlib.Core.Bool.{Bool, true, false, cond, ◌&&◌}
-use mathlib.Core.Option.{Option, none, some, none-ne-some}
 use native.Mathlib.Omega.{arith}
 use lib.ListN.{length, get_or, take, drop}
 use lib.Dec.{leb}
 use borrow.Author.Tests.{leb-true, le-leb, lt-leb, ne_eqb}
 use Rattle.lists.proofs.Bools.{and_yes}
-use Rattle.std.specs.Prelude.{Some, Ok, Err}
+use Rattle.std.specs.Prelude.{Option, Some, None, Ok, Err}
 use Rattle.std.proofs.lemmas.Option.{none-some, same_Some}
 use Rattle.std.specs.Result.{result_unwrap_or}
 use Rattle.std.specs.declared.result.Result.{Result}
@@ -37,7 +36,7 @@ unwrapped s (Err f) (refused k at) e = refl
 -- ---- kinds
 module _ (a : List ℕ) where
   -- a number that stands for no kind
-  pub kind_other : (kind : ℕ) → (0 < kind → 5 < kind) → call_of kind a ≡ none
+  pub kind_other : (kind : ℕ) → (0 < kind → 5 < kind) → call_of kind a ≡ None
   unfolding call_of
   kind_other kind h = rw (ne_eqb kind 1 (λ e. omega arith), ne_eqb kind 2 (λ e. omega arith), ne_eqb kind 3 (λ e. omega arith), ne_eqb kind 4 (λ e. omega arith), ne_eqb kind 5 (λ e. omega arith))
 
@@ -45,13 +44,13 @@ module _ (a : List ℕ) where
 -- its size
 pub step-size : (s : Sheet) (size : ℕ) (q : Option Call) (r : Step) → Some r ≡ stepped s size q → r.size ≡ size
 unfolding stepped
-step-size s size none r e = absurd (none-some _ (sym e))
-step-size s size (some c) r e = ap (λ (t : Step). t.size) (same_Some _ _ e)
+step-size s size None r e = absurd (none-some _ (sym e))
+step-size s size (Some c) r e = ap (λ (t : Step). t.size) (same_Some _ _ e)
 
 -- ---- the item that the bytes begin with
 module _ (s : List ℕ) where
   -- fewer than 4 bytes
-  pub item-short : length s < 4 → call_at s ≡ none
+  pub item-short : length s < 4 → call_at s ≡ None
   unfolding call_at
   item-short h = rw (lt-leb 4 (length s) h)
 
@@ -63,12 +62,12 @@ module _ (s : List ℕ) where
       rw (le-leb 4 (length s) h, le-leb (argument_size s) (length s - 4) (omega arith)) (λ i. call_of (e i) (take (m i) (drop 4 s)))
 
   -- an item that is not malformed lies in the script
-  pub item-fits : (c : Call) → call_at s ≡ some c → 4 + argument_size s ≤ length s
+  pub item-fits : (c : Call) → call_at s ≡ Some c → 4 + argument_size s ≤ length s
   unfolding call_at
   item-fits c e = go (leb 4 (length s) && leb (argument_size s) (length s - 4)) refl e
     where
-      go : (t : Bool) → (leb 4 (length s) && leb (argument_size s) (length s - 4)) ≡ t → cond t (call_of (get_or s 0 0) (take (argument_size s) (drop 4 s))) none ≡ some c → 4 + argument_size s ≤ length s
-      go false q f = absurd (none-ne-some c f)
+      go : (t : Bool) → (leb 4 (length s) && leb (argument_size s) (length s - 4)) ≡ t → cond t (call_of (get_or s 0 0) (take (argument_size s) (drop 4 s))) None ≡ Some c → 4 + argument_size s ≤ length s
+      go false q f = absurd (none-some c f)
       go true q f =
           let (h, l) = and_yes (leb 4 (length s)) (leb (argument_size s) (length s - 4)) q in
           let h' = leb-true 4 (length s) h in

@@ -2,11 +2,11 @@
 use Prim.Native.Nat.{ℕ, ◌+◌, ◌-◌, ◌*◌, ◌%◌, ◌≤◌, ◌<◌, min}
 use mathlib.Core.Path.{◌≡◌, refl, sym, ap, ◌∙◌}
 use mathlib.Core.List.{List, map}
-use mathlib.Core.Option.{some}
 use native.Mathlib.Omega.{arith}
 use lib.ListN.{length, get_or, take, drop, length-drop}
 use lib.Seq.{ext_get_or, take_all, take_at}
 use borrow.Author.Tests.{le-leb, eq-eqb}
+use Rattle.std.specs.Prelude.{Some}
 use Rattle.lists.specs.Ranges.{from}
 use Rattle.lists.specs.Words.{words}
 use Rattle.lists.specs.Spans.{zeros, padded}
@@ -44,6 +44,6 @@ numbers_front a b k h e f =
     ap (take k) (f ∙ ap (λ (j : ℕ). padded 1200 (words_every a 1 2 j)) all ∙ ap (padded 1200) (words-every a 1 k)) ∙ take_at (words_at a 1 k) (zeros (1200 - length (words_at a 1 k))) k (length-words-at a 1 k) ∙ sym (words-behind a k e)
 
 -- a direction and whole numbers
-pub turn_whole : (a : List ℕ) → length a % 2 ≡ 1 → length a ≤ 2401 → turn_of a ≡ some (turn_edges (words (drop 1 a)) (get_or a 0 0))
+pub turn_whole : (a : List ℕ) → length a % 2 ≡ 1 → length a ≤ 2401 → turn_of a ≡ Some (turn_edges (words (drop 1 a)) (get_or a 0 0))
 unfolding turn_of
 turn_whole a h l = rw (eq-eqb (length a % 2) 1 h, le-leb (length a) 2401 l)

@@ -2,12 +2,10 @@
 use Prim.Native.Nat.{ℕ, zero, suc, ◌+◌, ◌-◌, ◌≤◌}
 use mathlib.Core.Path.{◌≡◌, refl, sym, ap, ◌∙◌}
 use mathlib.Core.List.{List, [], ◌∷◌}
-use mathlib.Core.Option.{Option, none, some}
 use native.Mathlib.Omega.{arith}
 use lib.ListN.{length, take, drop, length-drop}
 use lib.Seq.{take_all, drop-drop}
-use Rattle.std.specs.Prelude as maybe
-use Rattle.std.specs.Prelude.{Some}
+use Rattle.std.specs.Prelude.{Option, Some, None}
 use Rattle.std.proofs.lemmas.Option.{none-some, same_Some}
 use Rattle.model.specs.CallLists.{Call, call}
 use Rattle.sheet.specs.declared.Sheet.{Sheet}
@@ -21,23 +19,23 @@ use Rattle.script.proofs.Items.{item-fits}
 
 -- ---- one item of the definitions
 -- a call and those that follow it
-pub calls_more : (fuel : ℕ) (s : List ℕ) (c : Call) → call_at s ≡ some c → calls_from (suc fuel) s ≡ c ∷ calls_from fuel (behind s)
+pub calls_more : (fuel : ℕ) (s : List ℕ) (c : Call) → call_at s ≡ Some c → calls_from (suc fuel) s ≡ c ∷ calls_from fuel (behind s)
 unfolding calls_from
 calls_more fuel s c e = ap (λ (q : Option Call). with_later q (calls_from fuel (behind s))) e
 
 -- the rest behind an item
-pub rest_more : (fuel : ℕ) (s : List ℕ) (c : Call) → call_at s ≡ some c → rest_from (suc fuel) s ≡ rest_from fuel (behind s)
+pub rest_more : (fuel : ℕ) (s : List ℕ) (c : Call) → call_at s ≡ Some c → rest_from (suc fuel) s ≡ rest_from fuel (behind s)
 unfolding rest_from
 rest_more fuel s c e = ap (λ (q : Option Call). if_called q (rest_from fuel (behind s)) s) e
 
 -- no calls from a malformed item on
-pub calls_none : (fuel : ℕ) (s : List ℕ) → call_at s ≡ none → calls_from fuel s ≡ []
+pub calls_none : (fuel : ℕ) (s : List ℕ) → call_at s ≡ None → calls_from fuel s ≡ []
 unfolding calls_from
 calls_none zero s e = refl
 calls_none (suc fuel) s e = ap (λ (q : Option Call). with_later q (calls_from fuel (behind s))) e
 
 -- the rest from a malformed item on
-pub rest-none : (fuel : ℕ) (s : List ℕ) → call_at s ≡ none → rest_from fuel s ≡ s
+pub rest-none : (fuel : ℕ) (s : List ℕ) → call_at s ≡ None → rest_from fuel s ≡ s
 unfolding rest_from
 rest-none zero s e = refl
 rest-none (suc fuel) s e = ap (λ (q : Option Call). if_called q (rest_from fuel (behind s)) s) e
@@ -62,7 +60,7 @@ rest_whole b at = take_all (length b - at) (drop at b) (omega (arith, length-dro
 
 module _ {b : List ℕ} {s : Sheet} {at : ℕ} (inv : Runs b s at) where
   -- no call at this offset: the script ends here
-  stops : call_at (drop at b) ≡ none → (s ≡ left start (calls_of b)) × (at ≡ end_of b)
+  stops : call_at (drop at b) ≡ None → (s ≡ left start (calls_of b)) × (at ≡ end_of b)
   unfolding left end_of
   stops e =
       let r = inv.reached in
@@ -72,13 +70,13 @@ module _ {b : List ℕ} {s : Sheet} {at : ℕ} (inv : Runs b s at) where
   -- the part of the script from the offset on, as the code lends it
   module _ {w : List ℕ} (part : w ≡ drop at b) where
     -- nothing is left: the script ends here, or at a malformed item
-    pub runs_end : {o : maybe.Option Step} → o ≡ stepped s (4 + argument_size w) (call_at w) → ((r : Step) → o ≡ Some r → ⊥) → (s ≡ left start (calls_of b)) × (at ≡ end_of b)
+    pub runs_end : {o : Option Step} → o ≡ stepped s (4 + argument_size w) (call_at w) → ((r : Step) → o ≡ Some r → ⊥) → (s ≡ left start (calls_of b)) × (at ≡ end_of b)
     unfolding stepped
     runs_end {o} e n = go (call_at w) refl e
       where
         go : (q : Option Call) → call_at w ≡ q → o ≡ stepped s (4 + argument_size w) q → (s ≡ left start (calls_of b)) × (at ≡ end_of b)
-        go none p f = stops (ap call_at (sym part) ∙ p)
-        go (some c) p f = absurd (n _ f)
+        go None p f = stops (ap call_at (sym part) ∙ p)
+        go (Some c) p f = absurd (n _ f)
 
     -- behind an item
     pub runs_on : (r : Step) → Some r ≡ stepped s (4 + argument_size w) (call_at w) → Runs b r.sheet (at + r.size)
@@ -86,8 +84,8 @@ module _ {b : List ℕ} {s : Sheet} {at : ℕ} (inv : Runs b s at) where
     runs_on r e = go (call_at w) refl e
       where
         go : (q : Option Call) → call_at w ≡ q → Some r ≡ stepped s (4 + argument_size w) q → Runs b r.sheet (at + r.size)
-        go none p f = absurd (none-some _ (sym f))
-        go (some c) p f =
+        go None p f = absurd (none-some _ (sym f))
+        go (Some c) p f =
             let k = 4 + argument_size w in
             let same = same_Some _ _ f in
             let u : r.sheet ≡ after s (call (reads s) c) = ap (λ (t : Step). t.sheet) same in

@@ -3,10 +3,10 @@ use Prim.Native.Nat.{ℕ, zero, suc, ◌+◌, ◌-◌, ◌/◌, ◌%◌, ◌^◌
 use mathlib.Core.Path.{◌≡◌, refl, sym, ap, ◌∙◌}
 use mathlib.Core.List.Memᴰ
 use mathlib.Core.List.{List, [], ◌∷◌, ◌++◌}
-use mathlib.Core.Option.{none, some}
 use native.Mathlib.Omega.{arith}
 use lib.ListN.{length, take, drop, length-append}
 use lib.Seq.{take-append_seam, drop-append_seam}
+use Rattle.std.specs.Prelude.{Some, None}
 use Rattle.lists.specs.Words.{bytes}
 use Rattle.lists.proofs.Words.{words-bytes, length-bytes}
 use Rattle.model.specs.CallLists.{Call, open_file, offer_labels, sweep-labels, turn_edges, draw_chart}
@@ -39,16 +39,16 @@ module _ (kind : ℕ) (a s : List ℕ) where
       ap (λ (k : ℕ). drop k (item kind a ++ s)) far ∙ drop-append_seam a s
 
 -- a turn's argument is read back
-turn-read : (items : List ℕ) (direction : ℕ) → length items ≤ 1200 → call_of 4 (direction ∷ bytes items) ≡ some (turn_edges items direction)
+turn-read : (items : List ℕ) (direction : ℕ) → length items ≤ 1200 → call_of 4 (direction ∷ bytes items) ≡ Some (turn_edges items direction)
 unfolding call_of
 turn-read items direction h =
     let long = length-bytes items in
-    turn_whole (direction ∷ bytes items) (omega arith) (omega arith) ∙ ap (λ (l : List ℕ). some (turn_edges l direction)) (words-bytes items)
+    turn_whole (direction ∷ bytes items) (omega arith) (omega arith) ∙ ap (λ (l : List ℕ). Some (turn_edges l direction)) (words-bytes items)
 
 -- the item of a call, at the front of a script
 module _ (s : List ℕ) where
   -- the call is read back
-  call-read : (c : Call) → Holds c → call_at (item_of c ++ s) ≡ some c
+  call-read : (c : Call) → Holds c → call_at (item_of c ++ s) ≡ Some c
   unfolding item_of call_of
   call-read (open_file b) h = item-read 1 b s
   call-read (offer_labels ls) h = item-read 2 ls s
@@ -76,7 +76,7 @@ module _ (s : List ℕ) where
 
 -- ---- the whole script
 -- no call where nothing is left
-none_left : call_at [] ≡ none
+none_left : call_at [] ≡ None
 none_left = item-short [] (omega arith)
 
 -- all calls are read back, and nothing is left, with fuel enough

@@ -1,7 +1,7 @@
 -- One item of a script on the sheet struct: the number of its kind, what its call answers, what it leaves, and how far the script has come.
 use Rattle.std.specs.Prelude.{ℕ, ◌<◌, ◌≡◌, Option, Some, None}
+use Rattle.std.specs.Option.{option_map}
 use Rattle.std.specs.declared.result.Result.{Result}
-use Rattle.std.proofs.Math.Option as maybe
 use Rattle.model.specs.Outcome.{Outcome}
 use Rattle.model.specs.CallLists.{Call, call}
 use Rattle.refusal.specs.declared.Refusal.{Refusal}
@@ -26,16 +26,13 @@ IsKind k (Some g) = k ≡ number_of g
 IsKind k None = 0 < k → 5 < k
 
 -- what was answered, if there was a call
-abbrev pub ran : Option (Result Sheet Refusal) → maybe.Option (Outcome Sheet)
-ran None = maybe.none
-ran (Some r) = maybe.some (told r)
+abbrev pub ran : Option (Result Sheet Refusal) → Option (Outcome Sheet)
+ran o = option_map (λ (r : Result Sheet Refusal). told r) o
 
 -- what an item's call answers on the sheet that a struct holds; nothing where the item is malformed
-unfoldable pub answered : Sheet → maybe.Option Call → maybe.Option (Outcome Sheet)
-answered s maybe.none = maybe.none
-answered s (maybe.some c) = maybe.some (packed_as (call (reads s) c))
+unfoldable pub answered : Sheet → Option Call → Option (Outcome Sheet)
+answered s o = option_map (λ (c : Call). packed_as (call (reads s) c)) o
 
 -- what an item of a size leaves: the struct after its call, accepted or refused; nothing where the item is malformed
-unfoldable pub stepped : Sheet → ℕ → maybe.Option Call → Option Step
-stepped s size maybe.none = None
-stepped s size (maybe.some c) = Some (record { sheet = after s (call (reads s) c); size = size })
+unfoldable pub stepped : Sheet → ℕ → Option Call → Option Step
+stepped s size o = option_map (λ (c : Call). record { sheet = after s (call (reads s) c); size = size }) o

@@ -3,16 +3,15 @@ use Prim.Native.Nat.{ℕ, ◌+◌, ◌*◌, ◌<◌, ◌^◌}
 use mathlib.Core.Path.{◌≡◌, refl, sym, ◌∙◌, subst}
 use mathlib.Core.List.{List}
 use mathlib.Core.Bool.{Bool, true, false}
-use mathlib.Core.Option.{Option, none, some}
 use native.Mathlib.Omega.{arith}
 use lib.Dec.{ltb}
 use borrow.Author.Tests.{ltb-true, ltb-false}
+use Rattle.std.specs.Prelude.{Option, Some, None}
 use Rattle.model.specs.Outcome.{accepted}
-use Rattle.model.specs.Plan.{Plan}
 use Rattle.model.specs.Scan.{Triple, scan}
 use Rattle.model.specs.File.{Sheet}
 use Rattle.model.specs.Calls.{plan_of, scan_call, same_call, ring_call}
-use Rattle.model.proofs.Outcomes.{not-both, same-value, bind_at, bind_off, bind_accepted}
+use Rattle.model.proofs.Outcomes.{not-both, same-value, mapped_at, mapped_off, mapped_accepted, bind_accepted}
 use Rattle.model.proofs.Plans.{adjacent-mem}
 use Rattle.model.proofs.PlanRules.{sound}
 use Rattle.model.proofs.RingPart.{ring-accepted}
@@ -22,12 +21,12 @@ use Rattle.sheet.specs.Sheets.{held_plan, fits, reads, stage_read, rank}
 use Rattle.sheet.proofs.Reading.{plan_early, plan_there, fits_there}
 use Rattle.guarantee.proofs.Sized.{Good}
 use Rattle.exchange.specs.Exchange.{sheet_of_bytes}
-use Rattle.exchange.proofs.Small.{small-accepted, small_bind}
+use Rattle.exchange.proofs.Small.{small_mapped, small_bind}
 use Rattle.exchange.proofs.Sizes.{scan-inside, part_short}
 use Rattle.exchange.proofs.Places.{plan-held, small-scan, small_same, small-ring}
 use Rattle.exchange.proofs.Codes.{Roomy, code_whole}
 use Rattle.exchange.proofs.Handing.{opened_good, handed_good, small_in}
-use Rattle.touchchart.specs.Interface.{triple_value, scan_value, scans_to, same_value, compare_value, compares_to, part_value, rings_to}
+use Rattle.touchchart.specs.Interface.{triple_value, scans_to, same_value, compares_to, part_value, rings_to}
 
 -- ---- scan
 -- three contexts below 200 have room
@@ -37,37 +36,37 @@ triple-small a b c x y z = omega arith
 -- the value of a scan of a good sheet
 scan-value : (s : Sheet) (t : Option Triple) → Good s → scan_call s ≡ accepted t → triple_value t < 2 ^ 48
 unfolding scan_call triple_value
-scan-value s none g e = omega arith
-scan-value s (some (a, b, c)) g e =
-    let (p, q, f) = bind_accepted (plan_of s) (λ (p : Plan). accepted (scan p)) (some (a, b, c)) e in
+scan-value s None g e = omega arith
+scan-value s (Some (a, b, c)) g e =
+    let (p, q, f) = mapped_accepted scan (plan_of s) (Some (a, b, c)) e in
     let h = plan-held s p g q in
     let high = h.fits.high in
-    let (x, y, z) = scan-inside p (sound p h.kept).inside a b c (same-value f) in
+    let (x, y, z) = scan-inside p (sound p h.kept).inside a b c f in
     triple-small a b c (omega arith) (omega arith) (omega arith)
 
 -- Scan has room
 pub roomy-scan : (b : List ℕ) → Roomy (scans_to b)
-unfolding scans_to scan_value
+unfolding scans_to
 roomy-scan b = record {
-  small = small_bind (sheet_of_bytes b) _ (small_in b) (λ s e. small_bind (scan_call s) _ (small-scan s (handed_good b s e)) (λ t _. small-accepted (triple_value t)));
+  small = small_bind (sheet_of_bytes b) _ (small_in b) (λ s _. small_mapped triple_value (scan_call s) (small-scan s));
   value = λ v e.
       let (s, e₁, f) = bind_accepted (sheet_of_bytes b) _ v e in
-      let (t, e₂, g) = bind_accepted (scan_call s) (λ (t : Option Triple). accepted (triple_value t)) v f in
-      subst (λ (w : ℕ). w < 2 ^ 48) (same-value g) (scan-value s t (handed_good b s e₁) e₂);
+      let (t, e₂, g) = mapped_accepted triple_value (scan_call s) v f in
+      subst (λ (w : ℕ). w < 2 ^ 48) g (scan-value s t (handed_good b s e₁) e₂);
 }
 
 -- the three are below 200, whatever the struct
-pub scanned_inside : (s : struct.Sheet) (a b c : ℕ) → accepted (some (a, b, c)) ≡ scan_call (reads s) → (a < 200) × (b < 200) × (c < 200)
+pub scanned_inside : (s : struct.Sheet) (a b c : ℕ) → accepted (Some (a, b, c)) ≡ scan_call (reads s) → (a < 200) × (b < 200) × (c < 200)
 unfolding scan_call fits
 scanned_inside s a b c e = go (ltb (rank (stage_read s)) 1) refl
   where
     go : (t : Bool) → ltb (rank (stage_read s)) 1 ≡ t → (a < 200) × (b < 200) × (c < 200)
-    go true q = not-both (sym (bind_off (plan_of (reads s)) 13 0 (λ (p : Plan). accepted (scan p)) (plan_early s (ltb-true (rank (stage_read s)) 1 q))) ∙ sym e)
+    go true q = not-both (sym (mapped_off scan (plan_of (reads s)) 13 0 (plan_early s (ltb-true (rank (stage_read s)) 1 q))) ∙ sym e)
     go false q =
         let up = ltb-false (rank (stage_read s)) 1 q in
         let p = held_plan s in
         let known = fit-says p (fits_there s up) in
-        let found = same-value (sym (bind_at (plan_of (reads s)) p (λ (p : Plan). accepted (scan p)) (plan_there s up)) ∙ sym e) in
+        let found = same-value (sym (mapped_at scan (plan_of (reads s)) p (plan_there s up)) ∙ sym e) in
         let high = known.few in
         let (x, y, z) = scan-inside p (λ u v m. known.inside u v (adjacent-mem p u v m)) a b c found in
         (omega arith, omega arith, omega arith)
@@ -75,14 +74,14 @@ scanned_inside s a b c e = go (ltb (rank (stage_read s)) 1) refl
 -- ---- same
 -- Same has room
 pub roomy-same : (a b : List ℕ) → Roomy (compares_to a b)
-unfolding compares_to compare_value same_value
+unfolding compares_to same_value
 roomy-same a b = record {
-  small = small_bind (sheet_of_bytes a) _ (small_in a) (λ s _. small_bind (sheet_of_bytes b) _ (small_in b) (λ t _. small_bind (same_call s t) _ (small_same s t) (λ y _. small-accepted (same_value y))));
+  small = small_bind (sheet_of_bytes a) _ (small_in a) (λ s _. small_bind (sheet_of_bytes b) _ (small_in b) (λ t _. small_mapped same_value (same_call s t) (small_same s t)));
   value = λ v e.
       let (s, _, f) = bind_accepted (sheet_of_bytes a) _ v e in
       let (t, _, g) = bind_accepted (sheet_of_bytes b) _ v f in
-      let (y, _, h) = bind_accepted (same_call s t) (λ (y : Bool). accepted (same_value y)) v g in
-      subst (λ (w : ℕ). w < 2 ^ 48) (same-value h) (low y);
+      let (y, _, h) = mapped_accepted same_value (same_call s t) v g in
+      subst (λ (w : ℕ). w < 2 ^ 48) h (low y);
 }
   where
     low : (y : Bool) → same_value y < 2 ^ 48
@@ -102,11 +101,10 @@ part_inside b u at size e =
 pub roomy-ring : (b : List ℕ) (u : ℕ) → Roomy (rings_to b u)
 unfolding rings_to part_value
 roomy-ring b u = record {
-  small = small_bind (ring_call b u) _ (small-ring b u (opened_good b)) (λ t _. small-accepted _);
+  small = small_mapped part_value (ring_call b u) (small-ring b u (opened_good b));
   value = λ v e.
-      let (t, e₁, f) = bind_accepted (ring_call b u) (λ (t : ℕ × ℕ). accepted (t.0 * 65536 + t.1)) v e in
+      let (t, e₁, same) = mapped_accepted part_value (ring_call b u) v e in
       let (x, y) = part_inside b u t.0 t.1 e₁ in
-      let same = same-value f in
       omega arith;
 }
 

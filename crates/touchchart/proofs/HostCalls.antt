@@ -12,7 +12,6 @@ use Rattle.model.specs.CallLists.{Call, open_file, offer_labels, sweep-labels, t
 use Rattle.model.proofs.Outcomes.{not-both}
 use Rattle.sheet.specs.Answers.{answer_of}
 use Rattle.sheet.proofs.RoundTrips.{encode-opens, write_room}
-use Rattle.guarantee.specs.Verdicts.{verdict}
 use Rattle.guarantee.proofs.Agreement.{answers}
 use Rattle.guarantee.proofs.Kept.{kept_judged}
 use Rattle.guarantee.proofs.Sized.{Good, fresh_good, leaves_fits, leaves_good}
@@ -51,7 +50,7 @@ function_gives s g draw_chart out = ap (λ (o : Outcome Sheet). bytes_back (o >>
 -- what the host holds after it, and what it was answered
 record Step (s : Sheet) (c : Call) (o : Outcome (ℕ × List ℕ)) : Type 0 where
   bytes : bytes_kept (encode s) o ≡ encode (taken s (call s c))
-  answer : answer_of o ≡ verdict (call s c)
+  answer : answer_of o ≡ answer_of (call s c)
 
 step : (s : Sheet) → Good s → (c : Call) (out : List ℕ) → 5176 ≤ length out → Step s c (function_of c (encode s) out)
 unfolding bytes_back bytes_kept taken answer_of
@@ -62,7 +61,7 @@ step s g c out room = go (call s c) refl
         let gives = function_gives s g c out ∙ ap (λ (o : Outcome Sheet). bytes_back o out) e in
         record {
           bytes = ap (bytes_kept (encode s)) gives ∙ ap (λ (o : Outcome Sheet). encode (taken s o)) (sym e);
-          answer = ap answer_of gives ∙ ap verdict (sym e);
+          answer = ap answer_of gives ∙ ap answer_of (sym e);
         }
     go (accepted t) e =
         let short = file_short t (leaves_good s t c g e) in
@@ -70,7 +69,7 @@ step s g c out room = go (call s c) refl
         let gives = function_gives s g c out ∙ ap (λ (o : Outcome Sheet). bytes_back o out) e ∙ written in
         record {
           bytes = ap (bytes_kept (encode s)) gives ∙ take-append_seam (encode t) (drop (length (encode t)) out) ∙ ap (λ (o : Outcome Sheet). encode (taken s o)) (sym e);
-          answer = ap answer_of gives ∙ ap verdict (sym e);
+          answer = ap answer_of gives ∙ ap answer_of (sym e);
         }
 
 -- ---- the list

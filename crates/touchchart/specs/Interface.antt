@@ -1,8 +1,7 @@
 -- The C interface: what each call answers and writes, for every list of bytes.
 -- A sheet is handed over and handed back as bytes; none are a fresh sheet. The refusals of what is handed over come first, then those of the call, then 16.
-use Rattle.std.specs.Prelude.{ℕ, ◌+◌, ◌*◌, List, Bool, true, false}
-use Rattle.std.proofs.Math.Option.{Option, none, some}
-use Rattle.model.specs.Outcome.{Outcome, accepted, ◌>>=◌}
+use Rattle.std.specs.Prelude.{ℕ, ◌+◌, ◌*◌, List, Bool, true, false, Option, Some, None}
+use Rattle.model.specs.Outcome.{Outcome, ◌>>=◌, mapped}
 use Rattle.model.specs.Scan.{Triple}
 use Rattle.model.specs.Calls.{open_call, scan_call, same_call, ring_call}
 use Rattle.model.specs.CallLists.{sweep-labels, offer_labels, turn_edges, draw_chart}
@@ -30,34 +29,26 @@ charts_to sheet out = changed_by draw_chart sheet out
 
 -- the value of a scan: 0 for none, else a × 65536 + b × 256 + c
 unfoldable pub triple_value : Option Triple → ℕ
-triple_value none = 0
-triple_value (some (a, b, c)) = a * 65536 + b * 256 + c
-
--- what a scan answers, with that value
-unfoldable pub scan_value : Outcome (Option Triple) → Outcome ℕ
-scan_value o = o >>= λ (t : Option Triple). accepted (triple_value t)
+triple_value None = 0
+triple_value (Some (a, b, c)) = a * 65536 + b * 256 + c
 
 -- touchchart_scan: the smallest triple of the sheet
 unfoldable pub scans_to : List ℕ → Outcome ℕ
 scans_to sheet = do
   s ← sheet_of_bytes sheet
-  scan_value (scan_call s)
+  mapped triple_value (scan_call s)
 
 -- the value of a comparison: 1 for yes, 0 for no
 unfoldable pub same_value : Bool → ℕ
 same_value true = 1
 same_value false = 0
 
--- what a comparison answers, with that value
-unfoldable pub compare_value : Outcome Bool → Outcome ℕ
-compare_value o = o >>= λ (y : Bool). accepted (same_value y)
-
 -- touchchart_same: a first, then b; then the stages
 unfoldable pub compares_to : List ℕ → List ℕ → Outcome ℕ
 compares_to a b = do
   s ← sheet_of_bytes a
   t ← sheet_of_bytes b
-  compare_value (same_call s t)
+  mapped same_value (same_call s t)
 
 -- the value of a part of a file: offset × 65536 + length
 unfoldable pub part_value : ℕ × ℕ → ℕ
@@ -65,6 +56,4 @@ part_value part = part.0 * 65536 + part.1
 
 -- touchchart_ring: where the body of a context's ring stands in the file
 unfoldable pub rings_to : List ℕ → ℕ → Outcome ℕ
-rings_to file context = do
-  part ← ring_call file context
-  accepted (part_value part)
+rings_to file context = mapped part_value (ring_call file context)

@@ -68,7 +68,7 @@ fn triple_value(a: usize, b: usize, c: usize) -> u64
 }
 
 // The scan of the sheet that is handed over, as a number.
-#[tactic(auto, using(crate::proofs::Answers::scanned_inside), unfolding(exchange::specs::Exchange::handed, triples::specs::Scanned::scanned_as, reports::specs::Scanned::scanned_as, crate::specs::Interface::triple_value, crate::specs::Interface::scan_value, crate::specs::Interface::scans_to))]
+#[tactic(auto, using(crate::proofs::Answers::scanned_inside), unfolding(exchange::specs::Exchange::handed, crate::specs::Interface::triple_value, crate::specs::Interface::scans_to))]
 fn scanned(sheet: &[u8]) -> Result<u64, Refusal>
     ensures { told result ≡ scans_to sheet.now }
 {
@@ -88,7 +88,7 @@ pub fn touchchart_scan(sheet: &[u8]) -> u64
 }
 
 // The comparison of two sheets that are handed over, as a number.
-#[tactic(auto, unfolding(exchange::specs::Exchange::handed, crate::specs::Interface::same_value, crate::specs::Interface::compare_value, crate::specs::Interface::compares_to))]
+#[tactic(auto, unfolding(exchange::specs::Exchange::handed, crate::specs::Interface::same_value, crate::specs::Interface::compares_to))]
 fn compared(a: &[u8], b: &[u8]) -> Result<u64, Refusal>
     ensures { told result ≡ compares_to a.now b.now }
 {

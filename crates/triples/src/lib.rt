@@ -8,7 +8,7 @@ ghost use Rattle.rings.specs.Tables.{plan_of, table_of};
 ghost use Rattle.fit.specs.Fits.{fit};
 ghost use Rattle.followers.specs.Followers.{told, followers_of};
 ghost use Rattle.lists.specs.Spans.{padded};
-ghost use Rattle.triples.specs.Scanned.{scanned_as, has_third, has_second};
+ghost use Rattle.triples.specs.Scanned.{has_third, has_second};
 
 use faces::FaceSteps;
 use fit::Fit;
@@ -98,7 +98,7 @@ impl Followed<'_, '_> {
 
     // The triple of the lowest first context, then the lowest second, then the lowest third.
     fn scan(&self) -> Option<(usize, usize, usize)>
-        ensures { scanned_as result ≡ scan (plan_of self.now.rings) }
+        ensures { result ≡ scan (plan_of self.now.rings) }
     {
         let n = self.rings.n;
         let a = (0..n).find(|a| self.has_second(*a))?;
@@ -111,7 +111,7 @@ impl Followed<'_, '_> {
 // The smallest triple, with a table of N cells, which has a row for each context.
 fn scan_in<const N: usize>(fit: &Fit) -> Option<(usize, usize, usize)>
     requires { (200 * fit.now.plan.n ≤ N) × (N ≤ 40000) }
-    ensures { scanned_as result ≡ scan (table_of fit.now.plan) }
+    ensures { result ≡ scan (table_of fit.now.plan) }
 {
     let plan = fit.plan;
     let starts = rings::starts_of(plan.sizes);
@@ -127,7 +127,7 @@ fn scan_in<const N: usize>(fit: &Fit) -> Option<(usize, usize, usize)>
 
 // The smallest triple a < b < c, by a, then b, then c, of mutual neighbours that are no inner face. A small plan has a small table.
 pub fn scan(fit: &Fit) -> Option<(usize, usize, usize)>
-    ensures { scanned_as result ≡ scan (table_of fit.now.plan) }
+    ensures { result ≡ scan (table_of fit.now.plan) }
 {
     if fit.plan.n <= FEW {
         scan_in::<4000>(fit)

@@ -14,7 +14,7 @@ use Rattle.rings.specs.declared.Rings as rings
 use Rattle.rings.specs.Tables.{plan_of}
 use Rattle.rings.proofs.Rows.{count-rows}
 use Rattle.fit.proofs.Fits.{fit-says}
-use Rattle.triples.specs.Scanned.{scanned_as, has_third, has_second}
+use Rattle.triples.specs.Scanned.{has_third, has_second}
 use Rattle.triples.proofs.Scans.{find_in_range, by_first, by_second, by_third}
 use Rattle.triples.proofs.Followed.scan.Goals as goal
 
@@ -31,12 +31,11 @@ module _ (r : rings.Rings) where
   rest a = λ i. from (add-one a i) (sym size i - add-one a i)
 
 pub returns-in_err-a : goal.returns-in_err-a
-unfolding scanned_as
 returns-in_err-a c =
     let r = c.args.self.now.rings in
     let p = plan_of r in
     let first = find_in_range (has_second p) 0 r.n (contexts p) _ _ None (whole r) c.in_err-a.ensures.ran (λ x b q k. search (rules, tests)) in
-    ap scanned_as c.from_residual.ensures ∙ by_first p None first
+    c.from_residual.ensures ∙ by_first p None first
 
 pub overflow_add-a : goal.overflow_add-a
 overflow_add-a c =
@@ -48,14 +47,13 @@ overflow_add-a c =
     omega arith
 
 pub returns-in_err-b : goal.returns-in_err-b
-unfolding scanned_as
 returns-in_err-b c =
     let r = c.args.self.now.rings in
     let p = plan_of r in
     let a = c.in_ok-a.a in
     let first = find_in_range (has_second p) 0 r.n (contexts p) _ _ (Some a) (whole r) c.in_ok-a.ensures.ran (λ x b q k. search (rules, tests)) in
     let second = find_in_range (has_third p a) (a + 1) r.n (after p a) _ _ None (rest r a) c.in_err-b.ensures.ran (λ x b q k. search (rules, tests)) in
-    ap scanned_as c.from_residual-in_err-b.ensures ∙ by_second p a first None second
+    c.from_residual-in_err-b.ensures ∙ by_second p a first None second
 
 pub overflow_add-b : goal.overflow_add-b
 overflow_add-b c =
@@ -67,7 +65,6 @@ overflow_add-b c =
     omega arith
 
 pub returns-in_err-c : goal.returns-in_err-c
-unfolding scanned_as
 returns-in_err-c c =
     let r = c.args.self.now.rings in
     let p = plan_of r in
@@ -76,10 +73,9 @@ returns-in_err-c c =
     let first = find_in_range (has_second p) 0 r.n (contexts p) _ _ (Some a) (whole r) c.in_ok-a.ensures.ran (λ x b q k. search (rules, tests)) in
     let second = find_in_range (has_third p a) (a + 1) r.n (after p a) _ _ (Some b) (rest r a) c.in_ok-b.ensures.ran (λ x b q k. search (rules, tests)) in
     let third = find_in_range (λ (x : ℕ). enclosing p (a, b, x)) (b + 1) r.n (after p b) _ _ None (rest r b) c.in_err-c.ensures.ran (λ x b q k. search (rules, tests)) in
-    ap scanned_as c.from_residual-in_err-c.ensures ∙ by_third p a first b second None third
+    c.from_residual-in_err-c.ensures ∙ by_third p a first b second None third
 
 pub returns : goal.returns
-unfolding scanned_as
 returns c =
     let r = c.args.self.now.rings in
     let p = plan_of r in
