@@ -74,6 +74,16 @@ pub bind_refused : {A B : Type 0} (a : Outcome A) (f : A → Outcome B) (k at : 
 bind_refused (accepted c) f k at e = inr (c, refl, e)
 bind_refused (refused j place) f k at e = let (n, p) = same-refusal e in inl (λ i. refused (n i) (p i))
 
+-- what an outcome was before it was mapped
+module _ {A B : Type 0} (f : A → B) where
+  pub mapped_accepted : (o : Outcome A) (b : B) → mapped f o ≡ accepted b → (a : A) × (o ≡ accepted a) × (f a ≡ b)
+  mapped_accepted (accepted a) b e = (a, refl, same-value e)
+  mapped_accepted (refused k at) b e = not-both e
+
+  pub mapped_refused : (o : Outcome A) (k at : ℕ) → mapped f o ≡ refused k at → o ≡ refused k at
+  mapped_refused (accepted a) k at e = not-both (sym e)
+  mapped_refused (refused j place) k at e = let (n, p) = same-refusal e in λ i. refused (n i) (p i)
+
 pub then_accepted : {A : Type 0} (a : Outcome (Unit {0})) (b : Outcome A) (c : A) → (a >> b) ≡ accepted c → (a ≡ passed) × (b ≡ accepted c)
 then_accepted (accepted tt) b c e = (refl, e)
 then_accepted (refused k at) b c e = not-both e
