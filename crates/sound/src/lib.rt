@@ -92,7 +92,7 @@ fn is_sound_from(rings: &Rings) -> bool
     if faces::rule8(rings).is_err() {
         return false;
     }
-    if rings.n <= 20 {
+    if rings.n <= rings::FEW_CONTEXTS {
         let mut table = [0u8; 4000];
         return is_undoubted(&mut table, rings);
     }

@@ -16,8 +16,8 @@ returns-then-is_err c =
     let r = c.args.rings.now in
     sound-side (plan_of r) (count-rows r.starts.now r.sizes.now r.entries.now r.n) c.if-rings-gt200.false c.rule8.result c.rule8.ensures (sym c.is_err.ensures.value ∙ c.if-is_err.true)
 
-pub returns-then-rings-le20 : goal.returns-then-rings-le20
-returns-then-rings-le20 c =
+pub returns-then-rings-le-FEW_CONTEXTS : goal.returns-then-rings-le-FEW_CONTEXTS
+returns-then-rings-le-FEW_CONTEXTS c =
     let r = c.args.rings.now in
     let size = count-rows r.starts.now r.sizes.now r.entries.now r.n in
     let kept = sym c.is_err.ensures.value ∙ c.if-is_err.false in
