@@ -10,7 +10,7 @@ ghost use Rattle.sheet.specs.Answers.{packed_as};
 
 use refusal::Refusal;
 use sheet::{Judged, Sheet, Stage};
-use steps::RuledTable;
+use sweep::RuledFit;
 
 // How many labels the plan of a sheet takes.
 fn labels_due(sheet: &Sheet) -> usize
@@ -38,7 +38,7 @@ pub fn sweep(sheet: Sheet) -> Result<Sheet, Refusal>
     ensures { told result ≡ packed_as (sweep_call (reads sheet)) }
 {
     let fitting = sheet::require_fitting(&sheet, Stage::Open)?;
-    let swept = sweep::sweep_labels(&fitting.plan())?;
+    let swept = sweep::sweep_labels(&fitting.fit())?;
     Ok(fitting.with_labels(&swept))
 }
 
@@ -48,9 +48,7 @@ pub fn sweep_judged(judged: Judged) -> Result<Sheet, Refusal>
     ensures { told result ≡ packed_as (sweep_call (reads judged.sheet)) }
 {
     let fitting = sheet::require_fitting(&judged.sheet, Stage::Open)?;
-    let ruled = RuledTable {
-        table: fitting.plan(),
-    };
+    let ruled = RuledFit { fit: fitting.fit() };
     let swept = sweep::sweep_ruled(&ruled)?;
     Ok(fitting.with_labels(&swept))
 }

@@ -2,7 +2,7 @@
 use Rattle.std.specs.Prelude.{ℕ, ◌+◌, ◌-◌, ◌≤◌, ◌≡◌, List, [], ◌∷◌, ◌++◌, map, cond, ◌&&◌, length}
 use Rattle.lists.specs.Parts.{steps}
 use Rattle.lists.specs.Spans.{span, padded}
-use Rattle.model.specs.Outcome.{Outcome, accepted, refused}
+use Rattle.model.specs.Outcome.{Outcome}
 use Rattle.model.specs.Plan.{Plan, count, ring, border, entry_count}
 use Rattle.model.specs.Labels.{up, right, border_label, unlabelled}
 use Rattle.model.specs.Sweep.{State, label_edges, product, bare_labels, first_state, sweep_from}
@@ -35,11 +35,6 @@ pub record Labelled (p : Plan) (s : State) (ls : List ℕ) : Type 0 where
   pub size : length s.labels ≡ entry_count p
 
 -- ---- the whole sweep
--- an outcome whose labels stand in the array, with zeros after them
-unfoldable pub in_array : Outcome (List ℕ) → Outcome (List ℕ)
-in_array (accepted ls) = accepted (padded 1186 ls)
-in_array (refused k at) = refused k at
-
 -- the sweep before the label rules are tested
 unfoldable pub swept : Plan → Outcome (List ℕ)
 swept p = sweep_from p (count p) (first_state p)

@@ -1,107 +1,73 @@
--- The engine's answer is the model's: the label rules on an array that holds labels, and each case of the answer.
-use Prim.Native.Nat.{ℕ, ◌-◌}
+-- What the sweep answers: the refusal of its steps, that of the label rules, or its labels.
+use Prim.Native.Nat.{ℕ, ◌-◌, min}
 use mathlib.Core.Path.{◌≡◌, refl, sym, ap, ◌∙◌}
-use mathlib.Core.Logic.{◌⊎◌, inl, inr}
-use mathlib.Core.List.{List, []}
-use mathlib.Core.Bool.{Bool, true, false, cond, false≢true, true≢false}
+use mathlib.Core.List.{List}
+use mathlib.Core.Bool.{true}
+use native.Mathlib.Omega.{arith}
 use lib.ListN.{length}
 use lib.Dec.{leb}
-use Rattle.labels.proofs.Darts.{rules_behind}
 use Rattle.lists.specs.Spans.{zeros, padded}
-use Rattle.model.specs.Outcome.{Outcome, accepted, refused, ◌>>=◌, ◌>>◌, require, rule, taken}
-use Rattle.model.specs.Plan.{Plan, count}
+use Rattle.model.specs.Outcome.{Outcome, accepted, refused, mapped, ◌>>=◌, ◌>>◌, require, rule}
+use Rattle.model.specs.Plan.{Plan, count, entry_count}
 use Rattle.model.specs.Labels.{breaks, label_rules}
-use Rattle.model.specs.Sweep.{sweep}
+use Rattle.model.specs.Sweep.{first_state, sweep}
+use Rattle.model.proofs.LabelCounts.{first_long, from_long}
+use Rattle.model.proofs.Outcomes.{bind_at, bind_off, mapped_at, mapped_off, mapped_accepted, mapped_refused}
+use Rattle.rings.specs.declared.Table.{Table}
+use Rattle.rings.specs.Tables.{starts_of, held, table, table_of}
+use Rattle.rings.proofs.Rows.{count-rows, held_small}
 use Rattle.fit.specs.Fits.{fit}
-use Rattle.labelling.specs.Labelling.{in_array, swept}
-use Rattle.steps.specs.Run.{steps_of}
-use Rattle.sweep.specs.Swept.{sweep_of}
-use Rattle.steps.proofs.Endings.{swept_14, swept_long}
-
--- ---- the answer
--- an outcome with labels
-abbrev accepts : Outcome (List ℕ) → Bool
-accepts (accepted ls) = true
-accepts (refused k at) = false
+use Rattle.labels.proofs.Darts.{rules_behind}
+use Rattle.labelling.specs.Labelling.{swept}
+use Rattle.sweep.proofs.Arrays.{few_contexts}
 
 module _ (p : Plan) where
   -- labels, after the rules
   tested : List ℕ → Outcome (List ℕ)
   tested ls = label_rules p ls >> accepted ls
 
-  -- the steps and the sweep of a plan that does not fit: 13
-  unfit : fit p ≡ false → steps_of p ≡ sweep_of p
-  unfolding steps_of sweep_of
-  unfit f = ap (λ (t : Bool). cond t (swept p) (refused 13 0)) f ∙ sym (ap (λ (t : Bool). cond t (sweep p) (refused 13 0)) f)
+  -- the sweep is its steps, and then the rules
+  steps_then : sweep p ≡ (swept p >>= tested)
+  unfolding sweep swept tested
+  steps_then = refl
 
-  -- the steps of such a plan give no labels
-  none : fit p ≡ false → steps_of p ≡ refused 13 0
-  unfolding steps_of
-  none f = ap (λ (t : Bool). cond t (swept p) (refused 13 0)) f
+  -- the steps are refused: so is the sweep
+  pub answer_refused : {k at : ℕ} → refused k at ≡ mapped (padded 1186) (swept p) → refused k at ≡ mapped (padded 1186) (sweep p)
+  answer_refused {k} {at} e = sym (mapped_off (padded 1186) (sweep p) k at (steps_then ∙ bind_off (swept p) k at tested (mapped_refused (padded 1186) (swept p) k at (sym e))))
 
-  module _ (fits : fit p ≡ true) where
-    -- the steps of a plan that fits
-    stepped : steps_of p ≡ swept p
-    unfolding steps_of
-    stepped = ap (λ (t : Bool). cond t (swept p) (refused 13 0)) fits
+  -- the labels of the steps: one for each entry
+  steps_long : (ls : List ℕ) → swept p ≡ accepted ls → length ls ≡ entry_count p
+  unfolding swept
+  steps_long ls e = from_long p (count p) (first_state p) (first_long p) ls e
 
-    -- the sweep is the steps and then the rules
-    swept_then : (o : Outcome (List ℕ)) → swept p ≡ o → sweep_of p ≡ (o >>= tested)
-    unfolding sweep_of sweep swept tested
-    swept_then o e = ap (λ (t : Bool). cond t (sweep p) (refused 13 0)) fits ∙ ap (λ (q : Outcome (List ℕ)). q >>= (λ (ls : List ℕ). label_rules p ls >> accepted ls)) e
+  -- the rules on an array in which zeros stand after them are those on the labels
+  rules_padded : (ls : List ℕ) → swept p ≡ accepted ls → rule 10 (count p) (breaks p (padded 1186 ls)) ≡ label_rules p ls
+  unfolding label_rules padded
+  rules_padded ls z = ap (λ (u : ℕ). require (leb (count p) u) 10 u) (rules_behind p ls (zeros (1186 - length ls)) (steps_long ls z) (count p))
 
-  -- The steps are refused: so is the sweep
-  pub answer_refused : {k at : ℕ} → refused k at ≡ in_array (steps_of p) → refused k at ≡ in_array (sweep_of p)
-  unfolding in_array
-  answer_refused {k} {at} e = go (fit p) refl
+  -- the rules first, then the labels in their array
+  then_mapped : (o : Outcome (Unit {0})) (ls : List ℕ) → mapped (padded 1186) (o >> accepted ls) ≡ (o >> accepted (padded 1186 ls))
+  then_mapped (accepted tt) ls = refl
+  then_mapped (refused k at) ls = refl
+
+  -- the steps give labels: by the rules on their array the sweep answers
+  pub answer_tested : {l : List ℕ} {judged : Outcome (Unit {0})} → accepted l ≡ mapped (padded 1186) (swept p) → judged ≡ rule 10 (count p) (breaks p l) → (judged >> accepted l) ≡ mapped (padded 1186) (sweep p)
+  unfolding tested
+  answer_tested {l} {judged} e ten = go (mapped_accepted (padded 1186) (swept p) l (sym e))
     where
-      stuck : fit p ≡ true → (swept p ≡ refused 14 0) ⊎ ((ls : List ℕ) × (swept p ≡ accepted ls)) → refused k at ≡ in_array (sweep_of p)
-      stuck f (inl z) = e ∙ ap in_array (stepped f ∙ z ∙ sym (swept_then f (refused 14 0) z))
-      stuck f (inr z) = absurd (false≢true (ap accepts (e ∙ ap in_array (stepped f ∙ z.1))))
+      go : (ls : List ℕ) × (swept p ≡ accepted ls) × (padded 1186 ls ≡ l) → (judged >> accepted l) ≡ mapped (padded 1186) (sweep p)
+      go (ls, z, y) =
+          let kept : judged ≡ label_rules p ls = ten ∙ ap (λ (m : List ℕ). rule 10 (count p) (breaks p m)) (sym y) ∙ rules_padded ls z in
+          ap (λ (m : List ℕ). judged >> accepted m) (sym y)
+          ∙ sym (then_mapped judged ls)
+          ∙ ap (λ (o : Outcome (Unit {0})). mapped (padded 1186) (o >> accepted ls)) kept
+          ∙ ap (mapped (padded 1186)) (sym (steps_then ∙ bind_at (swept p) ls tested z))
 
-      go : (t : Bool) → fit p ≡ t → refused k at ≡ in_array (sweep_of p)
-      go true f = stuck f (swept_14 p)
-      go false f = e ∙ ap in_array (unfit f)
-
-  module _ {l : List ℕ} (e : accepted l ≡ in_array (steps_of p)) where
-    -- the steps gave these labels
-    abbrev Labels : Type 0
-    Labels = (ls : List ℕ) × (swept p ≡ accepted ls) × (l ≡ padded 1186 ls)
-
-    -- for a plan that fits
-    pub finished : (fit p ≡ true) × Labels
-    unfolding in_array taken
-    finished = go (fit p) refl
-      where
-        labels : fit p ≡ true → (swept p ≡ refused 14 0) ⊎ ((ls : List ℕ) × (swept p ≡ accepted ls)) → Labels
-        labels f (inl z) = absurd (true≢false (ap accepts (e ∙ ap in_array (stepped f ∙ z))))
-        labels f (inr z) = (z.0, z.1, ap (taken []) (e ∙ ap in_array (stepped f ∙ z.1)))
-
-        go : (t : Bool) → fit p ≡ t → (fit p ≡ true) × Labels
-        go true f = (f, labels f (swept_14 p))
-        go false f = absurd (true≢false (ap accepts (e ∙ ap in_array (none f))))
-
-    module _ {judged : Outcome (Unit {0})} (ten : judged ≡ rule 10 (count p) (breaks p l)) where
-      -- the rules on the array, in which zeros stand after the labels, are those on the labels; by them the sweep answers
-      answered : (ls : List ℕ) → fit p ≡ true → swept p ≡ accepted ls → l ≡ padded 1186 ls → sweep_of p ≡ (judged >> accepted ls)
-      unfolding tested label_rules padded
-      answered ls f z y =
-          swept_then f (accepted ls) z
-          ∙ ap (λ (o : Outcome (Unit {0})). o >> accepted ls)
-          (sym (ten ∙ (λ i. rule 10 (count p) (breaks p (y i))) ∙ ap (λ (u : ℕ). require (leb (count p) u) 10 u) (rules_behind p ls (zeros (1186 - length ls)) (swept_long p ls z) (count p))))
-
-    -- The labels break the rules: 10
-    pub answer_broken : {k at : ℕ} → refused k at ≡ rule 10 (count p) (breaks p l) → refused k at ≡ in_array (sweep_of p)
-    unfolding in_array
-    answer_broken {k} {at} ten = go finished
-      where
-        go : (fit p ≡ true) × Labels → refused k at ≡ in_array (sweep_of p)
-        go (f, (ls, z, y)) = sym (ap in_array (answered ten ls f z y))
-
-    -- The labels keep the rules
-    pub answer_labelled : accepted tt ≡ rule 10 (count p) (breaks p l) → accepted l ≡ in_array (sweep_of p)
-    unfolding in_array
-    answer_labelled ten = go finished
-      where
-        go : (fit p ≡ true) × Labels → accepted l ≡ in_array (sweep_of p)
-        go (f, (ls, z, y)) = ap {B = Outcome (List ℕ)} (λ (a : List ℕ). accepted a) y ∙ sym (ap in_array (answered ten ls f z y))
+-- the label rules of a plan in flat arrays that fits
+pub rules_held : (t : Table) (ls : List ℕ) → fit (table_of t) ≡ true → rule 10 (min t.n 200) (breaks (held t.sizes.now t.entries.now t.n) ls) ≡ rule 10 (count (table_of t)) (breaks (table_of t) ls)
+unfolding table
+rules_held t ls fits =
+    let few = few_contexts t fits in
+    let size = count-rows (starts_of t.sizes.now) t.sizes.now t.entries.now t.n in
+    let most : min t.n 200 ≡ count (table_of t) = omega arith in
+    λ i. rule 10 (most i) (breaks (held_small t.sizes.now t.entries.now t.n few i) ls)

@@ -1,37 +1,92 @@
-// The sweep: labels worked out from North down to South, equal to the model's on every plan that fits the arrays.
+// The sweep: labels worked out from North down to South, the model's for every plan that fits; with few tests where the plan keeps the rules 4 to 9, else by the definition.
 #![tactic(auto)]
 
-ghost use Rattle.std.specs.Prelude.{◌≡◌};
+ghost use Rattle.std.specs.Prelude.{◌≡◌, ◌≤◌, ◌*◌, true};
+ghost use Rattle.lists.specs.Spans.{padded};
+ghost use Rattle.model.specs.Outcome.{mapped, passed};
+ghost use Rattle.model.specs.Plan.{plan_rules};
+ghost use Rattle.model.specs.Sweep.{sweep};
+ghost use Rattle.model.proofs.PlanRules.{Sound};
 ghost use Rattle.rings.specs.Tables.{table_of};
 ghost use Rattle.refusal.specs.Refusals.{told};
-ghost use Rattle.steps.specs.Run.{steps_of};
-ghost use Rattle.sweep.specs.Swept.{in_array, sweep_of};
+ghost use Rattle.labelling.specs.Labelling.{swept};
 
 use fit::Fit;
+use labelling::Guided;
+use places::Located;
 use refusal::Refusal;
-use rings::Table;
-use steps::RuledTable;
+use swift::Swift;
 
-// What the steps of the sweep give, where the label rules are tested: their labels, with zeros after them, or their refusal.
-fn tested(plan: &Table, stepped: Result<[u8; 1186], Refusal>) -> Result<[u8; 1186], Refusal>
-    requires { told stepped ≡ in_array (steps_of (table_of plan.now)) }
-    ensures { told result ≡ in_array (sweep_of (table_of plan.now)) }
+// A plan that fits and keeps the rules 4 to 9.
+#[derive(Clone, Copy)]
+pub struct RuledFit<'a> {
+    pub fit: Fit<'a>,
+    pub ghost kept: { plan_rules (table_of fit.plan) ≡ passed },
+}
+
+// Does a plan that fits keep the rules 4 to 9? A quick test, whose no says nothing.
+fn is_ruled(fit: &Fit) -> bool
+    ensures { result ≡ true → Sound (table_of fit.now.plan) }
 {
-    let labels = stepped?;
-    conditions::check(&Fit { plan: *plan }, &labels)?;
+    let plan = fit.plan;
+    fit::total_of(plan.sizes, plan.n) == rings::dart_count(plan.n) && sound::is_sound(&plan)
+}
+
+// The labels of the sweep before the label rules are tested, by a table of positions of N cells, which has a row for each context: with few tests where the plan is known to keep the rules. The table is made first, so that it is cleared once.
+fn swept_in<const N: usize>(fit: &Fit, ruled: bool) -> Result<[u8; 1186], Refusal>
+    requires sound { ruled ≡ true → Sound (table_of fit.now.plan) }
+    requires room { (200 * fit.now.plan.n ≤ N) × (N ≤ 40000) }
+    ensures { told result ≡ mapped (padded 1186) (swept (table_of fit.now.plan)) }
+{
+    let mut places = [0u8; N];
+    let plan = fit.plan;
+    let starts = rings::starts_of(plan.sizes);
+    let rings = plan.rings(&starts);
+    places::fill(&mut places, &rings);
+    let located = Located {
+        rings,
+        places: &places,
+    };
+    let guided = Guided { located };
+    if ruled {
+        let swift = Swift { guided };
+        return swift.run();
+    }
+    sweep_by_definition::run(&guided)
+}
+
+// The same; the table is small for few contexts.
+fn swept(fit: &Fit, ruled: bool) -> Result<[u8; 1186], Refusal>
+    requires { ruled ≡ true → Sound (table_of fit.now.plan) }
+    ensures { told result ≡ mapped (padded 1186) (swept (table_of fit.now.plan)) }
+{
+    if fit.plan.n <= rings::FEW_CONTEXTS {
+        swept_in::<4000>(fit, ruled)
+    } else {
+        swept_in::<40000>(fit, ruled)
+    }
+}
+
+// The labels of the sweep, with zeros after them, once the label rules are tested: with few tests where the plan is known to keep the rules 4 to 9.
+fn tested(fit: &Fit, ruled: bool) -> Result<[u8; 1186], Refusal>
+    requires { ruled ≡ true → Sound (table_of fit.now.plan) }
+    ensures { told result ≡ mapped (padded 1186) (sweep (table_of fit.now.plan)) }
+{
+    let labels = swept(fit, ruled)?;
+    conditions::check(&fit.plan, &labels)?;
     Ok(labels)
 }
 
-// The labels that the sweep gives for the plan, after the label rules are tested, with zeros after them. It is refused where the plan does not fit the arrays, where it is stuck, and at the lowest context that breaks the rules.
-pub fn sweep_labels(plan: &Table) -> Result<[u8; 1186], Refusal>
-    ensures { told result ≡ in_array (sweep_of (table_of plan.now)) }
+// The labels that the sweep gives for the plan, with zeros after them. It is refused where it is stuck, and at the lowest context that breaks the label rules.
+pub fn sweep_labels(fit: &Fit) -> Result<[u8; 1186], Refusal>
+    ensures { told result ≡ mapped (padded 1186) (sweep (table_of fit.now.plan)) }
 {
-    tested(plan, steps::sweep_down(plan))
+    tested(fit, is_ruled(fit))
 }
 
 // The same labels of a plan that is known to keep the rules 4 to 9, which are not tested again.
-pub fn sweep_ruled(plan: &RuledTable) -> Result<[u8; 1186], Refusal>
-    ensures { told result ≡ in_array (sweep_of (table_of plan.now.table)) }
+pub fn sweep_ruled(ruled: &RuledFit) -> Result<[u8; 1186], Refusal>
+    ensures { told result ≡ mapped (padded 1186) (sweep (table_of ruled.now.fit.plan)) }
 {
-    tested(&plan.table, steps::sweep_ruled(plan))
+    tested(&ruled.fit, true)
 }

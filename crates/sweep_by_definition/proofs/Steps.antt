@@ -8,7 +8,7 @@ use lib.ListN.{length}
 use borrow.Author.Tests.{not-true, not-false}
 use Rattle.std.specs.Prelude.{Option, Some, None, Result, Ok, is_ok}
 use Rattle.lists.specs.Spans.{stretch, span, padded}
-use Rattle.model.specs.Outcome.{Outcome, accepted, refused, ◌>>=◌}
+use Rattle.model.specs.Outcome.{Outcome, accepted, refused, mapped, ◌>>=◌}
 use Rattle.model.specs.Plan.{Plan, count, ring}
 use Rattle.model.specs.Sweep.{State, first_state, listed, finished, finish, eligible, choose, choices, advance, sweep_from}
 use Rattle.model.proofs.Choices.{chosen, Chosen}
@@ -26,7 +26,7 @@ use Rattle.sweep_by_definition.proofs.Pairs.{list-is, new-is, gathered, next-fro
 use Rattle.labelling.specs.Labelling.{first_labels, step_labels, finish_labels, Labelled}
 use Rattle.labelling.proofs.Frontiers.{first_labelled, step_labelled, finish_labelled}
 use Rattle.sweep_by_definition.specs.Search.{found_as}
-use Rattle.labelling.specs.Labelling.{in_array, swept}
+use Rattle.labelling.specs.Labelling.{swept}
 use Rattle.sweep_by_definition.specs.Steps.{Taken, Takes, Running}
 
 -- ---- a step
@@ -101,19 +101,18 @@ module _ {p : Plan} (sane : Sane p) {k : ℕ} {v : held.Line} {ls : List ℕ} (i
   step {k'} z on e = inv.same ∙ ap (λ (n : ℕ). sweep_from p n s) z ∙ (λ d. cond (on d) (accepted (finish p s)) (after k' (e d)))
 
   -- the sweep is finished
-  pub running_done : {t : Bool} {b : List ℕ} → 0 < k → t ≡ unfinished p v.at v.len → not t ≡ true → b ≡ finish_labels p v.at v.len ls → accepted b ≡ in_array (swept p)
-  unfolding in_array
+  pub running_done : {t : Bool} {b : List ℕ} → 0 < k → t ≡ unfinished p v.at v.len → not t ≡ true → b ≡ finish_labels p v.at v.len ls → accepted b ≡ mapped (padded 1186) (swept p)
   running_done {t} h w u e =
       let z : k ≡ suc (k - 1) = omega arith in
       ap {B = Outcome (List ℕ)} (λ (l : List ℕ). accepted l) (e ∙ finish_labelled p inv.labels inv.front.rep.at inv.front.rep.len)
-      ∙ sym (ap in_array (step z (not-false (finished p f) (is-finished w ∙ not-true t u)) refl))
+      ∙ sym (ap (mapped (padded 1186)) (step z (not-false (finished p f) (is-finished w ∙ not-true t u)) refl))
 
   -- no pair is eligible
-  pub running_stuck : (found : Option (ℕ × ℕ)) {t : Bool} → 0 < k → t ≡ unfinished p v.at v.len → not t ≡ false → Chooses found → found ≡ None → refused 14 0 ≡ in_array (swept p)
-  unfolding in_array found_as
+  pub running_stuck : (found : Option (ℕ × ℕ)) {t : Bool} → 0 < k → t ≡ unfinished p v.at v.len → not t ≡ false → Chooses found → found ≡ None → refused 14 0 ≡ mapped (padded 1186) (swept p)
+  unfolding found_as
   running_stuck found {t} h w u e q =
       let z : k ≡ suc (k - 1) = omega arith in
-      sym (ap in_array (step z (not-true (finished p f) (is-finished w ∙ not-false t u)) (sym (chosen_here found e) ∙ ap found_as q)))
+      sym (ap (mapped (padded 1186)) (step z (not-true (finished p f) (is-finished w ∙ not-false t u)) (sym (chosen_here found e) ∙ ap found_as q)))
 
   module _ {i j : ℕ} (found : Option (ℕ × ℕ)) (chose : Chooses found) (at : found ≡ Some (i, j)) where
     -- the pair is the one that the model takes
@@ -150,6 +149,6 @@ module _ {p : Plan} (sane : Sane p) {k : ℕ} {v : held.Line} {ls : List ℕ} (i
           record { state = advance p s i j; front = front; labels = labels; same = step z (not-true (finished p f) (is-finished w ∙ not-false t u)) e }
 
   -- no step is left
-  pub running_out : k ≡ 0 → refused 14 0 ≡ in_array (swept p)
-  unfolding in_array sweep_from
-  running_out z = sym (ap in_array (inv.same ∙ ap (λ (n : ℕ). sweep_from p n s) z))
+  pub running_out : k ≡ 0 → refused 14 0 ≡ mapped (padded 1186) (swept p)
+  unfolding sweep_from
+  running_out z = sym (ap (mapped (padded 1186)) (inv.same ∙ ap (λ (n : ℕ). sweep_from p n s) z))

@@ -2,9 +2,11 @@
 #![tactic(auto)]
 
 ghost use Rattle.std.specs.Prelude.{◌≡◌, ◌<◌};
+ghost use Rattle.lists.specs.Spans.{padded};
+ghost use Rattle.model.specs.Outcome.{mapped};
 ghost use Rattle.rings.specs.Tables.{plan_of};
 ghost use Rattle.refusal.specs.Refusals.{told};
-ghost use Rattle.labelling.specs.Labelling.{in_array, swept};
+ghost use Rattle.labelling.specs.Labelling.{swept};
 ghost use Rattle.sweep_by_definition.specs.Steps.{Takes, Running};
 
 use frontier::{Front, Line};
@@ -36,7 +38,7 @@ fn take_step(guided: &Guided, labels: &mut [u8], line: &Line, i: usize, j: usize
 // The steps of the sweep from its first frontier and labels, at most n of them: the labels at the end.
 fn descend(guided: &Guided, first_labels: [u8; 1186], first: Line) -> Result<[u8; 1186], Refusal>
     requires { Running (plan_of guided.now.located.rings) guided.now.located.rings.n first first_labels }
-    ensures { told result ≡ in_array (swept (plan_of guided.now.located.rings)) }
+    ensures { told result ≡ mapped (padded 1186) (swept (plan_of guided.now.located.rings)) }
 {
     let mut labels = first_labels;
     let mut line = first;
@@ -57,7 +59,7 @@ fn descend(guided: &Guided, first_labels: [u8; 1186], first: Line) -> Result<[u8
 
 // The labels of the sweep, before the label rules are tested.
 pub fn run(guided: &Guided) -> Result<[u8; 1186], Refusal>
-    ensures { told result ≡ in_array (swept (plan_of guided.now.located.rings)) }
+    ensures { told result ≡ mapped (padded 1186) (swept (plan_of guided.now.located.rings)) }
 {
     let first = ends::first_line(&guided.located.rings).ok_or(Refusal::SweepStuck)?;
     let labels = guided.first_labels(&first.at, first.len);

@@ -7,12 +7,12 @@ use native.Mathlib.Omega.{arith}
 use lib.ListN.{length, take}
 use lib.Seq.{length-take-le}
 use Rattle.std.specs.Prelude.{Option, Some, None}
-use Rattle.model.specs.Outcome.{Outcome, accepted, refused, ◌>>=◌}
+use Rattle.model.specs.Outcome.{Outcome, accepted, refused, mapped, ◌>>=◌}
 use Rattle.model.specs.Plan.{Plan}
 use Rattle.model.specs.Sweep.{State, finished, finish, below, listed, advance, sweep_from}
 use Rattle.model.proofs.PlanRules.{Sound}
 use Rattle.model.proofs.Choices.{Chosen}
-use Rattle.labelling.specs.Labelling.{in_array, swept}
+use Rattle.labelling.specs.Labelling.{swept}
 use Rattle.lists.specs.Spans.{padded}
 use Rattle.counters.specs.Quick.{landing, reach, resume}
 use Rattle.counters.specs.Counter.{pick_by, counted}
@@ -60,9 +60,9 @@ module _ {p : Plan} (rules : Sound p) where
         record { limit = limit; running = r; picked = sym (e s r.counters r.holds) ∙ ap picked_as some; lists = subst (Listed p s.frontier array) some (l s r.counters r.holds) }
 
   -- no step is left
-  pub run_out : {limit : ℕ} {v : Course} → Running p 0 limit v → refused 14 0 ≡ in_array (swept p)
-  unfolding in_array sweep_from
-  run_out r = sym (ap in_array r.same)
+  pub run_out : {limit : ℕ} {v : Course} → Running p 0 limit v → refused 14 0 ≡ mapped (padded 1186) (swept p)
+  unfolding sweep_from
+  run_out r = sym (ap (mapped (padded 1186)) r.same)
 
   -- ---- a step
   module _ {k : ℕ} {v : Course} {array : List ℕ} {d : Found} (t : Takes p k v array d) where
@@ -124,11 +124,9 @@ module _ {p : Plan} (rules : Sound p) where
 -- ---- no step can be taken
 module _ {p : Plan} {v : Course} (t : Settles p v) where
   -- the sweep is finished
-  pub settled_done : finished p t.state.frontier ≡ true → {b : List ℕ} → b ≡ padded 1186 (finish p t.state) → accepted b ≡ in_array (swept p)
-  unfolding in_array
-  settled_done e q = ap {B = Outcome (List ℕ)} (λ (l : List ℕ). accepted l) q ∙ sym (ap in_array (t.same ∙ ap (λ (b : Bool). cond b (accepted (finish p t.state)) (refused 14 0)) e))
+  pub settled_done : finished p t.state.frontier ≡ true → {b : List ℕ} → b ≡ padded 1186 (finish p t.state) → accepted b ≡ mapped (padded 1186) (swept p)
+  settled_done e q = ap {B = Outcome (List ℕ)} (λ (l : List ℕ). accepted l) q ∙ sym (ap (mapped (padded 1186)) (t.same ∙ ap (λ (b : Bool). cond b (accepted (finish p t.state)) (refused 14 0)) e))
 
   -- it is stuck
-  pub settled_stuck : finished p t.state.frontier ≡ false → refused 14 0 ≡ in_array (swept p)
-  unfolding in_array
-  settled_stuck e = sym (ap in_array (t.same ∙ ap (λ (b : Bool). cond b (accepted (finish p t.state)) (refused 14 0)) e))
+  pub settled_stuck : finished p t.state.frontier ≡ false → refused 14 0 ≡ mapped (padded 1186) (swept p)
+  settled_stuck e = sym (ap (mapped (padded 1186)) (t.same ∙ ap (λ (b : Bool). cond b (accepted (finish p t.state)) (refused 14 0)) e))

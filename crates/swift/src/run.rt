@@ -1,9 +1,11 @@
 // The steps of the sweep, from the first frontier until none can be taken.
 ghost use Rattle.std.specs.Prelude.{◌≡◌, ◌<◌, ◌^◌, suc, ℕ, List};
+ghost use Rattle.lists.specs.Spans.{padded};
+ghost use Rattle.model.specs.Outcome.{mapped};
 ghost use Rattle.model.specs.Sweep.{State};
 ghost use Rattle.rings.specs.Tables.{plan_of};
 ghost use Rattle.refusal.specs.Refusals.{told};
-ghost use Rattle.labelling.specs.Labelling.{in_array, swept};
+ghost use Rattle.labelling.specs.Labelling.{swept};
 ghost use Rattle.counters.specs.Quick.{reach};
 ghost use Rattle.swift.specs.Courses.{Holds};
 ghost use Rattle.swift.specs.Running.{Running, Takes, Settles};
@@ -18,7 +20,7 @@ impl Swift<'_> {
     // The labels where no step can be taken: those of the sweep that is finished, or the refusal of one that is stuck.
     fn settled(&self, last: Course) -> Result<[u8; 1186], Refusal>
         requires { Settles (plan_of self.now.guided.located.rings) last }
-        ensures { told result ≡ in_array (swept (plan_of self.now.guided.located.rings)) }
+        ensures { told result ≡ mapped (padded 1186) (swept (plan_of self.now.guided.located.rings)) }
     {
         let front = Front {
             located: self.guided.located,
@@ -56,7 +58,7 @@ impl Swift<'_> {
 
     // The labels of the sweep, before the label rules are tested.
     pub fn run(&self) -> Result<[u8; 1186], Refusal>
-        ensures { told result ≡ in_array (swept (plan_of self.now.guided.located.rings)) }
+        ensures { told result ≡ mapped (padded 1186) (swept (plan_of self.now.guided.located.rings)) }
     {
         let located = self.guided.located;
         let first = ends::first_line(&located.rings).ok_or(Refusal::SweepStuck)?;

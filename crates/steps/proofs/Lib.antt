@@ -1,4 +1,0 @@
-pub mod Arrays
-pub mod Endings
-pub mod Ruled
-pub mod Down

@@ -1,0 +1,19 @@
+-- is_ruled meets its contract.
+use mathlib.Core.Path.{sym, ◌∙◌}
+use mathlib.Core.Bool.{false≢true}
+use native.Mathlib.Omega.{arith}
+use borrow.Author.Tests.{ne_eqb}
+use Rattle.sweep.proofs.Arrays.{few_contexts}
+use Rattle.sweep.proofs.Ruled.{ruled-sound}
+use Rattle.sweep.proofs.is_ruled.Goals as goal
+
+pub dart_count-requires : goal.dart_count-requires
+dart_count-requires c = let few = few_contexts c.args.fit.now.plan c.args.fit.now.fits in omega arith
+
+pub returns-then-total_of-dart_count : goal.returns-then-total_of-dart_count
+returns-then-total_of-dart_count c = λ quick.
+    let f = c.args.fit.now in
+    ruled-sound f.plan f.fits c.total_of.ensures.value c.dart_count.ensures c.if-total_of-dart_count.true (sym c.is_sound.ensures ∙ quick)
+
+pub returns-else-total_of-dart_count : goal.returns-else-total_of-dart_count
+returns-else-total_of-dart_count c = λ same. absurd (false≢true (sym (ne_eqb _ _ c.if-total_of-dart_count.false) ∙ same))
