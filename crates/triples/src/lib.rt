@@ -14,9 +14,6 @@ use faces::FaceSteps;
 use fit::Fit;
 use rings::Rings;
 
-// The most contexts for which a small table has rows.
-const FEW: usize = 20;
-
 // The rings of a plan that fits, with a table that reads as the plan's own table of followers.
 #[derive(Clone, Copy)]
 struct Followed<'a, 'b> {
@@ -129,7 +126,7 @@ fn scan_in<const N: usize>(fit: &Fit) -> Option<(usize, usize, usize)>
 pub fn scan(fit: &Fit) -> Option<(usize, usize, usize)>
     ensures { result ≡ scan (table_of fit.now.plan) }
 {
-    if fit.plan.n <= FEW {
+    if fit.plan.n <= rings::FEW_CONTEXTS {
         scan_in::<4000>(fit)
     } else {
         scan_in::<40000>(fit)

@@ -6,9 +6,9 @@ use Rattle.rings.proofs.Rows.{count-rows}
 use Rattle.fit.proofs.Fits.{fit-says}
 use Rattle.triples.proofs.scan.Goals as goal
 
-pub scan_in-requires-else-fit-le-FEW : goal.scan_in-requires-else-fit-le-FEW
+pub scan_in-requires-else-fit-le-FEW_CONTEXTS : goal.scan_in-requires-else-fit-le-FEW_CONTEXTS
 unfolding table
-scan_in-requires-else-fit-le-FEW c =
+scan_in-requires-else-fit-le-FEW_CONTEXTS c =
     let p = c.args.fit.now.plan in
     let few = (fit-says (table_of p) c.args.fit.now.fits).few in
     let size = count-rows (starts_of p.sizes.now) p.sizes.now p.entries.now p.n in
