@@ -12,7 +12,7 @@ use Rattle.model.specs.Plan.{Plan, count, entry_count}
 use Rattle.model.specs.Labels.{breaks, label_rules}
 use Rattle.model.specs.Sweep.{first_state, sweep}
 use Rattle.model.proofs.LabelCounts.{first_long, from_long}
-use Rattle.model.proofs.Outcomes.{bind_at, bind_off, mapped_at, mapped_off, mapped_accepted, mapped_refused}
+use Rattle.model.proofs.Outcomes.{bind_at, bind_off, mapped_off, mapped_accepted, mapped_refused}
 use Rattle.rings.specs.declared.Table.{Table}
 use Rattle.rings.specs.Tables.{starts_of, held, table, table_of}
 use Rattle.rings.proofs.Rows.{count-rows, held_small}

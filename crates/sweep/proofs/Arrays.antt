@@ -3,7 +3,7 @@ use Prim.Native.Nat.{ℕ, ◌≤◌}
 use mathlib.Core.Path.{◌≡◌}
 use mathlib.Core.Bool.{true}
 use native.Mathlib.Omega.{arith}
-use Rattle.model.specs.Plan.{count, entry_count}
+use Rattle.model.specs.Plan.{entry_count}
 use Rattle.rings.specs.declared.Table.{Table}
 use Rattle.rings.specs.declared.Rings.{Rings}
 use Rattle.rings.specs.Tables.{starts_of, table, table_of, plan_of}

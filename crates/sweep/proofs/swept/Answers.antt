@@ -1,5 +1,4 @@
 -- swept meets its contract.
-use Prim.Native.Nat.{◌≤◌}
 use native.Mathlib.Omega.{arith}
 use Rattle.sweep.proofs.Arrays.{few_contexts}
 use Rattle.sweep.proofs.swept.Goals as goal
