@@ -7,7 +7,7 @@ use Rattle.model.specs.Plan.{entry_count}
 use Rattle.rings.specs.declared.Table.{Table}
 use Rattle.rings.specs.declared.Rings.{Rings}
 use Rattle.rings.specs.Tables.{starts_of, table, table_of, plan_of}
-use Rattle.rings.proofs.Rows.{as_table, count-rows}
+use Rattle.rings.proofs.Rows.{count-rows}
 use Rattle.fit.specs.Fits.{fit}
 use Rattle.fit.proofs.Fits.{fit-says}
 use Rattle.labels.proofs.Places.{start-held}
