@@ -69,6 +69,6 @@ pub fn chart(sheet: Sheet) -> Result<Sheet, Refusal>
     ensures { told result ≡ packed_as (chart_call (reads sheet)) }
 {
     let fitting = sheet::require_fitting(&sheet, Stage::Labelled)?;
-    let drawn = placement::chart_of(&fitting.plan(), fitting.labels())?;
+    let drawn = placement::chart_of(&fitting.fit(), fitting.labels())?;
     Ok(fitting.charted(&drawn.points()))
 }

@@ -5,64 +5,54 @@ use mathlib.Core.List.{List}
 use mathlib.Core.Bool.{Bool, true, false, cond}
 use mathlib.Core.Logic.{◌⊎◌, inl, inr}
 use native.Mathlib.Omega.{arith}
-use borrow.Author.Tests.{le-leb, ltb-true, ltb-false}
-use Rattle.model.specs.Outcome.{Outcome, refused, passed, require, ◌>>=◌, ◌>>◌}
-use Rattle.model.specs.Plan.{count}
+use borrow.Author.Tests.{ltb-true, ltb-false}
+use Rattle.model.specs.Outcome.{Outcome, accepted, refused, passed, mapped, require, ◌>>=◌, ◌>>◌}
+use Rattle.model.specs.Plan.{Plan, count}
 use Rattle.model.specs.Labels.{label_rules}
 use Rattle.model.specs.Chart.{Chart, chart, same_chart}
 use Rattle.model.specs.File as file
-use Rattle.rings.specs.Tables.{start_of, in_bounds}
-use Rattle.std.specs.Prelude.{Ok, Err}
+use Rattle.std.specs.Prelude.{Err}
 use Rattle.std.specs.declared.result.Result.{Result}
 use Rattle.refusal.specs.declared.Refusal.{Refusal}
-use Rattle.refusal.specs.Refusals.{number_of, place_of}
+use Rattle.refusal.specs.Refusals.{number_of, place_of, told}
 use Rattle.charts.specs.Charts.{chart_on, chart_in}
 use Rattle.charts.specs.declared.Points.{Points}
 use Rattle.placement.specs.declared.Drawn.{Drawn}
-use Rattle.placement.specs.Drawing.{chart_for, drawn_as}
+use Rattle.placement.specs.Drawing.{drawn_of}
+use Rattle.placement.proofs.Draw.{drawn_reads}
 use Rattle.sheet.specs.declared.Sheet.{Sheet}
 use Rattle.sheet.specs.declared.Stage.{Stage}
 use Rattle.sheet.specs.declared.Stage.TheVariants.{Empty, Open, Labelled, Charted}
 use Rattle.sheet.specs.Sheets.{held_plan, held_labels, held_chart, held, fits, reads, stage_read, rank}
-use Rattle.sheet.proofs.Reading.{reads-stage, fits_there, count_held, few, room, rings-held, below}
+use Rattle.sheet.proofs.Reading.{reads-stage, fits_there, count_held, rings-held, below}
 use Rattle.judging.specs.Rules.{flat_rules, chart_rules, flat_of, rules_from_10, rules_from_8}
 
 -- ---- 11 and 12
-module _ (s : Sheet) (f : fits s ≡ true) where
-  chart_for_lem : chart_for s.sizes s.entries s.n (held_labels s) ≡ chart (held_plan s) (held_labels s)
-  unfolding chart_for in_bounds chart held_plan
-  chart_for_lem = rw (le-leb s.n 200 (few s f), le-leb (start_of s.sizes s.n) 1186 (room s f))
+module _ (s : Sheet) where
+  abbrev Reading : Outcome Drawn → Outcome Chart
+  Reading = mapped (λ (d : Drawn). chart_on s.n d.w d.h d.xs d.ys)
 
-  module _ (r : Result Drawn Refusal) {sizes es ls : List ℕ} {n : ℕ} (a : sizes ≡ s.sizes) (b : es ≡ s.entries) (e : n ≡ s.n) (l : ls ≡ held_labels s) (is : drawn_as r n ≡ chart_for sizes es n ls) where
-    abbrev Compare : Outcome Chart → Outcome (Unit {0})
-    Compare o = o >>= λ (d : Chart). require (same_chart (held_chart s) d) 12 0
+  abbrev Compare : Outcome Chart → Outcome (Unit {0})
+  Compare o = o >>= λ (d : Chart). require (same_chart (held_chart s) d) 12 0
 
-    drawn-held : drawn_as r n ≡ chart (held_plan s) (held_labels s)
-    drawn-held = is ∙ (λ i. chart_for (a i) (b i) (e i) (l i)) ∙ chart_for_lem
+  module _ {p : Plan} {ls : List ℕ} where
+    -- what is drawn of a plan and labels that are the struct's reads as their chart
+    drawn-held : {o : Outcome Drawn} → o ≡ mapped drawn_of (chart p ls) → p ≡ held_plan s → ls ≡ held_labels s → Reading o ≡ chart (held_plan s) (held_labels s)
+    drawn-held is a l = drawn_reads p ls is (sym (ap count a ∙ count_held s)) ∙ λ i. chart (a i) (l i)
 
     -- no chart: its refusal
-    pub undrawn : (q : Refusal) → r ≡ Err q → refused (number_of q) (place_of q) ≡ chart_rules (held_plan s) (held_labels s) (held_chart s)
+    pub undrawn : (r : Result Drawn Refusal) → told r ≡ mapped drawn_of (chart p ls) → (q : Refusal) → r ≡ Err q → p ≡ held_plan s → ls ≡ held_labels s
+        → refused (number_of q) (place_of q) ≡ chart_rules (held_plan s) (held_labels s) (held_chart s)
     unfolding chart_rules
-    undrawn q w = ap Compare (ap (λ (v : Result Drawn Refusal). drawn_as v n) (sym w) ∙ drawn-held)
+    undrawn r is q w a l = ap Compare (ap (λ (v : Result Drawn Refusal). Reading (told v)) (sym w) ∙ drawn-held is a l)
 
     -- a chart: it is compared with the one that is held
-    pub compared : (p : Drawn) → r ≡ Ok p → (k m : Points) → chart_in s.n k ≡ held_chart s → m.w ≡ p.w → m.h ≡ p.h → m.xs.now ≡ p.xs → m.ys.now ≡ p.ys → {t : Bool} → t ≡ same_chart (chart_in n k) (chart_in n m)
-        → require t 12 0 ≡ chart_rules (held_plan s) (held_labels s) (held_chart s)
+    pub compared : (d : Drawn) (k m : Points) {n : ℕ} {t : Bool} → accepted d ≡ mapped drawn_of (chart p ls) → p ≡ held_plan s → ls ≡ held_labels s → n ≡ s.n → chart_in s.n k ≡ held_chart s
+        → (m.w ≡ d.w) × (m.h ≡ d.h) × (m.xs.now ≡ d.xs) × (m.ys.now ≡ d.ys) → t ≡ same_chart (chart_in n k) (chart_in n m) → require t 12 0 ≡ chart_rules (held_plan s) (held_labels s) (held_chart s)
     unfolding chart_rules
-    compared p w k m mine pw ph px py q =
+    compared d k m {n} is a l e mine (mw, mh, mx, my) q =
         let held : chart_in n k ≡ held_chart s = ap (λ (u : ℕ). chart_in u k) e ∙ mine in
-        ap (λ (t : Bool). require t 12 0) (q ∙ λ i. same_chart (held i) (chart_on n (pw i) (ph i) (px i) (py i)))
-        ∙ ap Compare (ap (λ (v : Result Drawn Refusal). drawn_as v n) (sym w) ∙ drawn-held)
-
-  -- so by what the test of it says
-  module _ (r : Result Drawn Refusal) (p : Drawn) (k m : Points) {sizes es ls : List ℕ} {n : ℕ} {t : Bool} (is : drawn_as r n ≡ chart_for sizes es n ls) (w : r ≡ Ok p) (q : t ≡ same_chart (chart_in n k) (chart_in n m)) where
-    pub compared_same : t ≡ true → sizes ≡ s.sizes → es ≡ s.entries → n ≡ s.n → ls ≡ held_labels s
-        → chart_in s.n k ≡ held_chart s → m.w ≡ p.w → m.h ≡ p.h → m.xs.now ≡ p.xs → m.ys.now ≡ p.ys → passed ≡ chart_rules (held_plan s) (held_labels s) (held_chart s)
-    compared_same v a b e l mine pw ph px py = ap (λ (y : Bool). require y 12 0) (sym v) ∙ compared r a b e l is p w k m mine pw ph px py q
-
-    pub compared_other : t ≡ false → sizes ≡ s.sizes → es ≡ s.entries → n ≡ s.n → ls ≡ held_labels s
-        → chart_in s.n k ≡ held_chart s → m.w ≡ p.w → m.h ≡ p.h → m.xs.now ≡ p.xs → m.ys.now ≡ p.ys → refused 12 0 ≡ chart_rules (held_plan s) (held_labels s) (held_chart s)
-    compared_other v a b e l mine pw ph px py = ap (λ (y : Bool). require y 12 0) (sym v) ∙ compared r a b e l is p w k m mine pw ph px py q
+        ap (λ (t : Bool). require t 12 0) (q ∙ λ i. same_chart (held i) (chart_on (e i) (mw i) (mh i) (mx i) (my i))) ∙ ap Compare (drawn-held is a l)
 
 -- ---- one part of the rules before another
 pub first-refused : {A : Type 0} (a : Outcome (Unit {0})) (b : Outcome A) {k at : ℕ} → refused k at ≡ a → refused k at ≡ (a >> b)
@@ -136,7 +126,5 @@ pub ruleset parts = (first-refused, first-passed)
 pub ruleset flat_parts = (first-refused, first-passed, rings-held)
 
 pub ruleset from_8_parts = (first-refused, first-passed, none-from_8, flat_there, below, ltb-true, ltb-false)
-
-pub ruleset chart_parts = (undrawn, compared_same, compared_other)
 
 pub ruleset from_10_parts = (none-from_10, bare_at, labelled_at, charted_at, fits-at, below, ltb-true)

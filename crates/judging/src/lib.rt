@@ -31,13 +31,13 @@ fn label_part(fitting: &Fitting) -> Result<(), Refusal>
 }
 
 // 11 and 12 of a sheet whose plan fits: the chart in its arrays is the plan's chart.
-#[tactic(auto, using(crate::proofs::Rules::chart_parts))]
+#[tactic(auto, using(crate::proofs::Rules::undrawn))]
 fn chart_part(fitting: &Fitting) -> Result<(), Refusal>
     ensures { told result ≡ chart_rules (held_plan fitting.now.sheet.now) (held_labels fitting.now.sheet.now) (held_chart fitting.now.sheet.now) }
 {
-    let plan = fitting.plan();
-    let drawn = placement::chart_of(&plan, fitting.labels())?;
-    if charts::same_chart(plan.n, &fitting.points(), &drawn.points()) {
+    let n = usize::from(fitting.sheet.n);
+    let drawn = placement::chart_of(&fitting.fit(), fitting.labels())?;
+    if charts::same_chart(n, &fitting.points(), &drawn.points()) {
         Ok(())
     } else {
         Err(Refusal::OtherChart)

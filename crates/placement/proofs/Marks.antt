@@ -34,8 +34,8 @@ index_most (b ∷ l) (suc i) h = go (eqb (get_or l i 0) b) (index_most l i (omeg
     go false r = omega arith
 
 -- the entry of a dart stands at the dart's place or before it
-pub dart-most : {r : List ℕ} {a i v : ℕ} → DartAt r a i v → index_of v r ≤ i
-dart-most {r} {a} {i} {v} dart = let h = dart.inside in let m = index_most r i h in let z : index_of v r ≡ index_of (get_or r i 0) r = ap (λ (w : ℕ). index_of w r) dart.entry in omega arith
+pub dart-most : {r : List ℕ} {i v : ℕ} → DartAt r i v → index_of v r ≤ i
+dart-most {r} {i} {v} dart = let h = dart.inside in let m = index_most r i h in let z : index_of v r ≡ index_of (get_or r i 0) r = ap (λ (w : ℕ). index_of w r) dart.entry in omega arith
 
 -- ---- what a mark says
 -- there is a place
@@ -70,7 +70,7 @@ module _ {marks r : List ℕ} {a i : ℕ} (inv : Marked marks r a i) where
       go v h true e = let k = ltb-true (index_of v r) i e in let z = inv.seen v h k in omega arith
       go v h false e = let z = inv.fresh v h (ltb-false (index_of v r) i e) in omega arith
 
-  module _ {v : ℕ} (dart : DartAt r a i v) where
+  module _ {v : ℕ} (dart : DartAt r i v) where
     -- another context that stands before i + 1 stands before i
     before : (w : ℕ) {i' : ℕ} → i' ≡ i + 1 → (w ≡ v → ⊥) → index_of w r < i' → index_of w r < i
     before w q other k = go (eqb (index_of w r) i) refl
@@ -80,10 +80,6 @@ module _ {marks r : List ℕ} {a i : ℕ} (inv : Marked marks r a i) where
             let z = eqb-true (index_of w r) i e in
             absurd (other (sym (index_there w r (let h = dart.inside in omega arith)) ∙ ap (λ (j : ℕ). get_or r j 0) z ∙ sym dart.entry))
         go false e = let z = eqb-false (index_of w r) i e in omega arith
-
-    -- v has no mark: only contexts below 200 have
-    pub marked_wide : 200 ≤ v → Marked marks r a (i + 1)
-    marked_wide h = record { size = inv.size; seen = λ w l k. inv.seen w l (before w refl (λ e. absurd (omega arith)) k); fresh = λ w l k. inv.fresh w l (omega arith) }
 
     module _ (low : v < 200) {mark : ℕ} (at : mark ≡ get_or marks v 0) where
       -- v is marked in this ring

@@ -12,8 +12,7 @@ pub record Marked (marks r : List ℕ) (a i : ℕ) : Type 0 where
   pub seen : (v : ℕ) → v < 200 → index_of v r < i → get_or marks v 0 ≡ suc (a + index_of v r)
   pub fresh : (v : ℕ) → v < 200 → i ≤ index_of v r → get_or marks v 0 ≤ a
 
--- v is the entry at i of a ring that begins at a and ends before 1186
-pub record DartAt (r : List ℕ) (a i v : ℕ) : Type 0 where
+-- v is the entry at i of a ring
+pub record DartAt (r : List ℕ) (i v : ℕ) : Type 0 where
   pub inside : i < length r
-  pub small : a + i < 1186
   pub entry : v ≡ get_or r i 0

@@ -1,19 +1,22 @@
 // Placement: the chart of a labelled plan over flat arrays.
 #![tactic(auto)]
 
-ghost use Rattle.std.specs.Prelude.{◌≡◌, true, false, ◌+◌, ◌≤◌, ◌<◌, length, take};
+ghost use Rattle.std.specs.Prelude.{◌≡◌, List, ℕ, true, false, ◌+◌, ◌≤◌, ◌<◌, length, take};
 ghost use Rattle.lists.specs.Parts.{index_of};
-ghost use Rattle.model.specs.Plan.{ring};
-ghost use Rattle.rings.specs.Tables.{start_of, starts_of, in_bounds, plan_of, table};
+ghost use Rattle.model.specs.Outcome.{mapped};
+ghost use Rattle.model.specs.Chart.{chart};
+ghost use Rattle.refusal.specs.Refusals.{told};
+ghost use Rattle.rings.specs.Tables.{start_of, table_of};
 ghost use Rattle.solver.specs.Constraints.{listed};
 ghost use Rattle.placement.specs.Asking.{asked, end_of, gap_of, kept_of, ask_of};
-ghost use Rattle.placement.specs.Drawing.{chart_for, drawn_as, drawn_of, found_of, found_if, stands_at, squared};
+ghost use Rattle.placement.specs.Drawing.{drawn_of, stands_at, squared, in_corners};
 ghost use Rattle.placement.specs.Marking.{Marked, DartAt, marked_place};
 
 use charts::Points;
+use fit::Fit;
 use labels::{RIGHT, UP};
 use refusal::Refusal;
-use rings::{EAST, NORTH, Rings, SOUTH, Table, WEST};
+use rings::{EAST, NORTH, SOUTH, WEST};
 use solver::Constraint;
 
 // The slope that a line must at least have.
@@ -122,23 +125,13 @@ fn marked_place(marks: &[u16; 200], v: usize, a: usize) -> Option<usize>
     if mark > a { Some(mark - 1) } else { None }
 }
 
-// Where the label of the dart from u to v stands, v being the entry at i of u's ring, which begins at a. An entry that is v's first in the ring is marked.
-fn label_place(
-    marks: &mut [u16; 200],
-    rings: &Rings,
-    u: usize,
-    v: usize,
-    a: usize,
-    i: usize,
-) -> usize
-    requires marked { Marked marks.old (ring (plan_of rings.now) u) a i }
-    requires dart_at { DartAt (ring (plan_of rings.now) u) a i v }
-    ensures value { result ≡ a + index_of v (ring (plan_of rings.now) u) }
-    ensures marked_2 { Marked marks.new (ring (plan_of rings.now) u) a (i + 1) }
+// Where the label of a dart stands whose end is v, the entry at i of the ring that begins at a: where v stands first in this ring. An entry that is v's first is marked.
+fn label_place(marks: &mut [u16; 200], v: usize, a: usize, i: usize) -> usize
+    requires low { v < 200 }
+    requires small { a + i < 1186 }
+    ensures value { (r : List ℕ) → Marked marks.old r a i → DartAt r i v → result ≡ a + index_of v r }
+    ensures marked { (r : List ℕ) → Marked marks.old r a i → DartAt r i v → Marked marks.new r a (i + 1) }
 {
-    if v >= 200 {
-        return a + search::index_of(rings, u, v);
-    }
     if let Some(at) = marked_place(marks, v, a) {
         return at;
     }
@@ -147,14 +140,11 @@ fn label_place(
 }
 
 // Puts the constraints that a labelled plan asks for to the front of an array for each coordinate: the border's tie, then those of the darts in the order of the rings. How many there are of each.
-fn asks_of(rings: &Rings, labels: &[u8], x: &mut [Constraint], y: &mut [Constraint]) -> usize
-    requires n_bound { rings.now.n ≤ 200 }
-    requires n_bound_2 { start_of rings.now.sizes.now rings.now.n ≤ 1186 }
-    requires starts_value { rings.now.starts.now ≡ starts_of rings.now.sizes.now }
-    requires room_x { 2 + start_of rings.now.sizes.now rings.now.n ≤ length x.old }
-    requires room_y { 2 + start_of rings.now.sizes.now rings.now.n ≤ length y.old }
-    ensures x { listed (take result x.new) ≡ asked false (table rings.now.sizes.now rings.now.entries.now rings.now.n) labels.now }
-    ensures y { listed (take result y.new) ≡ asked true (table rings.now.sizes.now rings.now.entries.now rings.now.n) labels.now }
+fn asks_of(fit: &Fit, labels: &[u8], x: &mut [Constraint], y: &mut [Constraint]) -> usize
+    requires room_x { 2 + start_of fit.now.plan.sizes.now fit.now.plan.n ≤ length x.old }
+    requires room_y { 2 + start_of fit.now.plan.sizes.now fit.now.plan.n ≤ length y.old }
+    ensures x { listed (take result x.new) ≡ asked false (table_of fit.now.plan) labels.now }
+    ensures y { listed (take result y.new) ≡ asked true (table_of fit.now.plan) labels.now }
     ensures tied { 2 ≤ result }
     ensures fits_x { result ≤ length x.new }
     ensures fits_y { result ≤ length y.new }
@@ -163,15 +153,16 @@ fn asks_of(rings: &Rings, labels: &[u8], x: &mut [Constraint], y: &mut [Constrai
     x[1] = level(EAST, NORTH);
     y[0] = level(NORTH, WEST);
     y[1] = level(WEST, NORTH);
+    let plan = fit.plan;
     let mut count = 2;
     let mut marks = [0u16; 200];
     let mut a = 0;
-    for u in 0..rings.n {
-        let k = rings.size_of(u);
+    for u in 0..plan.n {
+        let k = arrays::num(plan.sizes, u);
         for i in 0..k {
-            let entry = arrays::at(rings.entries, a + i);
+            let entry = arrays::at(plan.entries, a + i);
             let v = rings::neighbour_of(usize::from(entry));
-            let at = label_place(&mut marks, rings, u, v, a, i);
+            let at = label_place(&mut marks, v, a, i);
             let label = labels::label_at(labels, at);
             let s = u as u16;
             x[count] = ask_of(false, label, s, entry);
@@ -184,9 +175,9 @@ fn asks_of(rings: &Rings, labels: &[u8], x: &mut [Constraint], y: &mut [Constrai
 }
 
 // The chart with these numbers, if the border contexts stand at its corners.
-#[tactic(auto, unfolding(crate::specs::Drawing::found_if))]
-fn squared_off(xs: [u16; 200], ys: [u16; 200]) -> Option<Drawn>
-    ensures { result ≡ found_if (squared xs ys) xs ys }
+#[tactic(auto, unfolding(crate::specs::Drawing::drawn_at))]
+fn squared_off(xs: [u16; 200], ys: [u16; 200]) -> Result<Drawn, Refusal>
+    ensures { told result ≡ in_corners xs ys }
 {
     let north = usize::from(NORTH);
     let drawn = Drawn {
@@ -195,60 +186,49 @@ fn squared_off(xs: [u16; 200], ys: [u16; 200]) -> Option<Drawn>
         xs,
         ys,
     };
-    drawn.is_squared().then_some(drawn)
+    if drawn.is_squared() {
+        Ok(drawn)
+    } else {
+        Err(Refusal::NoPlacement)
+    }
 }
 
-// The chart of a plan within bounds, if there is one, with two arrays that its constraints fit.
+// The chart of a plan, if there is one, with two arrays that its constraints fit.
 fn chart_with(
-    rings: &Rings,
+    fit: &Fit,
     labels: &[u8],
     x: &mut [Constraint],
     y: &mut [Constraint],
-) -> Option<Drawn>
-    requires n_value { in_bounds rings.now.sizes.now rings.now.n ≡ true }
-    requires starts_value { rings.now.starts.now ≡ starts_of rings.now.sizes.now }
-    requires room_x { 2 + start_of rings.now.sizes.now rings.now.n ≤ length x.old }
-    requires room_y { 2 + start_of rings.now.sizes.now rings.now.n ≤ length y.old }
-    ensures { result ≡ found_of (chart_for rings.now.sizes.now rings.now.entries.now rings.now.n labels.now) }
+) -> Result<Drawn, Refusal>
+    requires room_x { 2 + start_of fit.now.plan.sizes.now fit.now.plan.n ≤ length x.old }
+    requires room_y { 2 + start_of fit.now.plan.sizes.now fit.now.plan.n ≤ length y.old }
+    ensures { told result ≡ mapped drawn_of (chart (table_of fit.now.plan) labels.now) }
 {
-    let count = asks_of(rings, labels, x, y);
+    let n = fit.plan.n;
+    let count = asks_of(fit, labels, x, y);
     let mut xs = [0; 200];
-    if !solver::solve(rings.n, &x[..count], 2, &mut xs) {
-        return None;
+    if !solver::solve(n, &x[..count], 2, &mut xs) {
+        return Err(Refusal::NoPlacement);
     }
     let mut ys = [0; 200];
-    if !solver::solve(rings.n, &y[..count], 2, &mut ys) {
-        return None;
+    if !solver::solve(n, &y[..count], 2, &mut ys) {
+        return Err(Refusal::NoPlacement);
     }
     squared_off(xs, ys)
 }
 
-// The chart of a plan within bounds, if there is one. A small plan takes short arrays, which are sooner made.
-fn chart_from(rings: &Rings, labels: &[u8]) -> Option<Drawn>
-    requires n_value { in_bounds rings.now.sizes.now rings.now.n ≡ true }
-    requires starts_value { rings.now.starts.now ≡ starts_of rings.now.sizes.now }
-    ensures { result ≡ found_of (chart_for rings.now.sizes.now rings.now.entries.now rings.now.n labels.now) }
+// The chart of a plan that fits: the least placement. A small plan takes short arrays, which are sooner made.
+pub fn chart_of(fit: &Fit, labels: &[u8]) -> Result<Drawn, Refusal>
+    ensures { told result ≡ mapped drawn_of (chart (table_of fit.now.plan) labels.now) }
 {
     let none = level(NORTH, NORTH);
-    if fit::total_of(rings.sizes, rings.n) <= 126 {
+    if fit::total_of(fit.plan.sizes, fit.plan.n) <= 126 {
         let mut x = [none; 128];
         let mut y = [none; 128];
-        chart_with(rings, labels, &mut x, &mut y)
+        chart_with(fit, labels, &mut x, &mut y)
     } else {
         let mut x = [none; 1188];
         let mut y = [none; 1188];
-        chart_with(rings, labels, &mut x, &mut y)
+        chart_with(fit, labels, &mut x, &mut y)
     }
-}
-
-// The chart of a plan: the least placement.
-pub fn chart_of(plan: &Table, labels: &[u8]) -> Result<Drawn, Refusal>
-    ensures n_value { drawn_as result plan.now.n ≡ chart_for plan.now.sizes.now plan.now.entries.now plan.now.n labels.now }
-    ensures value { result ≡ drawn_of (chart_for plan.now.sizes.now plan.now.entries.now plan.now.n labels.now) }
-{
-    if !fit::is_in_bounds(plan.sizes, plan.n) {
-        return Err(Refusal::NoPlacement);
-    }
-    let starts = rings::starts_of(plan.sizes);
-    chart_from(&plan.rings(&starts), labels).ok_or(Refusal::NoPlacement)
 }

@@ -1,56 +1,51 @@
--- Write: the sheet that the arrays hold is the sheet that the struct reads as, and what the writer answers is what the call gives.
+-- Write: the sheet that is written is the sheet that the struct reads as, and what the writer answers is what the call gives.
 use Prim.Native.Nat.{ℕ, ◌≤◌, ◌<◌}
 use mathlib.Core.Path.{◌≡◌, refl, sym, ap, ◌∙◌}
 use mathlib.Core.List.{List, ◌++◌}
+use mathlib.Core.Bool.{true}
+use mathlib.Core.Logic.{◌⊎◌, inl, inr}
 use native.Mathlib.Omega.{arith}
 use lib.ListN.{length, drop}
 use lib.Dec.{leb}
-use Rattle.rings.proofs.Rows.{held_small}
-use Rattle.lists.specs.Spans.{stretch}
-use Rattle.model.specs.Outcome.{Outcome, accepted, refused, require, ◌>>◌}
+use Rattle.lists.proofs.Spans.{length-stretch}
+use Rattle.model.specs.Outcome.{Outcome, accepted, refused, mapped, require, ◌>>◌}
 use Rattle.model.specs.Plan.{Plan}
+use Rattle.model.specs.Chart.{Chart}
 use Rattle.model.specs.File as file
 use Rattle.model.specs.Calls.{plan_of, write_call}
 use Rattle.rings.specs.Tables.{start_of}
-use Rattle.rings.specs.Tables as flat
-use Rattle.std.specs.Prelude.{Result, Ok, Err}
-use Rattle.refusal.specs.declared.Refusal.{Refusal}
-use Rattle.refusal.specs.Refusals.{told}
-use Rattle.writing.specs.Files.{darts_held, labels_held, chart_held, outcome_of, buffer_after}
-use Rattle.writing.proofs.Kept.{kept-all}
+use Rattle.writing.specs.Files.{buffer_after, answered}
 use Rattle.sheet.specs.declared.Sheet.{Sheet}
 use Rattle.sheet.specs.declared.Stage.{Stage}
 use Rattle.sheet.specs.declared.Stage.TheVariants.{Empty, Open, Labelled, Charted}
-use Rattle.sheet.specs.Sheets.{held_count, held_plan, held_labels, held_chart, held, reads}
+use Rattle.sheet.specs.Sheets.{held_count, held_plan, held_labels, held_chart, held, fits, reads, stage_read, rank}
 use Rattle.sheet.specs.Answers.{length_of}
-use Rattle.sheet.specs.Sheets.{rank, stage_read}
-use Rattle.reports.specs.FileParts.{written_at}
 use Rattle.model.proofs.Outcomes.{bind_off}
-use Rattle.sheet.proofs.Reading.{stage_refused, stage_missed, stage_reached, reads-stage, plan_early, fits_there, few, stage_there}
+use Rattle.sheet.proofs.Reading.{fitting_refused, fitting_missed, fitting_reached, reads-stage, plan_early, room, stage_there}
 
 module _ (s : Sheet) where
-  plan_in_lem : s.n ≤ 200 → flat.held s.sizes s.entries s.n ≡ held_plan s
-  unfolding held_plan
-  plan_in_lem h = held_small s.sizes s.entries s.n h
+  -- a struct that fits has room for its entries, and no more labels than these
+  pub whole : fits s ≡ true → {sizes es : List ℕ} {n : ℕ} → length s.entries ≡ 1186 → sizes ≡ s.sizes → es ≡ s.entries → n ≡ s.n → start_of sizes n ≤ length es
+  whole f long a b e = let r = room s f in let x : start_of _ _ ≡ start_of s.sizes s.n = λ i. start_of (a i) (e i) in let y = ap length b in omega arith
 
-  labels_in_lem : s.n ≤ 200 → labels_held s.sizes s.labels s.n ≡ held_labels s
-  unfolding labels_held darts_held held_labels held_count
-  labels_in_lem h = ap (λ (k : ℕ). stretch s.labels 0 (start_of s.sizes k)) (kept-all s.n h)
+  pub labels_few : fits s ≡ true → {ls : List ℕ} → ls ≡ held_labels s → length ls ≤ 1186
+  unfolding held_labels held_count
+  labels_few f e = let l = length-stretch s.labels 0 (start_of s.sizes s.n) in let r = room s f in let x = ap length e in omega arith
 
-  chart_in_lem : s.n ≤ 200 → chart_held s.w s.h s.xs s.ys s.n ≡ held_chart s
-  unfolding chart_held held_chart
-  chart_in_lem h = λ i. record { w = s.w; h = s.h; xs = stretch s.xs 0 (kept-all s.n h i); ys = stretch s.ys 0 (kept-all s.n h i) }
+  module _ {g : Stage} where
+    -- what is written at each stage
+    pub parts_open : (g ≡ Empty) ⊎ (g ≡ Open) → 1 ≤ rank g → file.opened (held_plan s) ≡ held g s
+    unfolding rank held
+    parts_open (inl e) h = let z = ap rank e in absurd (omega arith)
+    parts_open (inr e) h = ap (λ (t : Stage). held t s) (sym e)
 
-  held_in : (g : Stage) → 1 ≤ rank g → s.n ≤ 200 → written_at g s ≡ held g s
-  unfolding rank held written_at
-  held_in Empty r h = absurd (omega arith)
-  held_in Open r h = ap file.opened (plan_in_lem h)
-  held_in Labelled r h = λ i. file.labelled (plan_in_lem h i) (labels_in_lem h i)
-  held_in Charted r h = λ i. file.charted (plan_in_lem h i) (labels_in_lem h i) (chart_in_lem h i)
+    pub parts_labelled : {ls : List ℕ} → ls ≡ held_labels s → g ≡ Labelled → 1 ≤ rank g → file.labelled (held_plan s) ls ≡ held g s
+    unfolding held
+    parts_labelled q e h = ap (file.labelled (held_plan s)) q ∙ ap (λ (t : Stage). held t s) (sym e)
 
-  -- past EMPTY the writer is given what the struct reads as
-  pub sheet_in_lem : 1 ≤ rank (stage_read s) → written_at s.stage s ≡ reads s
-  sheet_in_lem h = ap (λ (g : Stage). written_at g s) (sym (stage_there s h)) ∙ held_in (stage_read s) h (few s (fits_there s h)) ∙ sym (reads-stage s)
+    pub parts_charted : {ls : List ℕ} {c : Chart} → ls ≡ held_labels s → c ≡ held_chart s → g ≡ Charted → 1 ≤ rank g → file.charted (held_plan s) ls c ≡ held g s
+    unfolding held
+    parts_charted q r e h = (λ i. file.charted (held_plan s) (q i) (r i)) ∙ ap (λ (t : Stage). held t s) (sym e)
 
   -- 13
   pub write_early : (d : List ℕ) → rank (stage_read s) < 1 → write_call (reads s) d ≡ refused 13 0
@@ -67,20 +62,31 @@ module _ (s : Sheet) where
   unfolding buffer_after
   buffer_kept d h = ap (λ (o : Outcome (ℕ × List ℕ)). buffer_after o d) (sym (write_early d h))
 
-  module _ (h : 1 ≤ rank (stage_read s)) (t : file.Sheet) (e : t ≡ written_at s.stage s) (d d' : List ℕ) where
-    call_in : write_call t d ≡ write_call (reads s) d
-    call_in = ap (λ (x : file.Sheet). write_call x d) (e ∙ sheet_in_lem h)
+  -- past EMPTY the writer is given what the struct reads as
+  same : 1 ≤ rank (stage_read s) → {f : Sheet} → f ≡ s → {t : file.Sheet} → (1 ≤ rank f.stage → t ≡ held f.stage f) → t ≡ reads s
+  same h {f} w e =
+      let stage : f.stage ≡ stage_read s = ap (λ (x : Sheet). x.stage) w ∙ sym (stage_there s h) in
+      let past : 1 ≤ rank f.stage = let z = ap rank stage in omega arith in
+      e past ∙ (λ i. held (stage i) (w i)) ∙ sym (reads-stage s)
 
-    pub length-written : (r : Result ℕ Refusal) → outcome_of r d' ≡ write_call t d → told r ≡ length_of (write_call (reads s) d)
-    length-written r said = go r ∙ ap length_of (said ∙ call_in)
+  module _ (d : List ℕ) (h : 1 ≤ rank (stage_read s)) {f : Sheet} (w : f ≡ s) {t : file.Sheet} (e : 1 ≤ rank f.stage → t ≡ held f.stage f) {d' : List ℕ} {o : Outcome ℕ} (said : answered (write_call t d) d ≡ (o, d')) where
+    call_in : answered (write_call (reads s) d) d ≡ (o, d')
+    call_in = ap (λ (x : file.Sheet). answered (write_call x d) d) (sym (same h w e)) ∙ said
+
+    pub length-written : o ≡ length_of (write_call (reads s) d)
+    unfolding length_of
+    length-written = sym (ap (λ (a : Outcome ℕ × List ℕ). a.0) call_in) ∙ go (write_call (reads s) d)
       where
-        go : (r : Result ℕ Refusal) → told r ≡ length_of (outcome_of r d')
-        go (Ok k) = unfold length_of outcome_of in refl
-        go (Err f) = unfold length_of outcome_of in refl
+        go : (c : Outcome (ℕ × List ℕ)) → mapped (λ (p : ℕ × List ℕ). p.0) c ≡ length_of c
+        go (accepted (k, b)) = refl
+        go (refused k at) = refl
 
     -- every byte of the buffer
-    pub buffer_written : d' ≡ buffer_after (write_call t d) d → d' ≡ buffer_after (write_call (reads s) d) d
-    buffer_written p = p ∙ ap (λ (o : Outcome (ℕ × List ℕ)). buffer_after o d) call_in
+    pub buffer_written : d' ≡ buffer_after (write_call (reads s) d) d
+    buffer_written = sym (ap (λ (a : Outcome ℕ × List ℕ). a.1) call_in)
+
+-- for what the writer is given
+pub ruleset parts = (whole, parts_open, parts_labelled, parts_charted)
 
 -- for the call itself, step by step
-pub ruleset steps = (stage_refused, stage_missed, stage_reached, early_length, buffer_kept, length-written, buffer_written)
+pub ruleset steps = (fitting_refused, fitting_missed, fitting_reached, early_length, buffer_kept, length-written, buffer_written)

@@ -1,47 +1,63 @@
 // The calls that tell of a sheet and leave it as it is: write, scan and same. Each takes every value of the struct: one whose plan does not fit counts as a fresh sheet.
 #![tactic(auto)]
 
-ghost use Rattle.std.specs.Prelude.{◌≡◌, ◌&&◌, eqb};
+ghost use Rattle.std.specs.Prelude.{◌≡◌, ◌≤◌, ◌&&◌, eqb, length};
 ghost use Rattle.model.specs.Chart.{same_chart};
 ghost use Rattle.model.specs.Calls.{write_call, scan_call, same_call};
 ghost use Rattle.refusal.specs.Refusals.{told};
-ghost use Rattle.writing.specs.Files.{sheet_held, buffer_after};
-ghost use Rattle.sheet.specs.Sheets.{held_chart, reads};
+ghost use Rattle.writing.specs.Files.{labels_in, sheet_with, sheet_held, buffer_after};
+ghost use Rattle.sheet.specs.Sheets.{held_plan, held_chart, held, reads, rank};
 ghost use Rattle.sheet.specs.Answers.{length_of};
-ghost use Rattle.reports.specs.FileParts.{written_at};
 
+use fit::Fit;
 use refusal::Refusal;
-use sheet::{Sheet, Stage};
+use rings::Table;
+use sheet::{Fitting, Sheet, Stage};
 use writing::{Held, Parts};
 
-// What a file of the sheet holds: the plan, and what the stage has besides. At EMPTY there is no file, and this is not used.
-#[tactic(auto, unfolding(crate::specs::FileParts::written_at))]
-fn held_of(sheet: &Sheet) -> Held
-    ensures { sheet_held result ≡ written_at sheet.now.stage sheet.now }
+// What follows the plan in a file of the sheet, by the stage.
+#[tactic(auto, using(crate::proofs::Writes::parts), unfolding(sheet::specs::Sheets::held, sheet::specs::Sheets::rank))]
+fn parts_of<'a>(fitting: &Fitting<'a>) -> Parts<'a>
+    ensures few { length (labels_in result) ≤ 1186 }
+    ensures written { 1 ≤ rank fitting.now.sheet.now.stage → sheet_with (held_plan fitting.now.sheet.now) fitting.now.sheet.now.n result ≡ held fitting.now.sheet.now.stage fitting.now.sheet.now }
 {
-    let labels = &sheet.labels;
-    let parts = match sheet.stage {
+    match fitting.sheet.stage {
         Stage::Empty | Stage::Open => Parts::Plan,
-        Stage::Labelled => Parts::Labels { labels },
-        Stage::Charted => Parts::Chart {
-            labels,
-            drawn: sheet::points_of(sheet),
+        Stage::Labelled => Parts::Labels {
+            labels: fitting.labels(),
         },
+        Stage::Charted => Parts::Chart {
+            labels: fitting.labels(),
+            drawn: fitting.points(),
+        },
+    }
+}
+
+// What a file of the sheet holds. At EMPTY there is no file, and this is not used.
+#[tactic(auto, using(crate::proofs::Writes::parts), unfolding(sheet::specs::Sheets::fits, sheet::specs::Sheets::held_plan))]
+fn held_of<'a>(fitting: &Fitting<'a>) -> Held<'a>
+    ensures { 1 ≤ rank fitting.now.sheet.now.stage → sheet_held result.fit.plan result.parts ≡ held fitting.now.sheet.now.stage fitting.now.sheet.now }
+{
+    let sheet = fitting.sheet;
+    let plan = Table {
+        sizes: &sheet.sizes,
+        entries: &sheet.entries,
+        n: usize::from(sheet.n),
     };
     Held {
-        plan: sheet::table_of(sheet),
-        parts,
+        fit: Fit { plan },
+        parts: parts_of(fitting),
     }
 }
 
 // Write (OPEN up): the file into the buffer, whose later bytes stay; its length.
-#[tactic(auto, using(crate::proofs::Writes::steps), unfolding(sheet::specs::Sheets::rank))]
+#[tactic(auto, using(crate::proofs::Writes::steps), unfolding(sheet::specs::Sheets::rank, sheet::specs::Answers::answer_of))]
 pub fn write(sheet: &Sheet, out: &mut [u8]) -> Result<usize, Refusal>
     ensures result_value { told result ≡ length_of (write_call (reads sheet.now) out.old) }
     ensures out_after { out.new ≡ buffer_after (write_call (reads sheet.now) out.old) out.old }
 {
-    sheet::require_stage(sheet, Stage::Open)?;
-    writing::write_file(out, &held_of(sheet))
+    let fitting = sheet::require_fitting(sheet, Stage::Open)?;
+    writing::write_file(out, &held_of(&fitting))
 }
 
 // Scan (OPEN up): the smallest triple of mutual neighbours that are no inner face, or that there is none.

@@ -6,6 +6,7 @@
 #![tactic(auto)]
 
 use charts::Points;
+use fit::Fit;
 use framing::{Layout, Parts};
 use lent::LentRings;
 use refusal::Refusal;
@@ -41,27 +42,31 @@ fn print_flat_rules(rings: &Rings) -> bool {
     eight.is_ok() && nine.is_ok()
 }
 
-// The smallest triple of mutual neighbours that are no inner face, of a plan that fits.
-fn print_scan(plan: &Table) {
-    match fit::of(plan).and_then(|fit| triples::scan(&fit)) {
+// The smallest triple of mutual neighbours that are no inner face.
+fn print_scan(fit: &Fit) {
+    match triples::scan(fit) {
         None => console::print(" triangle none"),
         Some((a, b, c)) => console::print(format_args!(" triangle {a},{b},{c}")),
     };
 }
 
-// The plan alone, written as a file into a buffer, and how long it is.
-fn write_part(space: &mut [u8], plan: &Table) -> Result<usize, Refusal> {
-    let held = Held {
-        plan: *plan,
+// The plan alone, to be written; none where its entries are not all there.
+#[tactic(auto, using(fit::proofs::Bounds::fit_counted))]
+fn plan_alone<'a>(fit: &Fit<'a>) -> Option<Held<'a>> {
+    let plan = fit.plan;
+    if plan.entries.len() < fit::total_of(plan.sizes, plan.n) {
+        return None;
+    }
+    Some(Held {
+        fit: *fit,
         parts: writing::Parts::Plan,
-    };
-    writing::write_file(space, &held)
+    })
 }
 
 // The plan written into a buffer: how many bytes it takes, and how many of them are the file's; or how many it needs. Either number.
-fn print_whole(file: &[u8], plan: &Table) -> usize {
+fn print_whole(file: &[u8], held: &Held) -> usize {
     let mut space = io::buffer();
-    match write_part(&mut space, plan) {
+    match writing::write_file(&mut space, held) {
         Ok(size) => {
             let same = comparison::agreeing(file, &space, size);
             console::print(format_args!(" bytes {size} same {same}"));
@@ -79,8 +84,8 @@ fn print_short(refusal: Refusal) -> usize {
 }
 
 // The plan written into so many bytes: how many it takes, or how many it needs.
-fn print_part(size: usize, plan: &Table) {
-    match write_part(&mut io::buffer()[..size.min(4096)], plan) {
+fn print_part(size: usize, held: &Held) {
+    match writing::write_file(&mut io::buffer()[..size.min(4096)], held) {
         Ok(k) => {
             console::print(format_args!(" length {k}"));
         }
@@ -91,10 +96,12 @@ fn print_part(size: usize, plan: &Table) {
 }
 
 // The plan written into a buffer, into one that just fits, and into one that is a byte short.
-fn print_written(file: &[u8], plan: &Table) {
-    let size = print_whole(file, plan);
-    print_part(size, plan);
-    print_part(size.saturating_sub(1), plan);
+fn print_written(file: &[u8], fit: &Fit) {
+    if let Some(held) = plan_alone(fit) {
+        let size = print_whole(file, &held);
+        print_part(size, &held);
+        print_part(size.saturating_sub(1), &held);
+    }
 }
 
 // A chart: its size and the point of each of n contexts.
@@ -132,29 +139,26 @@ fn print_record(record: &[u8], n: usize, drawn: &Points) {
 }
 
 // The chart of the labels, and whether the body of a chart record, if the file has one, is the same.
-fn print_chart(plan: &Table, labels: &[u8], record: Option<&[u8]>) {
-    match placement::chart_of(plan, labels) {
+fn print_chart(fit: &Fit, labels: &[u8], record: Option<&[u8]>) {
+    match placement::chart_of(fit, labels) {
         Err(_) => {
             console::print(" chart none");
         }
         Ok(drawn) => {
-            print_points(&drawn.points(), plan.n);
+            print_points(&drawn.points(), fit.plan.n);
             if let Some(record) = record {
-                print_record(record, plan.n, &drawn.points());
+                print_record(record, fit.plan.n, &drawn.points());
             }
         }
     }
 }
 
-// The place of the label rules, and the chart where they are kept, of a plan that fits.
-fn print_labels(plan: &Table, labels: &[u8], record: Option<&[u8]>) {
-    let Some(fit) = fit::of(plan) else {
-        return;
-    };
-    let ten = conditions::check(&fit, labels);
-    console::print(format_args!(" 10:{}", place_of(ten, plan.n)));
+// The place of the label rules, and the chart where they are kept.
+fn print_labels(fit: &Fit, labels: &[u8], record: Option<&[u8]>) {
+    let ten = conditions::check(fit, labels);
+    console::print(format_args!(" 10:{}", place_of(ten, fit.plan.n)));
     if ten.is_ok() {
-        print_chart(plan, labels, record);
+        print_chart(fit, labels, record);
     }
 }
 
@@ -196,13 +200,16 @@ impl<'a> Framed<'a> {
         if !print_flat_rules(rings) {
             return;
         }
-        print_scan(plan);
-        print_written(self.file, plan);
+        let Some(fit) = fit::of(plan) else {
+            return;
+        };
+        print_scan(&fit);
+        print_written(self.file, &fit);
         match self.layout.parts {
             Parts::Plan => {}
-            Parts::Labels { labels } => print_labels(plan, self.labels(labels), None),
+            Parts::Labels { labels } => print_labels(&fit, self.labels(labels), None),
             Parts::Chart { labels, chart } => {
-                print_labels(plan, self.labels(labels), Some(self.record(chart)));
+                print_labels(&fit, self.labels(labels), Some(self.record(chart)));
             }
         }
     }

@@ -10,7 +10,6 @@ returns c =
     let s = c.args.sheet in
     let p = c.in_ok-fitting in
     let d = c.in_ok-drawn in
-    let t = c.plan.ensures in
     let k = c.points.ensures in
     let reached = fitting_reached s 2 c.require_fitting.result c.require_fitting.ensures.answer p.fitting p.was in
-    chart-call-stored s c.points.result c.charted.ensures p.ensures.lent (k.w, k.h, k.xs, k.ys) d.ensures.n_value reached t.sizes t.entries t.n c.labels.ensures
+    chart-call-stored s c.points.result c.charted.ensures p.ensures.lent (k.w, k.h, k.xs, k.ys) d.ensures reached c.fit.ensures c.labels.ensures

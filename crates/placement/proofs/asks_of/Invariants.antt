@@ -3,7 +3,7 @@ use Rattle.placement.proofs.Walk.{Walks}
 use Rattle.placement.proofs.asks_of.Given as goal
 
 abbrev pub invariant-loop-u : goal.invariant-loop-u
-invariant-loop-u l = Walks l.rings.starts.now l.rings.sizes.now l.rings.entries.now l.rings.n l.labels l.x l.y l.marks l.count l.u 0 l.a
+invariant-loop-u l = let t = l.fit.plan in Walks t.sizes.now t.entries.now t.n l.labels l.x l.y l.marks l.count l.u 0 l.a
 
 abbrev pub invariant-loop-i : goal.invariant-loop-i
-invariant-loop-i l = Walks l.rings.starts.now l.rings.sizes.now l.rings.entries.now l.rings.n l.labels l.x l.y l.marks l.count l.u l.i l.a
+invariant-loop-i l = let t = l.fit.plan in Walks t.sizes.now t.entries.now t.n l.labels l.x l.y l.marks l.count l.u l.i l.a
