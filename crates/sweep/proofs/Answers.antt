@@ -1,25 +1,18 @@
 -- What the sweep answers: the refusal of its steps, that of the label rules, or its labels.
-use Prim.Native.Nat.{ℕ, ◌-◌, min}
+use Prim.Native.Nat.{ℕ, ◌-◌}
 use mathlib.Core.Path.{◌≡◌, refl, sym, ap, ◌∙◌}
 use mathlib.Core.List.{List}
-use mathlib.Core.Bool.{true}
-use native.Mathlib.Omega.{arith}
 use lib.ListN.{length}
 use lib.Dec.{leb}
 use Rattle.lists.specs.Spans.{zeros, padded}
-use Rattle.model.specs.Outcome.{Outcome, accepted, refused, mapped, ◌>>=◌, ◌>>◌, require, rule}
+use Rattle.model.specs.Outcome.{Outcome, accepted, refused, mapped, ◌>>=◌, ◌>>◌, require}
 use Rattle.model.specs.Plan.{Plan, count, entry_count}
-use Rattle.model.specs.Labels.{breaks, label_rules}
+use Rattle.model.specs.Labels.{label_rules}
 use Rattle.model.specs.Sweep.{first_state, sweep}
 use Rattle.model.proofs.LabelCounts.{first_long, from_long}
 use Rattle.model.proofs.Outcomes.{bind_at, bind_off, mapped_off, mapped_accepted, mapped_refused}
-use Rattle.rings.specs.declared.Table.{Table}
-use Rattle.rings.specs.Tables.{starts_of, held, table, table_of}
-use Rattle.rings.proofs.Rows.{count-rows, held_small}
-use Rattle.fit.specs.Fits.{fit}
 use Rattle.labels.proofs.Darts.{rules_behind}
 use Rattle.labelling.specs.Labelling.{swept}
-use Rattle.sweep.proofs.Arrays.{few_contexts}
 
 module _ (p : Plan) where
   -- labels, after the rules
@@ -41,7 +34,7 @@ module _ (p : Plan) where
   steps_long ls e = from_long p (count p) (first_state p) (first_long p) ls e
 
   -- the rules on an array in which zeros stand after them are those on the labels
-  rules_padded : (ls : List ℕ) → swept p ≡ accepted ls → rule 10 (count p) (breaks p (padded 1186 ls)) ≡ label_rules p ls
+  rules_padded : (ls : List ℕ) → swept p ≡ accepted ls → label_rules p (padded 1186 ls) ≡ label_rules p ls
   unfolding label_rules padded
   rules_padded ls z = ap (λ (u : ℕ). require (leb (count p) u) 10 u) (rules_behind p ls (zeros (1186 - length ls)) (steps_long ls z) (count p))
 
@@ -51,23 +44,14 @@ module _ (p : Plan) where
   then_mapped (refused k at) ls = refl
 
   -- the steps give labels: by the rules on their array the sweep answers
-  pub answer_tested : {l : List ℕ} {judged : Outcome (Unit {0})} → accepted l ≡ mapped (padded 1186) (swept p) → judged ≡ rule 10 (count p) (breaks p l) → (judged >> accepted l) ≡ mapped (padded 1186) (sweep p)
+  pub answer_tested : {l : List ℕ} {judged : Outcome (Unit {0})} → accepted l ≡ mapped (padded 1186) (swept p) → judged ≡ label_rules p l → (judged >> accepted l) ≡ mapped (padded 1186) (sweep p)
   unfolding tested
   answer_tested {l} {judged} e ten = go (mapped_accepted (padded 1186) (swept p) l (sym e))
     where
       go : (ls : List ℕ) × (swept p ≡ accepted ls) × (padded 1186 ls ≡ l) → (judged >> accepted l) ≡ mapped (padded 1186) (sweep p)
       go (ls, z, y) =
-          let kept : judged ≡ label_rules p ls = ten ∙ ap (λ (m : List ℕ). rule 10 (count p) (breaks p m)) (sym y) ∙ rules_padded ls z in
+          let kept : judged ≡ label_rules p ls = ten ∙ ap (label_rules p) (sym y) ∙ rules_padded ls z in
           ap (λ (m : List ℕ). judged >> accepted m) (sym y)
           ∙ sym (then_mapped judged ls)
           ∙ ap (λ (o : Outcome (Unit {0})). mapped (padded 1186) (o >> accepted ls)) kept
           ∙ ap (mapped (padded 1186)) (sym (steps_then ∙ bind_at (swept p) ls tested z))
-
--- the label rules of a plan in flat arrays that fits
-pub rules_held : (t : Table) (ls : List ℕ) → fit (table_of t) ≡ true → rule 10 (min t.n 200) (breaks (held t.sizes.now t.entries.now t.n) ls) ≡ rule 10 (count (table_of t)) (breaks (table_of t) ls)
-unfolding table
-rules_held t ls fits =
-    let few = few_contexts t fits in
-    let size = count-rows (starts_of t.sizes.now) t.sizes.now t.entries.now t.n in
-    let most : min t.n 200 ≡ count (table_of t) = omega arith in
-    λ i. rule 10 (most i) (breaks (held_small t.sizes.now t.entries.now t.n few i) ls)

@@ -73,7 +73,7 @@ fn tested(fit: &Fit, ruled: bool) -> Result<[u8; 1186], Refusal>
     ensures { told result ≡ mapped (padded 1186) (sweep (table_of fit.now.plan)) }
 {
     let labels = swept(fit, ruled)?;
-    conditions::check(&fit.plan, &labels)?;
+    conditions::check(fit, &labels)?;
     Ok(labels)
 }
 
