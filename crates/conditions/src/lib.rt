@@ -16,6 +16,9 @@ use refusal::Refusal;
 use rings::Rings;
 use std::ops::Range;
 
+// The least mark of a label that has a direction.
+const DIRECTED: u8 = 2;
+
 // The mark of a label, as a table holds it: 5 up, 4 right, 3 down, 2 left, 1 between border contexts, and 0 none.
 fn mark_of(label: u8) -> u8
     ensures { result ≡ mark label }
@@ -85,7 +88,7 @@ impl Labelled<'_, '_, '_> {
         if labels::both_border(u, v) {
             return x != mark_of(labels::BORDER);
         }
-        x < 2 || self.mark_at(v, u) != across(x)
+        x < DIRECTED || self.mark_at(v, u) != across(x)
     }
 
     // Is the dart from u to v, of a border context, an inner dart without the label due?

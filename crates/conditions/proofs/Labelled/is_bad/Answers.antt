@@ -12,14 +12,14 @@ returns-then-both_border c =
     let s = a.self.now in
     bad_border (plan_of s.rings) s.labels.now a.u a.v c.mark_at-x.ensures c.both_border.ensures c.if-both_border.true c.mark_of.ensures
 
-pub returns-then-x-lt2 : goal.returns-then-x-lt2
-returns-then-x-lt2 c =
+pub returns-then-x-lt-DIRECTED : goal.returns-then-x-lt-DIRECTED
+returns-then-x-lt-DIRECTED c =
     let a = c.args in
     let s = a.self.now in
     lt-ltb c.mark_at-x.result 2 (omega arith) ∙ bad_none (plan_of s.rings) s.labels.now a.u a.v c.mark_at-x.ensures c.both_border.ensures c.if-both_border.false (omega arith)
 
-pub returns-else-x-lt2 : goal.returns-else-x-lt2
-returns-else-x-lt2 c =
+pub returns-else-x-lt-DIRECTED : goal.returns-else-x-lt-DIRECTED
+returns-else-x-lt-DIRECTED c =
     let a = c.args in
     let s = a.self.now in
     bad_pair (plan_of s.rings) s.labels.now a.u a.v c.mark_at-x.ensures c.both_border.ensures c.if-both_border.false (omega arith) c.mark_at.ensures c.across.ensures
