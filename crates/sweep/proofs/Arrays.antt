@@ -4,22 +4,13 @@ use mathlib.Core.Path.{◌≡◌}
 use mathlib.Core.Bool.{true}
 use native.Mathlib.Omega.{arith}
 use Rattle.model.specs.Plan.{entry_count}
-use Rattle.rings.specs.declared.Table.{Table}
 use Rattle.rings.specs.declared.Rings.{Rings}
-use Rattle.rings.specs.Tables.{starts_of, table, table_of, plan_of}
+use Rattle.rings.specs.Tables.{starts_of, plan_of}
 use Rattle.rings.proofs.Rows.{count-rows}
 use Rattle.fit.specs.Fits.{fit}
 use Rattle.fit.proofs.Fits.{fit-says}
 use Rattle.labels.proofs.Places.{start-held}
 use Rattle.labelling.specs.Edges.{Guide}
-
--- a plan that fits has at most 200 contexts
-pub few_contexts : (t : Table) → fit (table_of t) ≡ true → t.n ≤ 200
-unfolding table
-few_contexts t fits =
-    let few = (fit-says (table_of t) fits).few in
-    let size = count-rows (starts_of t.sizes.now) t.sizes.now t.entries.now t.n in
-    omega arith
 
 -- what labels are put by, for rings that fit; and there is room for them
 pub guided : (r : Rings) → r.starts.now ≡ starts_of r.sizes.now → fit (plan_of r) ≡ true → Guide (plan_of r) r.starts.now × (entry_count (plan_of r) ≤ 1186)

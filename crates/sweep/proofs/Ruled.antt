@@ -19,7 +19,7 @@ use Rattle.fit.specs.Fits.{fit}
 use Rattle.fit.proofs.Fits.{all-counted, total-is}
 use Rattle.sound.specs.Sound.{sound}
 use Rattle.sound.proofs.Sound.{four_kept, five_kept, six_kept, eight_kept, nine_kept}
-use Rattle.sweep.proofs.Arrays.{few_contexts}
+use Rattle.fit.proofs.Bounds.{fit_few}
 
 -- ---- what the test says
 -- a rule without a place passes
@@ -52,7 +52,7 @@ module _ (t : Table) (fits : fit (table_of t) ≡ true) {k d : ℕ} (entries : k
   total : entry_count (table_of t) ≡ dart_count (count (table_of t))
   unfolding table
   total =
-      let few = few_contexts t fits in
+      let few = fit_few t fits in
       total-is t.sizes.now t.entries.now t.n few
       ∙ sym (all-counted t.sizes.now few entries)
       ∙ same

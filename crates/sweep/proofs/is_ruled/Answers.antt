@@ -3,12 +3,12 @@ use mathlib.Core.Path.{sym, ◌∙◌}
 use mathlib.Core.Bool.{false≢true}
 use native.Mathlib.Omega.{arith}
 use borrow.Author.Tests.{ne_eqb}
-use Rattle.sweep.proofs.Arrays.{few_contexts}
+use Rattle.fit.proofs.Bounds.{fit_few}
 use Rattle.sweep.proofs.Ruled.{ruled-sound}
 use Rattle.sweep.proofs.is_ruled.Goals as goal
 
 pub dart_count-requires : goal.dart_count-requires
-dart_count-requires c = let few = few_contexts c.args.fit.now.plan c.args.fit.now.fits in omega arith
+dart_count-requires c = let few = fit_few c.args.fit.now.plan c.args.fit.now.fits in omega arith
 
 pub returns-then-total_of-dart_count : goal.returns-then-total_of-dart_count
 returns-then-total_of-dart_count c = λ quick.
