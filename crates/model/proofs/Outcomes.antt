@@ -59,11 +59,6 @@ module _ {A B : Type 0} where
   pub mapped_off : (f : A → B) (o : Outcome A) (k at : ℕ) → o ≡ refused k at → mapped f o ≡ refused k at
   mapped_off f o k at e = ap (mapped f) e
 
-  -- where it is accepted, so is the outcome that was mapped
-  pub mapped_accepted : (f : A → B) (o : Outcome A) (b : B) → mapped f o ≡ accepted b → (a : A) × (o ≡ accepted a) × (f a ≡ b)
-  mapped_accepted f (accepted a) b e = (a, refl, same-value e)
-  mapped_accepted f (refused k at) b e = not-both e
-
 -- an accepted block: each step of it is accepted
 pub bind_accepted : {A B : Type 0} (a : Outcome A) (f : A → Outcome B) (b : B) → (a >>= f) ≡ accepted b → (c : A) × (a ≡ accepted c) × (f c ≡ accepted b)
 bind_accepted (accepted c) f b e = (c, refl, e)
