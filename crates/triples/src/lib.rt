@@ -105,15 +105,15 @@ impl Followed<'_, '_> {
     }
 }
 
-// The smallest triple, with a table of N cells, which has a row for each context.
+// The smallest triple, with a table of N cells, which has a row for each context. It is made first, so that it is cleared once.
 fn scan_in<const N: usize>(fit: &Fit) -> Option<(usize, usize, usize)>
     requires { (200 * fit.now.plan.n ≤ N) × (N ≤ 40000) }
     ensures { result ≡ scan (table_of fit.now.plan) }
 {
+    let mut table = [0u8; N];
     let plan = fit.plan;
     let starts = rings::starts_of(plan.sizes);
     let rings = plan.rings(&starts);
-    let mut table = [0u8; N];
     followers::fill(&mut table, &rings);
     let followed = Followed {
         rings,

@@ -92,7 +92,7 @@ impl Placed<'_> {
     }
 }
 
-// The labels with each named edge turned by q quarters, with a table of N cells, which has a row for each context.
+// The labels with each named edge turned by q quarters, with a table of N cells, which has a row for each context. The table is made first, so that it is cleared once.
 fn turn_in<const N: usize>(
     fit: &Fit,
     labels: [u8; 1186],
@@ -103,10 +103,10 @@ fn turn_in<const N: usize>(
     requires room { (200 * fit.now.plan.n ≤ N) × (N ≤ 40000) }
     ensures { told result ≡ pairs_turned (table_of fit.now.plan) q (pairs items.now) labels }
 {
+    let mut places = [0u8; N];
     let plan = fit.plan;
     let starts = rings::starts_of(plan.sizes);
     let rings = plan.rings(&starts);
-    let mut places = [0u8; N];
     places::fill(&mut places, &rings);
     let located = Located {
         rings,
