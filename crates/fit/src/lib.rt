@@ -6,7 +6,7 @@ ghost use Rattle.std.specs.Option.{option_map};
 ghost use Rattle.std.specs.List.{fold};
 ghost use Rattle.lists.specs.Tests.{any};
 ghost use Rattle.lists.specs.Spans.{span};
-ghost use Rattle.rings.specs.Tables.{start_of, table_of, in_bounds};
+ghost use Rattle.rings.specs.Tables.{start_of, table_of};
 ghost use Rattle.fit.specs.Fits.{strange, fit};
 
 use rings::Table;
@@ -32,14 +32,6 @@ fn has_room(n: usize, total: usize) -> bool
     ensures { result ≡ (leb n 200 && leb total 1186) }
 {
     n <= 200 && total <= 1186
-}
-
-// Do the rings fit the arrays: at most 200 of them, with at most 1186 entries?
-#[tactic(auto, using(crate::proofs::Fits::room_is))]
-pub fn is_in_bounds(sizes: &[u8], n: usize) -> bool
-    ensures { result ≡ in_bounds sizes.now n }
-{
-    has_room(n, total_of(sizes, n))
 }
 
 // The highest of the first k entries, or 0. The loop has no early end, so that the machine runs it over several entries at once.

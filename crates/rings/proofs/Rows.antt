@@ -1,5 +1,5 @@
 -- The ring of a context in flat arrays, and look-ups in it.
-use Prim.Native.Nat.{ℕ, zero, suc, ◌+◌, ◌-◌, ◌*◌, ◌≤◌, ◌<◌, min}
+use Prim.Native.Nat.{ℕ, zero, suc, ◌+◌, ◌-◌, ◌*◌, ◌≤◌, ◌<◌}
 use Rattle.std.specs.Prelude.{Option, Some, None}
 use mathlib.Core.Path.{◌≡◌, refl, sym, ap, ◌∙◌}
 use mathlib.Core.List.{List, [], ◌∷◌, map}
@@ -16,7 +16,7 @@ use Rattle.lists.proofs.Spans.{length-stretch, get_or-stretch}
 use Rattle.model.specs.Plan.{count, neighbour, entries, ring, onward, next}
 use Rattle.rings.specs.declared.Table as tables
 use Rattle.rings.specs.declared.Rings as rings
-use Rattle.rings.specs.Tables.{sum_of, start_of, starts_of, size_of, rows, table, table_of, plan_of, held, cell}
+use Rattle.rings.specs.Tables.{sum_of, start_of, starts_of, size_of, rows, table, table_of, plan_of, cell}
 use Rattle.rings.proofs.Made.{Reads, entries-made, ring-made, count-made, size-made, past-made, at-made}
 
 -- ---- starts: each ring begins where the one before ends
@@ -137,11 +137,6 @@ module _ (starts sizes es : List ℕ) (n : ℕ) where
 pub as_table : (t : tables.Table) (r : rings.Rings) → r.starts.now ≡ starts_of t.sizes.now → r.sizes.now ≡ t.sizes.now → r.entries.now ≡ t.entries.now → r.n ≡ t.n → plan_of r ≡ table_of t
 unfolding table
 as_table t r starts sizes entries n = λ i. rows (starts i) (sizes i) (entries i) (n i)
-
--- of n contexts, at most 200
-pub held_small : (sizes es : List ℕ) (n : ℕ) → n ≤ 200 → held sizes es n ≡ table sizes es n
-unfolding held
-held_small sizes es n h = let z : min n 200 ≡ n = omega arith in ap (table sizes es) z
 
 -- an index in a list, or its length
 pub index_le : (v : ℕ) (l : List ℕ) → index_of v l ≤ length l

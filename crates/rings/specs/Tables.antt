@@ -1,5 +1,5 @@
 -- A plan in flat arrays: the size of each ring, and the entries of all rings in context order.
-use Rattle.std.specs.Prelude.{ℕ, ◌+◌, ◌*◌, min, List, [], ◌∷◌, map, Bool, cond, ◌&&◌, get_or, take, ltb, leb, Option, Some, None}
+use Rattle.std.specs.Prelude.{ℕ, ◌+◌, ◌*◌, List, [], ◌∷◌, map, cond, ◌&&◌, get_or, take, ltb, Option, Some, None}
 use Rattle.lists.specs.Ranges.{from}
 use Rattle.lists.specs.Spans.{stretch}
 use Rattle.model.specs.Plan.{Plan}
@@ -30,14 +30,6 @@ rows starts sizes es n = record { rings = map (λ (u : ℕ). stretch es (get_or 
 -- The plan of n contexts that sizes and entries hold
 unfoldable pub table : List ℕ → List ℕ → ℕ → Plan
 table sizes es n = rows (starts_of sizes) sizes es n
-
--- the same for every n: of more than 200 contexts there are the first 200, since the arrays end there
-unfoldable pub held : List ℕ → List ℕ → ℕ → Plan
-held sizes es n = table sizes es (min n 200)
-
--- the rings fit into the arrays: at most 200 of them, with at most 1186 entries, as many as an accepted plan can have
-unfoldable pub in_bounds : List ℕ → ℕ → Bool
-in_bounds sizes n = leb n 200 && leb (start_of sizes n) 1186
 
 -- the plan of a table
 abbrev pub table_of : tables.Table → Plan

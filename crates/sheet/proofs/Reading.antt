@@ -18,14 +18,13 @@ use Rattle.std.specs.declared.result.Result.{Result}
 use Rattle.refusal.specs.declared.Refusal.{Refusal}
 use Rattle.refusal.specs.Refusals.{told}
 use Rattle.model.specs.Plan.{Plan, count, entry_count, plan_rules}
-use Rattle.model.specs.Labels.{breaks, label_rules}
+use Rattle.model.specs.Labels.{label_rules}
 use Rattle.model.specs.File as file
 use Rattle.model.specs.Calls.{plan_of, labels_of, chart_of, judge}
 use Rattle.rings.specs.declared.Rings as rings
-use Rattle.rings.specs.declared.Table as tables
 use Rattle.rings.specs.Tables as flat
 use Rattle.rings.specs.Tables.{start_of, starts_of, rows, table}
-use Rattle.rings.proofs.Rows.{count-rows, held_small}
+use Rattle.rings.proofs.Rows.{count-rows}
 use Rattle.fit.proofs.Fits.{fit-says, total-is, all-counted}
 use Rattle.model.proofs.Outcomes.{not-both, require-passed, then_accepted}
 use Rattle.sheet.specs.contracts.StageOrd.TheImpl.{cmp-value}
@@ -156,15 +155,6 @@ module _ (s : Sheet) where
   pub rings-held : (r : rings.Rings) → r.starts.now ≡ starts_of s.sizes → r.sizes.now ≡ s.sizes → r.entries.now ≡ s.entries → r.n ≡ s.n → flat.plan_of r ≡ held_plan s
   unfolding held_plan table
   rings-held r a b c d = λ i. rows (a i) (b i) (c i) (d i)
-
-  -- the label rules on the arrays of a table that is the plan's are those on the plan
-  pub rules_held : (t : tables.Table) (ls : List ℕ) → t.sizes.now ≡ s.sizes → t.entries.now ≡ s.entries → t.n ≡ s.n → fits s ≡ true
-      → rule 10 (min t.n 200) (breaks (flat.held t.sizes.now t.entries.now t.n) ls) ≡ label_rules (held_plan s) ls
-  unfolding held_plan label_rules
-  rules_held t ls a b e f =
-      let h = few f in
-      let m : min t.n 200 ≡ count (held_plan s) = omega (arith, count_held) in
-      (λ i. rule 10 (m i) (breaks (flat.held (a i) (b i) (e i)) ls)) ∙ ap (λ (p : Plan). rule 10 (count (held_plan s)) (breaks p ls)) (held_small s.sizes s.entries s.n h)
 
   -- how many entries the code counts
   pub total-held : {n k : ℕ} → fits s ≡ true → n ≡ s.n → k ≡ start_of s.sizes (min n 200) → k ≡ start_of s.sizes s.n
