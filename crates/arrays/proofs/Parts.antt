@@ -10,10 +10,10 @@ use borrow.Author.Tests.{leb-true, leb-false, le-leb, lt-leb}
 use Rattle.std.specs.List.{slice_range}
 use Rattle.std.proofs.lemmas.List.{take_rest}
 use Rattle.lists.specs.Ranges.{from}
-use Rattle.lists.specs.Spans.{padded}
+use Rattle.lists.specs.Spans.{zero_padded}
 use Rattle.lists.proofs.Spans.{past_word}
 use Rattle.lists.proofs.Loops.{Fills}
-use Rattle.arrays.specs.Parts.{part_at, word_of, words_every}
+use Rattle.arrays.specs.ArrayParts.{part_at, word_of, words_every}
 
 pub part_fits : (s : List ℕ) (at k : ℕ) → at + k ≤ length s → take k (drop at s) ≡ part_at s at k
 unfolding part_at
@@ -40,9 +40,9 @@ part_whole s at k h = go (leb (at + k) (length s)) refl
     go false q = none (let l = leb-false (at + k) (length s) q in omega (arith, length-take k (drop at s), length-drop at s))
 
 -- an array of zeros into which the numbers were put one by one
-pub words_filled : (a : List ℕ) (at step : ℕ) {m k i : ℕ} {b : List ℕ} → Fills m (λ (t : ℕ). word_of a (at + step * t)) i b → i ≡ k → b ≡ padded m (words_every a at step k)
+pub words_filled : (a : List ℕ) (at step : ℕ) {m k i : ℕ} {b : List ℕ} → Fills m (λ (t : ℕ). word_of a (at + step * t)) i b → i ≡ k → b ≡ zero_padded m (words_every a at step k)
 unfolding words_every
-words_filled a at step {m} f e = f.same ∙ ap (λ (j : ℕ). padded m (map (λ (t : ℕ). word_of a (at + step * t)) (from 0 j))) e
+words_filled a at step {m} f e = f.same ∙ ap (λ (j : ℕ). zero_padded m (map (λ (t : ℕ). word_of a (at + step * t)) (from 0 j))) e
 
 -- the number at an offset that stops at the last address is the number at the offset: what lies past the array reads as 0 both ways
 pub word_stopped : (a : List ℕ) (at t : ℕ) {w m i : ℕ} → length a < 2 ^ 64 → m ≡ min t (2 ^ 64 - 1) → i ≡ min (at + m) (2 ^ 64 - 1) → w ≡ word_of a i → w ≡ word_of a (at + t)

@@ -3,8 +3,8 @@
 
 ghost use Rattle.std.specs.Prelude.{◌≡◌, ℕ, ◌+◌, ◌*◌, ◌<◌, ◌^◌, min, get_or, set, refl};
 ghost use Rattle.std.proofs.Common.{rules};
-ghost use Rattle.lists.specs.Spans.{padded};
-ghost use Rattle.arrays.specs.Parts.{part_at, words_every};
+ghost use Rattle.lists.specs.Spans.{zero_padded};
+ghost use Rattle.arrays.specs.ArrayParts.{part_at, words_every};
 
 // What an array holds as a number: a byte, or a number of two bytes.
 pub trait Number: Copy {
@@ -72,7 +72,7 @@ pub fn at<T: Number>(a: &[T], i: usize) -> T
 }
 
 // The number at i.
-pub fn num<T: Number>(a: &[T], i: usize) -> usize
+pub fn number_at<T: Number>(a: &[T], i: usize) -> usize
     ensures value { result ≡ T.value (get_or a.now i T.nothing) }
     ensures upper_bound { result < T.bound }
 {
@@ -92,7 +92,7 @@ pub fn word_at(a: &[u8], i: usize) -> u16
 
 // The first k numbers of two bytes from an index on, one every so many bytes, and zeros behind them; of more than there is room for, the first N.
 pub fn words<const N: usize>(a: &[u8], from: usize, step: usize, k: usize) -> [u16; N]
-    ensures { result ≡ padded N (words_every a.now from step (min k N)) }
+    ensures { result ≡ zero_padded N (words_every a.now from step (min k N)) }
 {
     let mut numbers = [0u16; N];
     for i in 0..k.min(N) {

@@ -14,16 +14,16 @@
 // made by tools/checklist_plans.py.
 #![tactic(auto)]
 
-use audit::{Filed, Tally};
+use checklist_lines::{Compared, DrawnSheet, Opened, Turn, Turned};
+use checklist_rules::{Filed, Tally};
 use sheet::Sheet;
-use verdicts::{Compared, Drawn, Opened, Turn, Turned};
 
 // The first turn of one edge that is accepted, if there is one, and the sheet that it leaves.
 fn first_turn(sheet: &Sheet) -> Option<(Turn, Sheet)> {
     for u in 0..200u16 {
         for v in 0..256u16 {
             for direction in 0..2u8 {
-                if let Ok(left) = calls::turn(*sheet, &[u, v], direction) {
+                if let Ok(left) = sheet_updates::turn(*sheet, &[u, v], direction) {
                     return Some((Turn { u, v, direction }, left));
                 }
             }
@@ -34,18 +34,18 @@ fn first_turn(sheet: &Sheet) -> Option<(Turn, Sheet)> {
 
 // The sheet that chart leaves.
 fn charted(sheet: &Sheet) -> Sheet {
-    calls::chart(*sheet).unwrap_or(*sheet)
+    sheet_updates::chart(*sheet).unwrap_or(*sheet)
 }
 
 // The labels of a sheet offered to another one, and charted.
 fn drawn_anew(opened: &Sheet, sheet: &Sheet) -> Sheet {
-    let offered = calls::offer(*opened, sheet::labels_of(sheet));
+    let offered = sheet_updates::offer(*opened, sheet::labels_of(sheet));
     charted(&offered.unwrap_or(*opened))
 }
 
 // A sheet written into a buffer.
 fn filed<'a>(sheet: &Sheet, buffer: &'a mut [u8]) -> Filed<'a> {
-    let answer = reports::write(sheet, buffer);
+    let answer = sheet_queries::write(sheet, buffer);
     Filed { buffer, answer }
 }
 
@@ -53,7 +53,7 @@ fn filed<'a>(sheet: &Sheet, buffer: &'a mut [u8]) -> Filed<'a> {
 fn check_written(tally: Tally, a: &Sheet, b: &Sheet) -> Tally {
     let mut one = io::large_buffer();
     let mut other = io::large_buffer();
-    verdicts::tell_files(tally, &filed(a, &mut one), &filed(b, &mut other))
+    checklist_lines::tell_files(tally, &filed(a, &mut one), &filed(b, &mut other))
 }
 
 // The checks of a turn of a chart, and of the sheet that it leaves.
@@ -71,35 +71,35 @@ fn check_turn<'a>(
         old: sheet,
         left: Compared {
             sheet: left,
-            same: reports::same(left, left),
+            same: sheet_queries::same(left, left),
         },
         new: Compared {
             sheet: &new,
-            same: reports::same(&new, &anew),
+            same: sheet_queries::same(&new, &anew),
         },
     };
-    check_written(verdicts::tell_turn(tally, Some(turned)), &new, &anew)
+    check_written(checklist_lines::tell_turn(tally, Some(turned)), &new, &anew)
 }
 
 // The checks of the turn of a chart's first edge that turns alone.
 fn check_turns(tally: Tally, opened: &Sheet, sheet: &Sheet) -> Tally {
     match first_turn(sheet) {
         Some((turn, left)) => check_turn(tally, opened, sheet, turn, &left),
-        None => verdicts::tell_turn(tally, None),
+        None => checklist_lines::tell_turn(tally, None),
     }
 }
 
 // The checks of sweep and chart, and of a turn where there is a chart.
 fn check_chart(tally: Tally, sheet: &Sheet) -> Tally {
-    let swept = calls::sweep(*sheet);
+    let swept = sheet_updates::sweep(*sheet);
     let before = swept.unwrap_or(*sheet);
-    let charted = calls::chart(before);
-    let drawn = Drawn {
+    let charted = sheet_updates::chart(before);
+    let drawn = DrawnSheet {
         swept: &swept,
         before: &before,
         charted: &charted,
     };
-    let after = verdicts::tell_chart(tally, &drawn);
+    let after = checklist_lines::tell_chart(tally, &drawn);
     match charted {
         Ok(chart) => check_turns(after, sheet, &chart),
         Err(_) => after,
@@ -108,15 +108,15 @@ fn check_chart(tally: Tally, sheet: &Sheet) -> Tally {
 
 // The checks of a file, where it is accepted.
 fn check_file(tally: Tally, number: usize, file: &[u8]) -> Tally {
-    let answer = opening::open_file(file);
+    let answer = sheet_open::open_file(file);
     let sheet = answer.unwrap_or(sheet::fresh_sheet());
     let opened = Opened {
         number,
         answer: &answer,
-        same: reports::same(&sheet, &sheet),
-        scan: reports::scan(&sheet),
+        same: sheet_queries::same(&sheet, &sheet),
+        scan: sheet_queries::scan(&sheet),
     };
-    let after = verdicts::tell_file(tally, &opened);
+    let after = checklist_lines::tell_file(tally, &opened);
     if answer.is_ok() {
         check_chart(after, &sheet)
     } else {

@@ -4,12 +4,12 @@ use Rattle.lists.specs.Folds.{through}
 use Rattle.lists.specs.Ranges.{lowest}
 
 -- the checksum of some bytes and one more
-unfoldable pub stir : ℕ → ℕ → ℕ
-stir sum byte = (sum * 1000003 + byte + 1) % 4294967291
+unfoldable pub checksum_step : ℕ → ℕ → ℕ
+checksum_step sum byte = (sum * 1000003 + byte + 1) % 4294967291
 
 -- the checksum of bytes
 unfoldable pub checksum : List ℕ → ℕ
-checksum bytes = through (λ i sum. stir sum (get_or bytes i 0)) 0 (length bytes) 0
+checksum bytes = through (λ i sum. checksum_step sum (get_or bytes i 0)) 0 (length bytes) 0
 
 -- how many of the first k bytes are the same in both, up to the first that differs
 unfoldable pub agreeing : List ℕ → List ℕ → ℕ → ℕ

@@ -2,12 +2,12 @@
 #![tactic(auto)]
 
 ghost use Rattle.std.specs.Prelude.{◌≡◌, ◌<◌, ◌^◌};
-ghost use Rattle.comparison.specs.Bytes.{stir, checksum, agreeing};
+ghost use Rattle.comparison.specs.Bytes.{checksum_step, checksum, agreeing};
 
 // The checksum of some bytes and one more.
-#[tactic(auto, unfolding(crate::specs::Bytes::stir))]
-fn stir(sum: u32, byte: u8) -> u32
-    ensures { result ≡ stir sum byte }
+#[tactic(auto, unfolding(crate::specs::Bytes::checksum_step))]
+fn checksum_step(sum: u32, byte: u8) -> u32
+    ensures { result ≡ checksum_step sum byte }
 {
     ((u64::from(sum) * 1000003 + u64::from(byte) + 1) % 4294967291) as u32
 }
@@ -18,7 +18,7 @@ pub fn checksum(bytes: &[u8]) -> usize
     ensures value { result ≡ checksum bytes.now }
     ensures upper_bound { result < 2 ^ 32 }
 {
-    bytes.iter().fold(0, |sum, byte| stir(sum, *byte)) as usize
+    bytes.iter().fold(0, |sum, byte| checksum_step(sum, *byte)) as usize
 }
 
 // How many of the first k bytes are the same in both, up to the first that differs.

@@ -3,7 +3,7 @@
 
 ghost use Rattle.std.specs.Prelude.{◌≡◌, ◌+◌, ◌≤◌, ◌<◌, ◌%◌, ◌^◌, [], drop, length, IfSome, IfNone};
 ghost use Rattle.std.specs.Fmt.{with_newline};
-ghost use Rattle.arrays.specs.Parts.{part_at};
+ghost use Rattle.arrays.specs.ArrayParts.{part_at};
 ghost use Rattle.console.specs.Reading.{size_at};
 ghost use Rattle.console.specs.Writing.{Counts};
 

@@ -8,9 +8,10 @@ use native.Mathlib.Omega.{arith}
 use lib.ListN.{length, get_or}
 use lib.Dec.{eqb}
 use borrow.Author.Tests.{lt-ltb, le-ltb, eqb-true, eq-eqb, ne_eqb}
-use Rattle.lists.specs.Tests.{any, member}
+use Rattle.std.specs.List.{list_any}
+use Rattle.lists.specs.Tests.{member}
 use Rattle.lists.specs.Spans.{span}
-use Rattle.lists.proofs.Tests.{any-map}
+use Rattle.lists.proofs.Tests.{list_any-map}
 use Rattle.lists.proofs.Spans.{get_or-inside}
 use Rattle.lists.proofs.Stretches.{span_whole}
 use Rattle.rings.specs.Tables.{size_of, rows}
@@ -111,9 +112,9 @@ module _ (p : Plan) (u k : ℕ) (side : u < 4) (long : k ≡ length (ring p u)) 
   nothing [] e = refl
   nothing (a ∷ l) e = absurd (omega arith)
 
-  pub border-empty : k ≡ 0 → true ≡ bad_border p u
+  pub border-is_empty : k ≡ 0 → true ≡ bad_border p u
   unfolding bad_border
-  border-empty e = bad_first first_ok last_ok meets_across (ne_eqb (get_or r 0 u) ((u + 1) % 4) (λ q. not_itself u side (sym (nothing r (sym long ∙ e)) ∙ q)))
+  border-is_empty e = bad_first first_ok last_ok meets_across (ne_eqb (get_or r 0 u) ((u + 1) % 4) (λ q. not_itself u side (sym (nothing r (sym long ∙ e)) ∙ q)))
 
   module _ (some : 0 < k) (a : ℕ) (first : a ≡ get_or (ring p u) 0 0) where
     first-is : a ≡ get_or r 0 u
@@ -142,6 +143,6 @@ module _ (p : Plan) (u k : ℕ) (side : u < 4) (long : k ≡ length (ring p u)) 
 abbrev pub bad_dart : Plan → ℕ → ℕ → Bool
 bad_dart p u v = not (outer (u, v) || closes p (u, v))
 
-pub face_darts : (p : Plan) (u k : ℕ) → k ≡ length (ring p u) → any (bad_dart p u) (span (ring p u) 0 k) ≡ bad_face p u
+pub face_darts : (p : Plan) (u k : ℕ) → k ≡ length (ring p u) → list_any (bad_dart p u) (span (ring p u) 0 k) ≡ bad_face p u
 unfolding bad_face darts_from
-face_darts p u k e = ap (any (bad_dart p u)) (span_whole (ring p u) k e) ∙ any-map (λ (d : Dart). not (outer d || closes p d)) (λ (v : ℕ). (u, v)) (ring p u)
+face_darts p u k e = ap (list_any (bad_dart p u)) (span_whole (ring p u) k e) ∙ list_any-map (λ (d : Dart). not (outer d || closes p d)) (λ (v : ℕ). (u, v)) (ring p u)

@@ -5,7 +5,7 @@ ghost use Rattle.std.specs.Prelude.{◌≡◌, not, ◌||◌, ◌<◌};
 ghost use Rattle.model.specs.Outcome.{rule};
 ghost use Rattle.model.specs.Plan.{Plan, step, outer, closes, bad_border, bad_face};
 ghost use Rattle.model.specs.Scan.{inner_face};
-ghost use Rattle.refusal.specs.Refusals.{told};
+ghost use Rattle.refusal.specs.Refusals.{outcome_of};
 ghost use Rattle.rings.specs.Tables.{plan_of};
 
 use refusal::Refusal;
@@ -36,7 +36,7 @@ impl FaceSteps for Rings<'_> {
 
     #[tactic(auto, unfolding(model::specs::Plan::step))]
     fn third_of(&self, u: usize, v: usize) -> usize {
-        search::next_of(self, v, u)
+        ring_search::next_of(self, v, u)
     }
 }
 
@@ -66,12 +66,12 @@ fn bad_border(rings: &Rings, u: usize) -> bool
     if rings.neighbour_at(u, k - 1) != (u + 3) % 4 {
         return true;
     }
-    search::is_adjacent(rings, u, (u + 2) % 4)
+    ring_search::is_adjacent(rings, u, (u + 2) % 4)
 }
 
 // 8: each border context's ring is as the border asks; refused at the lowest whose ring is not.
 pub fn rule8(rings: &Rings) -> Result<(), Refusal>
-    ensures { told result ≡ rule 8 4 (bad_border (plan_of rings.now)) }
+    ensures { outcome_of result ≡ rule 8 4 (bad_border (plan_of rings.now)) }
 {
     match (0..4).find(|u| bad_border(rings, *u)) {
         Some(u) => Err(Refusal::BadBorder(u)),
@@ -96,7 +96,7 @@ fn bad_face(rings: &Rings, u: usize) -> bool
 
 // 9: each dart lies on a face; refused at the lowest context that another dart leaves.
 pub fn rule9(rings: &Rings) -> Result<(), Refusal>
-    ensures { told result ≡ rule 9 rings.now.n (bad_face (plan_of rings.now)) }
+    ensures { outcome_of result ≡ rule 9 rings.now.n (bad_face (plan_of rings.now)) }
 {
     refusal::none_of(rings.n, |u| bad_face(rings, u), Refusal::BadFace)
 }

@@ -9,17 +9,17 @@ use native.Mathlib.Nat.{mul-pos}
 use borrow.Author.Tests.{lt-ltb, le-ltb, le-leb, lt-leb}
 use Rattle.lists.proofs.Sums.{total}
 use Rattle.lists.proofs.Ranges.{lt-or-le}
-use Rattle.geometry.specs.Points.{Position, area_plus, area_minus, Left, left, OnSegment, crossing, inside, InBox, scaled}
+use Rattle.geometry.specs.Points.{Position, area_plus, area_minus, Left, strictly_left, OnSegment, crossing, inside, InBox, scaled}
 use Rattle.geometry.proofs.Products.{weak, poly, product_le, product_lt}
 use Rattle.geometry.proofs.Walks.{along, against}
 
 -- ---- the tests
-left-yes : (a b c : Position) → Left a b c → left a b c ≡ true
-unfolding left
+left-yes : (a b c : Position) → Left a b c → strictly_left a b c ≡ true
+unfolding strictly_left
 left-yes a b c h = lt-ltb (area_minus a b c) (area_plus a b c) h
 
-left-no : (a b c : Position) → area_plus a b c ≤ area_minus a b c → left a b c ≡ false
-unfolding left
+left-no : (a b c : Position) → area_plus a b c ≤ area_minus a b c → strictly_left a b c ≡ false
+unfolding strictly_left
 left-no a b c h = le-ltb (area_minus a b c) (area_plus a b c) h
 
 crossing-yes : (p a b : Position) → a.y ≤ p.y → p.y < b.y → Left a b p → crossing p a b ≡ 1
@@ -27,7 +27,7 @@ unfolding crossing
 crossing-yes p a b h k l = rw (le-leb a.y p.y h, lt-ltb p.y b.y k, left-yes a b p l)
 
 crossing-no : (p a b : Position) → (a.y ≤ p.y → p.y < b.y → Left a b p → ⊥) → crossing p a b ≡ 0
-unfolding crossing left
+unfolding crossing strictly_left
 crossing-no p a b no_way = go (lt-or-le p.y a.y) (lt-or-le p.y b.y) (lt-or-le (area_minus a b p) (area_plus a b p))
   where
     go : (p.y < a.y) ⊎ (a.y ≤ p.y) → (p.y < b.y) ⊎ (b.y ≤ p.y) → Left a b p ⊎ (area_plus a b p ≤ area_minus a b p) → crossing p a b ≡ 0
@@ -56,7 +56,7 @@ held-no p a b c out = go (lt-or-le (area_minus a b p) (area_plus a b p)) (lt-or-
 
 held-turned : (p a b c : Position) → held p a b c ≡ held p b c a
 unfolding inside
-held-turned p a b c = go (left a b p) (left b c p) (left c a p)
+held-turned p a b c = go (strictly_left a b p) (strictly_left b c p) (strictly_left c a p)
   where
     go : (r s t : Bool) → ◌≡◌ {A = ℕ} (cond (r && (s && (t && true))) 1 0) (cond (s && (t && (r && true))) 1 0)
     go true true true = refl

@@ -4,7 +4,7 @@ use Prim.Native.Nat.{ℕ, ◌+◌}
 use mathlib.Core.Path.{◌≡◌, refl, sym, ap, ◌∙◌, subst}
 use mathlib.Core.List.Memᴰ
 use mathlib.Core.List.{List, ◌++◌, map, Memᴰ}
-use Rattle.lists.specs.Parts.{concat, cycle}
+use Rattle.lists.specs.Parts.{flatten, cycle}
 use Rattle.lists.proofs.Once.{once-map}
 use Rattle.lists.proofs.Sums.{total, total-append, total-map, total_join, SameEntries, total-same}
 
@@ -25,13 +25,13 @@ module _ {A : Type 0} where
   -- A map: with each dart its reverse, and each dart on exactly one walk, an inner or the outer one
   pub record ClosedMap (darts : List (A × A)) (inner : List (List A)) (outer : List A) : Type 0 where
     pub reverses : (d : A × A) → Memᴰ d darts → Memᴰ (reverse d) darts
-    pub covered : SameEntries darts (concat (map cycle inner) ++ cycle outer)
+    pub covered : SameEntries darts (flatten (map cycle inner) ++ cycle outer)
 
   module _ (darts : List (A × A)) (inner : List (List A)) (outer : List A) (m : ClosedMap darts inner outer) where
     by_walks : (f : A → A → ℕ) → total (on f) darts ≡ total (along f) inner + along f outer
     by_walks f =
-        total-same (on f) darts (concat (map cycle inner) ++ cycle outer) m.covered
-        ∙ total-append (on f) (concat (map cycle inner)) (cycle outer)
+        total-same (on f) darts (flatten (map cycle inner) ++ cycle outer) m.covered
+        ∙ total-append (on f) (flatten (map cycle inner)) (cycle outer)
         ∙ ap (◌+ along f outer) (total_join (on f) cycle inner)
 
     reversed : SameEntries (map reverse darts) darts

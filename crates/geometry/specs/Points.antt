@@ -1,7 +1,7 @@
 -- Points of the grid, the sides of a dart, and crossings. Nothing is negative: a signed number is a pair of sums, of which one is taken from the other.
 -- Standard terms: a crossing counts a dart that the ray from a point to the right meets; the crossings of a closed walk are its winding number about the point.
 use Rattle.std.specs.Prelude.{ℕ, ◌+◌, ◌*◌, ◌≤◌, ◌<◌, min, max, ◌≡◌, List, Bool, cond, ◌&&◌, ltb, leb}
-use Rattle.lists.specs.Tests.{all}
+use Rattle.std.specs.List.{list_all}
 use Rattle.lists.specs.Parts.{cycle}
 
 pub record Position : Type 0 where
@@ -19,8 +19,8 @@ area_minus a b c = a.y * b.x + b.y * c.x + c.y * a.x
 abbrev pub Left : Position → Position → Position → Type 0
 Left a b c = area_minus a b c < area_plus a b c
 
-unfoldable pub left : Position → Position → Position → Bool
-left a b c = ltb (area_minus a b c) (area_plus a b c)
+unfoldable pub strictly_left : Position → Position → Position → Bool
+strictly_left a b c = ltb (area_minus a b c) (area_plus a b c)
 
 -- c is on the line between a and b, ends included
 pub record OnSegment (a b c : Position) : Type 0 where
@@ -32,11 +32,11 @@ pub record OnSegment (a b c : Position) : Type 0 where
 
 -- 1 if the dart from a to b crosses c's height upwards with c strictly on its left, else 0
 unfoldable pub crossing : Position → Position → Position → ℕ
-crossing c a b = cond (leb a.y c.y && ltb c.y b.y && left a b c) 1 0
+crossing c a b = cond (leb a.y c.y && ltb c.y b.y && strictly_left a b c) 1 0
 
 -- c is strictly left of each dart of a closed walk
 unfoldable pub inside : Position → List Position → Bool
-inside c walk = all (λ (d : Position × Position). left d.0 d.1 c) (cycle walk)
+inside c walk = list_all (λ (d : Position × Position). strictly_left d.0 d.1 c) (cycle walk)
 
 -- s, e, n, w are the corners of an upright rectangle, and c is strictly inside it
 pub record InBox (c s e n w : Position) : Type 0 where

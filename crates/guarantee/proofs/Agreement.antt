@@ -8,7 +8,7 @@ use Rattle.model.specs.Chart.{Chart, chart}
 use Rattle.model.specs.Sweep.{sweep}
 use Rattle.model.specs.Turn.{turn}
 use Rattle.model.specs.File.{Sheet, fresh, opened, labelled, charted}
-use Rattle.model.specs.Calls.{plan_of, labels_of, offered, offer_call, sweep_call, turn_call, chart_call}
+use Rattle.model.specs.Calls.{require_plan, require_labels, offered, offer_call, sweep_call, turn_call, chart_call}
 use Rattle.model.specs.CallLists.{Call, open_file, offer_labels, sweep-labels, turn_edges, draw_chart, call, run, Ledger, both, ledger_plan, ledger_labels, plan_and_labels, enter, ledger}
 use Rattle.sheet.specs.Answers.{answer_of}
 use Rattle.guarantee.specs.Verdicts.{judgements}
@@ -18,15 +18,15 @@ abbrev pub entered : Outcome Sheet → Outcome Ledger
 entered o = mapped plan_and_labels o
 
 -- both stand at the same stage, as far as plan and labels go
-plan-same : (s : Sheet) → ledger_plan (plan_and_labels s) ≡ plan_of s
-unfolding ledger_plan plan_and_labels plan_of
+plan-same : (s : Sheet) → ledger_plan (plan_and_labels s) ≡ require_plan s
+unfolding ledger_plan plan_and_labels require_plan
 plan-same fresh = refl
 plan-same (opened p) = refl
 plan-same (labelled p ls) = refl
 plan-same (charted p ls c) = refl
 
-labels-same : (s : Sheet) → ledger_labels (plan_and_labels s) ≡ labels_of s
-unfolding ledger_labels plan_and_labels labels_of
+labels-same : (s : Sheet) → ledger_labels (plan_and_labels s) ≡ require_labels s
+unfolding ledger_labels plan_and_labels require_labels
 labels-same fresh = refl
 labels-same (opened p) = refl
 labels-same (labelled p ls) = refl
@@ -50,7 +50,7 @@ charts p ls (accepted c) = refl
 charts p ls (refused k at) = refl
 
 recharted : (s : Sheet) → enter (plan_and_labels s) draw_chart ≡ entered (call s draw_chart)
-unfolding enter call chart_call ledger_labels labels_of plan_and_labels
+unfolding enter call chart_call ledger_labels require_labels plan_and_labels
 recharted fresh = refl
 recharted (opened p) = refl
 recharted (labelled p ls) = charts p ls (chart p ls)
@@ -60,11 +60,11 @@ recharted (charted p ls c) = charts p ls (chart p ls)
 pub agrees : (s : Sheet) (c : Call) → enter (plan_and_labels s) c ≡ entered (call s c)
 unfolding enter call offer_call sweep_call turn_call
 agrees s (open_file b) = refl
-agrees s (offer_labels ls) = ap (λ (o : Outcome Plan). o >>= λ p. offered p ls >>= λ ms. accepted (both p ms)) (plan-same s) ∙ relabelled (plan_of s) (λ p. p) (λ p. offered p ls)
-agrees s sweep-labels = ap (λ (o : Outcome Plan). o >>= λ p. sweep p >>= λ ms. accepted (both p ms)) (plan-same s) ∙ relabelled (plan_of s) (λ p. p) sweep
+agrees s (offer_labels ls) = ap (λ (o : Outcome Plan). o >>= λ p. offered p ls >>= λ ms. accepted (both p ms)) (plan-same s) ∙ relabelled (require_plan s) (λ p. p) (λ p. offered p ls)
+agrees s sweep-labels = ap (λ (o : Outcome Plan). o >>= λ p. sweep p >>= λ ms. accepted (both p ms)) (plan-same s) ∙ relabelled (require_plan s) (λ p. p) sweep
 agrees s (turn_edges items d) =
     ap (λ (o : Outcome (Plan × List ℕ)). o >>= λ a. turn a.0 a.1 items d >>= λ ms. accepted (both a.0 ms)) (labels-same s)
-    ∙ relabelled (labels_of s) (λ a. a.0) (λ a. turn a.0 a.1 items d)
+    ∙ relabelled (require_labels s) (λ a. a.0) (λ a. turn a.0 a.1 items d)
 agrees s draw_chart = recharted s
 
 taken-same : (s : Sheet) (o : Outcome Sheet) → plan_and_labels (taken s o) ≡ taken (plan_and_labels s) (entered o)

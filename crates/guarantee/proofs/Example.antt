@@ -19,12 +19,12 @@ use Rattle.model.specs.CallLists.{Call, open_file, sweep-labels, turn_edges, dra
 use Rattle.model.specs.Trenches.{B}
 use Rattle.sheet.specs.Sheets.{reads}
 use Rattle.sheet.specs.Answers.{answer_of}
-use Rattle.guarantee.specs.Engine.{start, left, told}
+use Rattle.guarantee.specs.Engine.{fresh_sheet, sheet_after, answers_of}
 use Rattle.guarantee.specs.Verdicts.{newer, last_accepted, draws}
 use Rattle.guarantee.specs.Guarantee.{Owed}
 use Rattle.guarantee.proofs.Agreement.{answers}
 use Rattle.guarantee.proofs.Sized.{fresh_good}
-use Rattle.guarantee.proofs.Struct.{told_same, left-reads}
+use Rattle.guarantee.proofs.Struct.{answers_of_same, sheet_after-reads}
 use Rattle.guarantee.proofs.Guarantee.{guarantee}
 
 pub draw_b : List Call
@@ -34,13 +34,13 @@ pub chart_b : Chart
 chart_b = record { w = 2; h = 3; xs = 2 ∷ 2 ∷ 0 ∷ 0 ∷ 1 ∷ 1 ∷ []; ys = 3 ∷ 0 ∷ 0 ∷ 3 ∷ 1 ∷ 2 ∷ [] }
 
 -- the turn of 4,5 is 10 at 4, so the chart stays
-pub answered : told start draw_b ≡ passed ∷ passed ∷ passed ∷ refused 10 4 ∷ []
+pub answered : answers_of fresh_sheet draw_b ≡ passed ∷ passed ∷ passed ∷ refused 10 4 ∷ []
 unfolding draw_b answers answer_of taken first_from plan_computes labels_computes sweep_computes chart_computes turn_computes file_computes calls_computes call_lists_computes
-answered = told_same draw_b fresh fresh_good
+answered = answers_of_same draw_b fresh fresh_good
 
-pub stands : standing (reads (left start draw_b)) ≡ Some chart_b
+pub stands : standing (reads (sheet_after fresh_sheet draw_b)) ≡ Some chart_b
 unfolding draw_b chart_b taken first_from plan_computes labels_computes sweep_computes chart_computes turn_computes file_computes calls_computes call_lists_computes
-stands = ap standing (left-reads draw_b)
+stands = ap standing (sheet_after-reads draw_b)
 
 -- so all that is owed of a chart holds of it
 pub owed : (p : Plan) × (ls : List ℕ) × (ledger neither draw_b ≡ both p ls) × Owed p ls chart_b

@@ -20,7 +20,7 @@ use Rattle.plan_theory.proofs.Drawing.{placement_draws}
 use Rattle.guarantee.proofs.Agreement.{ledger_follows, same-answers}
 use Rattle.guarantee.proofs.Kept.{Kept, run-kept, stands_after}
 use Rattle.guarantee.proofs.Sized.{fresh_good}
-use Rattle.guarantee.proofs.Struct.{left-reads, left-packed, told_same}
+use Rattle.guarantee.proofs.Struct.{sheet_after-reads, sheet_after-packed, answers_of_same}
 
 -- what is owed of a chart that was drawn for a plan and labels that keep the rules
 owed : (p : Plan) (ls : List ℕ) (c : Chart) → plan_rules p ≡ passed → label_rules p ls ≡ passed → chart p ls ≡ accepted c → Owed p ls c
@@ -41,11 +41,11 @@ stored (charted p ls d) h g e c q = (p, ls, sym e, subst (Owed p ls) (same_Some 
 pub guarantee : (calls : List Call) → Guarantee calls
 unfolding plan_and_labels standing draws
 guarantee calls =
-    let same = left-reads calls in
+    let same = sheet_after-reads calls in
     record {
-      same_verdicts = told_same calls fresh fresh_good ∙ same-answers calls fresh;
+      same_verdicts = answers_of_same calls fresh fresh_good ∙ same-answers calls fresh;
       same_ledger = ap plan_and_labels same ∙ ledger_follows calls fresh;
       stands_exactly = ap (λ (s : Sheet). is_some (standing s)) same ∙ stands_after calls fresh None tt refl;
       such_chart = λ c e. stored (run fresh calls) (run-kept calls fresh tt) (ledger neither calls) (ledger_follows calls fresh) c (ap standing (sym same) ∙ e);
-      nothing_else = left-packed calls fresh fresh_good ∙ ap packed (sym same);
+      nothing_else = sheet_after-packed calls fresh fresh_good ∙ ap packed (sym same);
     }

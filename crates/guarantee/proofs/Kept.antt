@@ -12,13 +12,13 @@ use Rattle.lists.specs.Parts.{pairs}
 use Rattle.lists.proofs.Bools.{and_yes, yes_and}
 use Rattle.lists.proofs.Tests.{same-eq, same_refl}
 use Rattle.model.specs.Outcome.{Outcome, accepted, refused, passed, ◌>>=◌, ◌>>◌, require, taken}
-use Rattle.model.specs.Plan.{Plan, count, dart_count, plan_rules}
+use Rattle.model.specs.Plan.{Plan, context_count, dart_count, plan_rules}
 use Rattle.model.specs.Labels.{label_rules}
 use Rattle.model.specs.Chart.{Chart, chart, same_chart}
 use Rattle.model.specs.Sweep.{sweep, sweep_from, first_state}
 use Rattle.model.specs.Turn.{turn, turned_edges, quarters}
 use Rattle.model.specs.File.{Sheet, fresh, opened, labelled, charted}
-use Rattle.model.specs.Calls.{plan_of, labels_of, judge, offered, offer_call, sweep_call, turn_call, chart_call}
+use Rattle.model.specs.Calls.{require_plan, require_labels, judge, offered, offer_call, sweep_call, turn_call, chart_call}
 use Rattle.model.specs.CallLists.{Call, open_file, offer_labels, sweep-labels, turn_edges, draw_chart, call, run, Ledger, plan_and_labels, enter, standing}
 use Rattle.model.proofs.Outcomes.{same-value, not-both, bind_at, bind_accepted, then_accepted, passed_then, require-passed}
 use Rattle.model.proofs.RingPart.{open_accepted}
@@ -34,8 +34,8 @@ Kept (opened p) = plan_rules p ≡ passed
 Kept (labelled p ls) = (plan_rules p ≡ passed) × (label_rules p ls ≡ passed)
 Kept (charted p ls c) = (plan_rules p ≡ passed) × (label_rules p ls ≡ passed) × (chart p ls ≡ accepted c)
 
-pub plan-kept : (s : Sheet) → Kept s → (p : Plan) → plan_of s ≡ accepted p → plan_rules p ≡ passed
-unfolding plan_of
+pub plan-kept : (s : Sheet) → Kept s → (p : Plan) → require_plan s ≡ accepted p → plan_rules p ≡ passed
+unfolding require_plan
 plan-kept fresh h p e = not-both e
 plan-kept (opened q) h p e = subst (λ (r : Plan). plan_rules r ≡ passed) (same-value e) h
 plan-kept (labelled q ls) h p e = subst (λ (r : Plan). plan_rules r ≡ passed) (same-value e) h.0
@@ -44,8 +44,8 @@ plan-kept (charted q ls c) h p e = subst (λ (r : Plan). plan_rules r ≡ passed
 abbrev BothKept : Plan × List ℕ → Type 0
 BothKept a = (plan_rules a.0 ≡ passed) × (label_rules a.0 a.1 ≡ passed)
 
-pub labels-kept : (s : Sheet) → Kept s → (a : Plan × List ℕ) → labels_of s ≡ accepted a → BothKept a
-unfolding labels_of
+pub labels-kept : (s : Sheet) → Kept s → (a : Plan × List ℕ) → require_labels s ≡ accepted a → BothKept a
+unfolding require_labels
 labels-kept fresh h a e = not-both e
 labels-kept (opened p) h a e = not-both e
 labels-kept (labelled p ls) h a e = subst BothKept (same-value e) h
@@ -57,11 +57,11 @@ tested p ls ms e = let (g, q) = then_accepted (label_rules p ls) (accepted ls) m
 
 offered-kept : (p : Plan) (ls ms : List ℕ) → offered p ls ≡ accepted ms → label_rules p ms ≡ passed
 unfolding offered
-offered-kept p ls ms e = tested p ls ms (then_accepted (require (eqb (length ls) (dart_count (count p))) 2 0) _ ms e).1
+offered-kept p ls ms e = tested p ls ms (then_accepted (require (eqb (length ls) (dart_count (context_count p))) 2 0) _ ms e).1
 
 swept_kept : (p : Plan) (ms : List ℕ) → sweep p ≡ accepted ms → label_rules p ms ≡ passed
 unfolding sweep
-swept_kept p ms e = let (ls, _, r) = bind_accepted (sweep_from p (count p) (first_state p)) _ ms e in tested p ls ms r
+swept_kept p ms e = let (ls, _, r) = bind_accepted (sweep_from p (context_count p) (first_state p)) _ ms e in tested p ls ms r
 
 turned-kept : (p : Plan) (ls items : List ℕ) (d : ℕ) (ms : List ℕ) → turn p ls items d ≡ accepted ms → label_rules p ms ≡ passed
 turned-kept p ls items d ms e = tested p (turned_edges p (quarters d) (pairs items) ls) ms (turn-accepted p ls items d ms e)
@@ -120,7 +120,7 @@ after-labels c o plan f t undrawn plans labels e =
 after-chart : (s t : Sheet) → Kept s → chart_call s ≡ accepted t → After draw_chart t
 unfolding chart_call standing draws
 after-chart s t h e =
-    let (a, e₁, r) = bind_accepted (labels_of s) _ t e in
+    let (a, e₁, r) = bind_accepted (require_labels s) _ t e in
     let (c, e₂, q) = bind_accepted (chart a.0 a.1) _ t r in
     let (k, l) = labels-kept s h a e₁ in
     subst (After draw_chart) (same-value q) (record { kept = (k, l, e₂); drawn = refl })
@@ -128,9 +128,9 @@ after-chart s t h e =
 pub leaves : (s t : Sheet) (c : Call) → Kept s → call s c ≡ accepted t → After c t
 unfolding call offer_call sweep_call turn_call draws
 leaves s t (open_file b) h e = record { kept = judged_kept t (open_accepted b t e).1; drawn = opened_holds b t e }
-leaves s t (offer_labels ls) h e = after-labels (offer_labels ls) (plan_of s) (λ p. p) (λ p. offered p ls) t refl (plan-kept s h) (λ p. offered-kept p ls) e
-leaves s t sweep-labels h e = after-labels sweep-labels (plan_of s) (λ p. p) sweep t refl (plan-kept s h) swept_kept e
-leaves s t (turn_edges items d) h e = after-labels (turn_edges items d) (labels_of s) (λ a. a.0) (λ a. turn a.0 a.1 items d) t refl (λ a q. (labels-kept s h a q).0) (λ a. turned-kept a.0 a.1 items d) e
+leaves s t (offer_labels ls) h e = after-labels (offer_labels ls) (require_plan s) (λ p. p) (λ p. offered p ls) t refl (plan-kept s h) (λ p. offered-kept p ls) e
+leaves s t sweep-labels h e = after-labels sweep-labels (require_plan s) (λ p. p) sweep t refl (plan-kept s h) swept_kept e
+leaves s t (turn_edges items d) h e = after-labels (turn_edges items d) (require_labels s) (λ a. a.0) (λ a. turn a.0 a.1 items d) t refl (λ a q. (labels-kept s h a q).0) (λ a. turned-kept a.0 a.1 items d) e
 leaves s t draw_chart h e = after-chart s t h e
 
 -- After a list of calls the rules are kept

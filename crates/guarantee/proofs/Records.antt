@@ -7,7 +7,7 @@ use native.Mathlib.Omega.{arith}
 use lib.ListN.{length, drop, length-drop}
 use lib.Dec.{eqb, leb}
 use Rattle.std.specs.Prelude.{is_some}
-use Rattle.lists.specs.Tests.{empty, member}
+use Rattle.lists.specs.Tests.{is_empty, member}
 use Rattle.lists.specs.Words.{word, words}
 use Rattle.model.specs.Outcome.{Outcome, accepted, refused, ◌>>=◌, ◌>>◌, require}
 use Rattle.model.specs.Plan.{Plan}
@@ -22,7 +22,7 @@ use Rattle.model.proofs.FileRead.{frame-says}
 abbrev Finds : List ℕ → Bool → Type 0
 Finds s t = (fuel : ℕ) → length s ≤ fuel → member 4 (kinds fuel s) ≡ t
 
-finds_none : (s : List ℕ) → empty s ≡ true → Finds s false
+finds_none : (s : List ℕ) → is_empty s ≡ true → Finds s false
 unfolding kinds
 finds_none [] e zero k = refl
 finds_none [] e (suc fuel) k = refl
@@ -49,21 +49,21 @@ finds_rings n (suc k) c r t e f =
     finds_record c 2 (fits_ring n) q t e₁ (finds_rings n k q.1 u t e₂ (subst (λ (z : List (List ℕ) × Cursor). Finds z.1.rest t) (sym (same-value h)) f))
 
 -- the records after the rings: one of those that were read is of kind 4
-finds_end : (c : Cursor) (parts : List Part) → empty c.rest ≡ true → accepted [] ≡ accepted parts → Finds c.rest (member 4 (kinds_of parts))
+finds_end : (c : Cursor) (parts : List Part) → is_empty c.rest ≡ true → accepted [] ≡ accepted parts → Finds c.rest (member 4 (kinds_of parts))
 unfolding kinds_of
 finds_end c parts y e = subst (λ (l : List Part). Finds c.rest (member 4 (kinds_of l))) (same-value e) (finds_none c.rest y)
 
 finds_rest : (due : List Due) (c : Cursor) (parts : List Part) → frame_rest due c ≡ accepted parts → Finds c.rest (member 4 (kinds_of parts))
 unfolding frame_rest kinds_of
-finds_rest [] c parts e = go (empty c.rest) refl (frame c 0 (λ (m : ℕ). false)) refl e
+finds_rest [] c parts e = go (is_empty c.rest) refl (frame c 0 (λ (m : ℕ). false)) refl e
   where
-    go : (t : Bool) → empty c.rest ≡ t → (o : Outcome Framed) → frame c 0 (λ (m : ℕ). false) ≡ o → cond t (accepted []) (o >> accepted []) ≡ accepted parts → Finds c.rest (member 4 (kinds_of parts))
+    go : (t : Bool) → is_empty c.rest ≡ t → (o : Outcome Framed) → frame c 0 (λ (m : ℕ). false) ≡ o → cond t (accepted []) (o >> accepted []) ≡ accepted parts → Finds c.rest (member 4 (kinds_of parts))
     go true y o q e = finds_end c parts y e
     go false y (accepted r) q e = absurd (false≢true (frame-says c 0 (λ (m : ℕ). false) r q).fitted)
     go false y (refused k at) q e = not-both e
-finds_rest (d ∷ due) c parts e = go (finds_rest due) (empty c.rest) refl (d.skippable && not (eqb (word (drop 2 c.rest)) d.kind)) e
+finds_rest (d ∷ due) c parts e = go (finds_rest due) (is_empty c.rest) refl (d.skippable && not (eqb (word (drop 2 c.rest)) d.kind)) e
   where
-    go : ((e : Cursor) (l : List Part) → frame_rest due e ≡ accepted l → Finds e.rest (member 4 (kinds_of l))) → (t : Bool) → empty c.rest ≡ t → (s : Bool)
+    go : ((e : Cursor) (l : List Part) → frame_rest due e ≡ accepted l → Finds e.rest (member 4 (kinds_of l))) → (t : Bool) → is_empty c.rest ≡ t → (s : Bool)
         → cond t (accepted []) (cond s (frame_rest due c) (frame c d.kind (eqb d.size) >>= λ (f : Framed). frame_rest due f.1 >>= λ (l : List Part). accepted ((d.kind, f.0) ∷ l))) ≡ accepted parts → Finds c.rest (member 4 (kinds_of parts))
     go later true y s e = finds_end c parts y e
     go later false y true e = later c parts e

@@ -8,7 +8,7 @@ use Rattle.sheet.specs.declared.Sheet as struct
 use Rattle.sheet.specs.Sheets.{reads, packed}
 use Rattle.sheet.specs.Answers.{answer_of, after}
 use Rattle.sheet.proofs.Packed.{reads-packed}
-use Rattle.guarantee.specs.Engine.{start, left, told}
+use Rattle.guarantee.specs.Engine.{fresh_sheet, sheet_after, answers_of}
 use Rattle.guarantee.proofs.Agreement.{answers}
 use Rattle.guarantee.proofs.Sized.{Good, fresh_good, leaves_good, held_sized}
 
@@ -34,18 +34,18 @@ call-packed : (s : Sheet) (c : Call) → Good s → after (packed s) (call (read
 call-packed s c g = ap (λ (t : Sheet). after (packed s) (call t c)) (read_back s g) ∙ after-packed s (call s c)
 
 -- the struct after a list of calls
-pub left-packed : (cs : List Call) (s : Sheet) → Good s → left (packed s) cs ≡ packed (run s cs)
-unfolding left run
-left-packed [] s g = refl
-left-packed (c ∷ cs) s g = ap (λ (t : struct.Sheet). left t cs) (call-packed s c g) ∙ left-packed cs (taken s (call s c)) (taken_good s c g)
+pub sheet_after-packed : (cs : List Call) (s : Sheet) → Good s → sheet_after (packed s) cs ≡ packed (run s cs)
+unfolding sheet_after run
+sheet_after-packed [] s g = refl
+sheet_after-packed (c ∷ cs) s g = ap (λ (t : struct.Sheet). sheet_after t cs) (call-packed s c g) ∙ sheet_after-packed cs (taken s (call s c)) (taken_good s c g)
 
 -- and the answers
-pub told_same : (cs : List Call) (s : Sheet) → Good s → told (packed s) cs ≡ answers s cs
-unfolding told answers
-told_same [] s g = refl
-told_same (c ∷ cs) s g =
+pub answers_of_same : (cs : List Call) (s : Sheet) → Good s → answers_of (packed s) cs ≡ answers s cs
+unfolding answers_of answers
+answers_of_same [] s g = refl
+answers_of_same (c ∷ cs) s g =
     let first = ap (λ (t : Sheet). answer_of (call t c)) (read_back s g) in
-    let rest = ap (λ (t : struct.Sheet). told t cs) (call-packed s c g) ∙ told_same cs (taken s (call s c)) (taken_good s c g) in
+    let rest = ap (λ (t : struct.Sheet). answers_of t cs) (call-packed s c g) ∙ answers_of_same cs (taken s (call s c)) (taken_good s c g) in
     λ i. first i ∷ rest i
 
 pub run_good : (cs : List Call) (s : Sheet) → Good s → Good (run s cs)
@@ -54,5 +54,5 @@ run_good [] s g = g
 run_good (c ∷ cs) s g = run_good cs (taken s (call s c)) (taken_good s c g)
 
 -- what the struct holds after a list of calls on a fresh sheet
-pub left-reads : (cs : List Call) → reads (left start cs) ≡ run fresh cs
-left-reads cs = ap reads (left-packed cs fresh fresh_good) ∙ read_back (run fresh cs) (run_good cs fresh fresh_good)
+pub sheet_after-reads : (cs : List Call) → reads (sheet_after fresh_sheet cs) ≡ run fresh cs
+sheet_after-reads cs = ap reads (sheet_after-packed cs fresh fresh_good) ∙ read_back (run fresh cs) (run_good cs fresh fresh_good)

@@ -8,15 +8,15 @@ use Rattle.sheet.specs.Sheets.{reads, packed}
 use Rattle.sheet.specs.Answers.{answer_of, after}
 
 -- a fresh sheet, as fresh_sheet gives it
-abbrev pub start : Sheet
-start = packed fresh
+abbrev pub fresh_sheet : Sheet
+fresh_sheet = packed fresh
 
 -- the sheet after a list of calls, refused ones included
-unfoldable pub left : Sheet → List Call → Sheet
-left s [] = s
-left s (c ∷ cs) = left (after s (call (reads s) c)) cs
+unfoldable pub sheet_after : Sheet → List Call → Sheet
+sheet_after s [] = s
+sheet_after s (c ∷ cs) = sheet_after (after s (call (reads s) c)) cs
 
 -- what each call of a list answers
-unfoldable pub told : Sheet → List Call → List (Outcome (Unit {0}))
-told s [] = []
-told s (c ∷ cs) = answer_of (call (reads s) c) ∷ told (after s (call (reads s) c)) cs
+unfoldable pub answers_of : Sheet → List Call → List (Outcome (Unit {0}))
+answers_of s [] = []
+answers_of s (c ∷ cs) = answer_of (call (reads s) c) ∷ answers_of (after s (call (reads s) c)) cs

@@ -8,14 +8,14 @@ use lib.ListN.{length, get_or, set, take, drop, length-append, length-drop, leng
 use lib.Seq.{take-length, take-append-le, drop-append-le, get_or-take, get_or-drop, set-append_left}
 use lib.Dec.{eqb, ltb}
 use borrow.Author.Tests.{ltb-true, ltb-false}
-use Rattle.lists.specs.Tests.{any}
+use Rattle.std.specs.List.{list_any}
 use Rattle.lists.specs.Ranges.{first_from, lowest}
-use Rattle.lists.specs.Parts.{concat, index_of}
-use Rattle.lists.proofs.Concats.{concat-append}
+use Rattle.lists.specs.Parts.{flatten, index_of}
+use Rattle.lists.proofs.Concats.{flatten-append}
 use Rattle.lists.proofs.Places.{index_below, index_is}
 use Rattle.lists.proofs.Stretches.{length-joined-more}
-use Rattle.model.specs.Plan.{Plan, count, neighbour, entries, ring, adjacent, border, entry_count}
-use Rattle.model.specs.Labels.{border_label, unlabelled, start, labels_around, label_of, turned, bad_dart, four_runs, due, not_due, bad_ring, breaks, put}
+use Rattle.model.specs.Plan.{Plan, context_count, neighbour, entries, ring, adjacent, border, entry_count}
+use Rattle.model.specs.Labels.{border_label, unlabelled, start, labels_around, label_of, turned, bad_dart, four_runs, due, not_due, bad_ring, breaks, put_label}
 use Rattle.model.proofs.Plans.{adjacent-mem}
 
 module _ (p : Plan) where
@@ -30,16 +30,16 @@ module _ (p : Plan) where
   start-after u = length-joined-more p.rings u
 
   -- the last part ends with the last entry
-  pub start_last : start p (count p) ≡ entry_count p
+  pub start_last : start p (context_count p) ≡ entry_count p
   unfolding start entry_count
-  start_last = ap (λ (l : List (List ℕ)). length (concat l)) (take-length p.rings)
+  start_last = ap (λ (l : List (List ℕ)). length (flatten l)) (take-length p.rings)
 
   -- no part begins past the last entry
   pub start-below : (u : ℕ) → start p u ≤ entry_count p
   unfolding start entry_count
   start-below u =
-      let e : length (concat (take u p.rings)) + length (concat (drop u p.rings)) ≡ length (concat p.rings) =
-      sym (length-append (concat (take u p.rings)) (concat (drop u p.rings))) ∙ ap length (sym (concat-append (take u p.rings) (drop u p.rings)) ∙ ap concat (take-append-drop u p.rings)) in
+      let e : length (flatten (take u p.rings)) + length (flatten (drop u p.rings)) ≡ length (flatten p.rings) =
+      sym (length-append (flatten (take u p.rings)) (flatten (drop u p.rings))) ∙ ap length (sym (flatten-append (take u p.rings) (drop u p.rings)) ∙ ap flatten (take-append-drop u p.rings)) in
       omega arith
 
   -- a later part begins no earlier
@@ -80,13 +80,13 @@ module _ (p : Plan) where
         ∙ get_or-drop (start p u) ls (index_of v (ring p u)) unlabelled
 
     -- and is put there
-    pub put-at-place : (ls : List ℕ) (l : ℕ) → put p u v l ls ≡ set ls (Place u v) l
-    unfolding put
-    put-at-place ls l = rw dart
+    pub put_label-at-place : (ls : List ℕ) (l : ℕ) → put_label p u v l ls ≡ set ls (Place u v) l
+    unfolding put_label
+    put_label-at-place ls l = rw dart
 
   -- nothing is put where there is no dart
-  pub put_nowhere : (u v : ℕ) → adjacent p u v ≡ false → (ls : List ℕ) (l : ℕ) → put p u v l ls ≡ ls
-  unfolding put
+  pub put_nowhere : (u v : ℕ) → adjacent p u v ≡ false → (ls : List ℕ) (l : ℕ) → put_label p u v l ls ≡ ls
+  unfolding put_label
   put_nowhere u v none ls l = rw none
 
   -- two darts at one place are one
@@ -131,8 +131,8 @@ module _ (p : Plan) where
     label_behind u v = ap (λ (l : List ℕ). get_or l (index_of v (ring p u)) unlabelled) (around_behind u)
 
     -- a label is put before what is behind, which stays
-    pub put-behind : (u v l : ℕ) → put p u v l (ls ++ rest) ≡ put p u v l ls ++ rest
-    unfolding put
+    pub put-behind : (u v l : ℕ) → put_label p u v l (ls ++ rest) ≡ put_label p u v l ls ++ rest
+    unfolding put_label
     put-behind u v l = go (adjacent p u v) refl
       where
         go : (t : Bool) → adjacent p u v ≡ t → cond t (set (ls ++ rest) (Place u v) l) (ls ++ rest) ≡ cond t (set ls (Place u v) l) ls ++ rest
@@ -158,7 +158,7 @@ module _ (p : Plan) where
         || cond (border u) (any_same (not_due p (ls ++ rest) u) (not_due p ls u) (ring p u) (due-behind u) i) (not (four_runs (around_behind u i)))
       where
         -- two tests that agree
-        any_same : (f g : ℕ → Bool) (l : List ℕ) → ((a : ℕ) → f a ≡ g a) → any f l ≡ any g l
+        any_same : (f g : ℕ → Bool) (l : List ℕ) → ((a : ℕ) → f a ≡ g a) → list_any f l ≡ list_any g l
         any_same f g [] h = refl
         any_same f g (a ∷ l) h = λ i. h a i || any_same f g l h i
 

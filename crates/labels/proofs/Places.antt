@@ -9,7 +9,7 @@ use lib.Seq.{get_or-take, get_or-drop}
 use lib.Dec.{ltb}
 use borrow.Author.Tests.{ltb-true, ltb-false}
 use Rattle.lists.specs.Ranges.{from}
-use Rattle.lists.specs.Parts.{concat, index_of}
+use Rattle.lists.specs.Parts.{flatten, index_of}
 use Rattle.lists.specs.Spans.{stretch}
 use Rattle.lists.proofs.Ranges.{get_or-map-from}
 use Rattle.lists.proofs.Spans.{length-stretch}
@@ -20,14 +20,14 @@ use Rattle.rings.proofs.Rows.{start_first, start-more, size_outside, entries-row
 
 -- ---- the lists before the u-th, joined, are as long as the sum of their sizes
 module _ (sizes : List ℕ) (f : ℕ → List ℕ) (long : (w : ℕ) → length (f w) ≡ get_or sizes w 0) where
-  joined_length : (a k u : ℕ) → u ≤ k → start_of sizes a + length (concat (take u (map f (from a k)))) ≡ start_of sizes (a + u)
+  joined_length : (a k u : ℕ) → u ≤ k → start_of sizes a + length (flatten (take u (map f (from a k)))) ≡ start_of sizes (a + u)
   joined_length a k zero h = let z : a + 0 ≡ a = omega arith in rw z (omega arith)
   joined_length a zero (suc u) h = absurd (omega arith)
   joined_length a (suc k) (suc u) h =
       let r = joined_length (suc a) k u (omega arith) in
       let m = start-more sizes a in
       let l = long a in
-      let c = length-append (f a) (concat (take u (map f (from (suc a) k)))) in
+      let c = length-append (f a) (flatten (take u (map f (from (suc a) k)))) in
       let z : start_of sizes (suc a + u) ≡ start_of sizes (a + suc u) = ap (start_of sizes) (omega arith) in
       omega arith
 
@@ -45,9 +45,9 @@ module _ (starts sizes es : List ℕ) (n : ℕ) (same : starts ≡ starts_of siz
       let e : start_of sizes (0 + u) ≡ start_of sizes u = ap (start_of sizes) (omega arith) in
       omega arith
 
-  pub start-held : (u : ℕ) → u < n → get_or starts u 0 ≡ start Rows u
+  pub start-bounded_table : (u : ℕ) → u < n → get_or starts u 0 ≡ start Rows u
   unfolding starts_of
-  start-held u h =
+  start-bounded_table u h =
       ap (λ (l : List ℕ). get_or l u 0) same ∙ get_or-map-from (start_of sizes) 0 200 u 0 (omega arith) ∙ ap (start_of sizes) (omega arith) ∙ sym (start-rows u (omega arith))
 
   pub size-rows : (u : ℕ) → length (entries Rows u) ≡ size_of sizes n u
@@ -72,7 +72,7 @@ module _ (starts sizes es : List ℕ) (n : ℕ) (same : starts ≡ starts_of siz
 
   module _ (u v : ℕ) {s i k : ℕ} (from-s : s ≡ get_or starts u 0) (at : i ≡ index_of v (ring (rows starts sizes es n) u)) (size : k ≡ size_of sizes n u) where
     begins : i < k → s ≡ start Rows u
-    begins h = from-s ∙ start-held u (within u i (omega arith))
+    begins h = from-s ∙ start-bounded_table u (within u i (omega arith))
 
     -- there is a dart from u to v: its label stands at s + i
     pub label_there : (ls : List ℕ) → i < k → get_or ls (s + i) unlabelled ≡ label_of (table sizes es n) ls u v

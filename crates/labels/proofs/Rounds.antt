@@ -13,7 +13,7 @@ use Rattle.std.proofs.lemmas.List.{drop-take}
 use Rattle.lists.specs.Tests.{same_list}
 use Rattle.lists.specs.Ranges.{from}
 use Rattle.lists.specs.Parts.{squeeze_after, squeeze}
-use Rattle.lists.proofs.Tests.{some_of_lem, of_some, any-map, same-eq, eq-same}
+use Rattle.lists.proofs.Tests.{list_any_of, of_list_any, list_any-map, same-eq, eq-same}
 use Rattle.lists.proofs.Ranges.{from-mem}
 use Rattle.lists.proofs.Spans.{get_or-inside}
 use Rattle.model.specs.Labels.{unlabelled, four_runs}
@@ -137,7 +137,7 @@ reads r k = same_list (squeeze (drop k r ++ take k r)) (0 ∷ 1 ∷ 2 ∷ 3 ∷ 
 runs_weigh : (r : List ℕ) → four_runs r ≡ true → round_sum r ≡ 4
 unfolding reads four_runs
 runs_weigh r e =
-    let (k, m, q) = some_of_lem (reads r) (from 0 (length r)) (any-map _ _ (from 0 (length r)) ∙ e) in
+    let (k, m, q) = list_any_of (reads r) (from 0 (length r)) (list_any-map _ _ (from 0 (length r)) ∙ e) in
     ap round_sum (sym (take-append-drop k r)) ∙ round_rotate (take k r) (drop k r) ∙ squeezed_round (drop k r ++ take k r) (same-eq _ _ q)
 
 -- ---- from the weight to four runs
@@ -201,7 +201,7 @@ weigh_runs r w = go (ltb (last_of 5 r) 4) refl
         let begun : drop (length y) r ++ take (length y) r ≡ x ++ y = (λ i. drop (length y) (t.parts i) ++ take (length y) (t.parts i)) ∙ (λ i. drop-append_seam y x i ++ take-append_seam y x i) in
         let four = turned-runs y t.tail (subst (λ (k : ℕ). last_of k y ≡ 3) e t.ends) (ap round_sum (sym t.parts) ∙ w) in
         let long = ap length t.parts ∙ length-append y x in
-        sym (any-map _ _ (from 0 (length r))) ∙ of_some (reads r) (from 0 (length r)) (length y) (from-mem 0 (length r) (length y) (omega arith) (omega arith)) (eq-same _ (0 ∷ 1 ∷ 2 ∷ 3 ∷ []) (ap squeeze begun ∙ four))
+        sym (list_any-map _ _ (from 0 (length r))) ∙ of_list_any (reads r) (from 0 (length r)) (length y) (from-mem 0 (length r) (length y) (omega arith) (omega arith)) (eq-same _ (0 ∷ 1 ∷ 2 ∷ 3 ∷ []) (ap squeeze begun ∙ four))
 
     high : (change_sum (last_of 5 r) r ≡ 0) ⊎ (5 ≤ change_sum (last_of 5 r) r) → four_runs r ≡ true
     high (inl z) = absurd (omega arith)

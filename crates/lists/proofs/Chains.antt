@@ -1,4 +1,4 @@
--- What `any` and `position` say of a range, where the test of a number is that of the entry that stands there.
+-- What `list_any` and `position` say of a range, where the test of a number is that of the entry that stands there.
 use Prim.Native.Nat.{ℕ, zero, suc, ◌+◌, ◌-◌, ◌≤◌}
 use mathlib.Core.Path.{◌≡◌, refl, ap, ◌∙◌}
 use mathlib.Core.List.{List, map}
@@ -18,12 +18,12 @@ use Rattle.std.proofs.lemmas.Iterator.{YieldsList-from_range}
 use Rattle.std.proofs.lemmas.Iterator.Search.{any_from_yields_List}
 use Rattle.std.specs.List.{FoldsTo, list_any, range_with_len, position_or_len}
 use Rattle.std.specs.Option.{unwrap_or}
-use Rattle.lists.specs.Tests.{any, member, repeats}
+use Rattle.lists.specs.Tests.{member, repeats}
 use Rattle.lists.specs.Parts.{index_of}
 use Rattle.lists.specs.Folds.{some_within, some_of}
 use Rattle.lists.specs.Spans.{stretch, span}
 
--- what `any` gives of the numbers from a up to e, where the closure is a test that leaves what it captures as it is
+-- what `list_any` gives of the numbers from a up to e, where the closure is a test that leaves what it captures as it is
 pub any_in_range : {F : Type 0} {g : Mut F (ℕ × Unit {0}) Bool} (test : ℕ → Bool) (a e : ℕ) {u : Range ℕ} {f : F} {r : Bool}
     → (xs : List ℕ) × (o : Option ℕ) × (j : F) × YieldsThen nat_range_steps (record { start = a; end = e }) xs o u × FoldsTo (λ p x q. Called g p (x, tt) false q) f xs j
     × MatchOption o (r ≡ false) (λ x. (r ≡ true) × ((h : F) × Called g j (x, tt) true h))
@@ -41,7 +41,7 @@ any_some q a (suc k) = go (q a) (any_some q (a + 1) k ∙ ap (λ (b : ℕ). some
     go true e = refl
     go false e = e
 
--- what `any` gives of the numbers from a up to e: whether some of them passes
+-- what `list_any` gives of the numbers from a up to e: whether some of them passes
 pub some_in_range : {F : Type 0} {g : Mut F (ℕ × Unit {0}) Bool} (test : ℕ → Bool) (a e : ℕ) {u : Range ℕ} {f : F} {r : Bool}
     → (xs : List ℕ) × (o : Option ℕ) × (j : F) × YieldsThen nat_range_steps (record { start = a; end = e }) xs o u × FoldsTo (λ p x q. Called g p (x, tt) false q) f xs j
     × MatchOption o (r ≡ false) (λ x. (r ≡ true) × ((h : F) × Called g j (x, tt) true h))
@@ -51,10 +51,10 @@ some_in_range test a e ran told = any_in_range test a e ran told ∙ any_some te
 
 module _ (l : List ℕ) where
   -- some of the k entries from a on passes
-  pub any_entry : (f : ℕ → Bool) (a k : ℕ) → list_any (λ (i : ℕ). f (get_or l i 0)) (range_with_len a k) ≡ any f (stretch l a k)
+  pub any_entry : (f : ℕ → Bool) (a k : ℕ) → list_any (λ (i : ℕ). f (get_or l i 0)) (range_with_len a k) ≡ list_any f (stretch l a k)
   unfolding stretch
   any_entry f a zero = refl
-  any_entry f a (suc k) = ap (λ (t : Bool). f (get_or l a 0) || t) (any_entry f (a + 1) k ∙ ap (λ (b : ℕ). any f (stretch l b k)) (add-one a))
+  any_entry f a (suc k) = ap (λ (t : Bool). f (get_or l a 0) || t) (any_entry f (a + 1) k ∙ ap (λ (b : ℕ). list_any f (stretch l b k)) (add-one a))
 
   -- some of the k entries from a up to e stands again after itself
   pub any_again : (e a k : ℕ) → a + k ≡ e → list_any (λ (i : ℕ). member (get_or l i 0) (span l (i + 1) e)) (range_with_len a k) ≡ repeats (stretch l a k)

@@ -5,7 +5,7 @@ use mathlib.Core.List.{List, [], ◌∷◌, ◌++◌, map, Memᴰ}
 use mathlib.Core.Logic.{◌⊎◌, inl, inr}
 use Prim.Native.Nat.{ℕ, zero, suc, ◌<◌}
 use Rattle.lists.specs.Ranges.{countdown}
-use Rattle.lists.specs.Parts.{concat}
+use Rattle.lists.specs.Parts.{flatten}
 use Rattle.lists.proofs.Members.{mem-countdown}
 use Rattle.lists.proofs.Joins.{mem_join}
 
@@ -28,7 +28,7 @@ module _ {A : Type 0} (Below : A → A → Type 0) where
   falling_countdown f h (suc k) = (λ b m. let (i, n, e) = Memᴰ.of_map f (countdown k) m in subst (λ (c : A). Below c (f k)) e (h i k (mem-countdown k i n)), falling_countdown f h k)
 
   -- lists that each fall, joined in the order of a countdown, fall if each list is above those of lower numbers
-  pub falling_rows : (f : ℕ → List A) → ((j : ℕ) → Falling (f j)) → ((i j : ℕ) (a b : A) → i < j → Memᴰ a (f j) → Memᴰ b (f i) → Below b a) → (k : ℕ) → Falling (concat (map f (countdown k)))
+  pub falling_rows : (f : ℕ → List A) → ((j : ℕ) → Falling (f j)) → ((i j : ℕ) (a b : A) → i < j → Memᴰ a (f j) → Memᴰ b (f i) → Below b a) → (k : ℕ) → Falling (flatten (map f (countdown k)))
   falling_rows f h c zero = tt
   falling_rows f h c (suc k) =
-      falling_append (f k) (concat (map f (countdown k))) (h k) (falling_rows f h c k) (λ a b m n. let (i, q, r) = mem_join f (countdown k) b n in c i k a b (mem-countdown k i q) m r)
+      falling_append (f k) (flatten (map f (countdown k))) (h k) (falling_rows f h c k) (λ a b m n. let (i, q, r) = mem_join f (countdown k) b n in c i k a b (mem-countdown k i q) m r)

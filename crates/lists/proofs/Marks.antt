@@ -8,9 +8,10 @@ use lib.ListN.{length, get_or, set, replicate, length-set, length-replicate}
 use lib.Seq.{get_or-set_same, get_or-set_other}
 use lib.Dec.{eqb}
 use borrow.Author.Tests.{eqb-true, eqb-false, eq-eqb, ne_eqb}
-use Rattle.lists.specs.Tests.{any, member, repeats}
+use Rattle.std.specs.List.{list_any}
+use Rattle.lists.specs.Tests.{member, repeats}
 use Rattle.lists.specs.Spans.{span, zeros}
-use Rattle.lists.proofs.Tests.{of_none, any_same, eqb_swap, any-or}
+use Rattle.lists.proofs.Tests.{of_none, list_any_same, eqb_swap, list_any-or}
 use Rattle.lists.proofs.Spans.{span_more, span_end}
 use Rattle.lists.proofs.Padded.{get_or-zeros}
 
@@ -29,7 +30,7 @@ marked-set b v h w = go (eqb w v) refl
 -- ---- let mut b = [0; k]; for i in a..e { if b[l[i]] == 1 { return true; } b[l[i]] = 1; } false
 pub record Marks (k : ℕ) (l : List ℕ) (e i : ℕ) (b : List ℕ) : Type 0 where
   pub long : length b ≡ k
-  pub same : repeats (span l 0 e) ≡ (any (marked b) (span l i e) || repeats (span l i e))
+  pub same : repeats (span l 0 e) ≡ (list_any (marked b) (span l i e) || repeats (span l i e))
 
 pub marks-start : {k : ℕ} {l : List ℕ} {e : ℕ} {b : List ℕ} → b ≡ replicate k 0 → Marks k l e 0 b
 unfolding zeros
@@ -40,7 +41,7 @@ marks-start {k} {l} {e} {b} q = record {
 
 module _ {k : ℕ} {l : List ℕ} {e i : ℕ} {b : List ℕ} (inv : Marks k l e i b) where
   -- the next entry, and those after it
-  next-parts : {v : ℕ} → i < e → v ≡ get_or l i 0 → repeats (span l 0 e) ≡ ((marked b v || any (marked b) (span l (i + 1) e)) || (member v (span l (i + 1) e) || repeats (span l (i + 1) e)))
+  next-parts : {v : ℕ} → i < e → v ≡ get_or l i 0 → repeats (span l 0 e) ≡ ((marked b v || list_any (marked b) (span l (i + 1) e)) || (member v (span l (i + 1) e) || repeats (span l (i + 1) e)))
   next-parts h q = inv.same ∙ rw (span_more l i e h, ← q)
 
   pub marks_hit : {v : ℕ} → i < e → v ≡ get_or l i 0 → get_or b v 0 ≡ 1 → true ≡ repeats (span l 0 e)
@@ -50,14 +51,14 @@ module _ {k : ℕ} {l : List ℕ} {e i : ℕ} {b : List ℕ} (inv : Marks k l e 
   marks-on {v} {i'} {b'} s h q f t p =
       let rest = span l (i + 1) e in
       let long = inv.long in
-      let more : any (marked (set b v 1)) rest ≡ (any (marked b) rest || member v rest) =
-      any_same (marked (set b v 1)) (λ (w : ℕ). marked b w || eqb w v) rest (marked-set b v (omega arith))
-      ∙ any-or (marked b) (λ (w : ℕ). eqb w v) rest
-      ∙ ap (λ (m : Bool). any (marked b) rest || m) (any_same (λ (w : ℕ). eqb w v) (eqb v) rest (λ w. eqb_swap w v)) in
-      let same : repeats (span l 0 e) ≡ (any (marked (set b v 1)) rest || repeats rest) =
+      let more : list_any (marked (set b v 1)) rest ≡ (list_any (marked b) rest || member v rest) =
+      list_any_same (marked (set b v 1)) (λ (w : ℕ). marked b w || eqb w v) rest (marked-set b v (omega arith))
+      ∙ list_any-or (marked b) (λ (w : ℕ). eqb w v) rest
+      ∙ ap (λ (m : Bool). list_any (marked b) rest || m) (list_any_same (λ (w : ℕ). eqb w v) (eqb v) rest (λ w. eqb_swap w v)) in
+      let same : repeats (span l 0 e) ≡ (list_any (marked (set b v 1)) rest || repeats rest) =
       next-parts h q
-      ∙ ap (λ (m : Bool). (m || any (marked b) rest) || (member v rest || repeats rest)) (ne_eqb (get_or b v 0) 1 t)
-      ∙ sym (or_assoc (any (marked b) rest) (member v rest) (repeats rest))
+      ∙ ap (λ (m : Bool). (m || list_any (marked b) rest) || (member v rest || repeats rest)) (ne_eqb (get_or b v 0) 1 t)
+      ∙ sym (or_assoc (list_any (marked b) rest) (member v rest) (repeats rest))
       ∙ ap (λ (m : Bool). m || repeats rest) (sym more) in
       record { long = ap length p ∙ length-set b v 1 ∙ inv.long; same = rw (s, p) same }
 

@@ -10,7 +10,8 @@ use lib.ListN.{length, get_or, take, drop}
 use lib.Seq.{slice, take-length, take-suc}
 use lib.Dec.{eqb}
 use borrow.Author.Tests.{eqb-true, eqb-false, ne_eqb}
-use Rattle.lists.specs.Tests.{any, member, repeats}
+use Rattle.std.specs.List.{list_any}
+use Rattle.lists.specs.Tests.{member, repeats}
 use Rattle.lists.specs.Ranges.{countdown}
 use Rattle.lists.specs.Parts.{before, squeeze, squeeze_after}
 use Rattle.lists.proofs.Bools.{or_no, no_or}
@@ -87,7 +88,7 @@ pub repeats-reverse : (l : List ℕ) → repeats l ≡ false → repeats (revers
 repeats-reverse [] e = e
 repeats-reverse (a ∷ l) e =
     let (out, rest) = or_no (member a l) (repeats l) e in
-    let apart : any (λ (c : ℕ). member c (a ∷ [])) (reverse l) ≡ false = of_none (λ (c : ℕ). member c (a ∷ [])) (reverse l) (λ b m. no_or (eqb b a) false (ne_eqb b a (λ q. absurd (off out (mem-reverse l b m) q))) refl) in
+    let apart : list_any (λ (c : ℕ). member c (a ∷ [])) (reverse l) ≡ false = of_none (λ (c : ℕ). member c (a ∷ [])) (reverse l) (λ b m. no_or (eqb b a) false (ne_eqb b a (λ q. absurd (off out (mem-reverse l b m) q))) refl) in
     subst (λ (r : List ℕ). repeats r ≡ false) (sym (reverse-cons a l)) (repeats-append (reverse l) (a ∷ []) (repeats-reverse l rest) refl apart)
   where
     off : member a l ≡ false → {b : ℕ} → Memᴰ b l → b ≡ a → ⊥

@@ -8,7 +8,7 @@ use mathlib.Core.Bool.{false}
 use native.Mathlib.Omega.{arith}
 use Rattle.lists.specs.Tests.{member, repeats}
 use Rattle.lists.specs.Ranges.{from}
-use Rattle.lists.specs.Parts.{concat}
+use Rattle.lists.specs.Parts.{flatten}
 use Rattle.lists.proofs.Bools.{or_no, both}
 use Rattle.lists.proofs.Tests.{mem-member}
 use Rattle.lists.proofs.Ranges.{mem-from}
@@ -44,10 +44,10 @@ module _ {A : Type 0} where
 
 -- lists made from different entries and joined, if no two of them share an entry
 pub once_join : {A B : Type 0} (f : A → List B) (l : List A) → Once l → ((a : A) → Memᴰ a l → Once (f a))
-    → ((a c : A) (b : B) → Memᴰ a l → Memᴰ c l → Memᴰ b (f a) → Memᴰ b (f c) → a ≡ c) → Once (concat (map f l))
+    → ((a c : A) (b : B) → Memᴰ a l → Memᴰ c l → Memᴰ b (f a) → Memᴰ b (f c) → a ≡ c) → Once (flatten (map f l))
 once_join f [] o h same = tt
 once_join f (a ∷ l) o h same =
-    once-append (f a) (concat (map f l)) (h a (Memᴰ.head refl))
+    once-append (f a) (flatten (map f l)) (h a (Memᴰ.head refl))
     (once_join f l o.1 (λ c i. h c (Memᴰ.tail i)) (λ c d b i j. same c d b (Memᴰ.tail i) (Memᴰ.tail j)))
     (λ b i j. let (c, m, n) = mem_join f l b j in o.0 (Memᴰ.cast (same a c b (Memᴰ.head refl) (Memᴰ.tail m) i n) m))
 

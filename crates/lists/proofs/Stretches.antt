@@ -5,7 +5,7 @@ use mathlib.Core.List.{List, [], ◌∷◌, ◌++◌, map, append_assoc, append-
 use native.Mathlib.Omega.{arith}
 use lib.ListN.{length, get_or, take, length-append}
 use Rattle.lists.specs.Ranges.{from}
-use Rattle.lists.specs.Parts.{concat}
+use Rattle.lists.specs.Parts.{flatten}
 use Rattle.lists.specs.Spans.{stretch, span}
 
 stretch_tail : (a : ℕ) (l : List ℕ) (i k : ℕ) → stretch (a ∷ l) (suc i) k ≡ stretch l i k
@@ -29,22 +29,22 @@ pub span_whole : (l : List ℕ) (e : ℕ) → e ≡ length l → span l 0 e ≡ 
 span_whole l e q = let k : e - 0 ≡ length l = omega arith in ap (stretch l 0) k ∙ ap (λ (m : List ℕ). stretch m 0 (length l)) (sym (append-nil l)) ∙ stretch-front l []
 
 -- how many entries the lists before one have, and that one
-pub length-joined-more : {A : Type 0} (ls : List (List A)) (u : ℕ) → length (concat (take (suc u) ls)) ≡ length (concat (take u ls)) + length (get_or ls u [])
+pub length-joined-more : {A : Type 0} (ls : List (List A)) (u : ℕ) → length (flatten (take (suc u) ls)) ≡ length (flatten (take u ls)) + length (get_or ls u [])
 length-joined-more [] zero = refl
 length-joined-more [] (suc u) = refl
 length-joined-more (l ∷ ls) zero = ap length (append-nil l) ∙ omega arith
-length-joined-more (l ∷ ls) (suc u) = let r = length-joined-more ls u in let a = length-append l (concat (take (suc u) ls)) in let b = length-append l (concat (take u ls)) in omega arith
+length-joined-more (l ∷ ls) (suc u) = let r = length-joined-more ls u in let a = length-append l (flatten (take (suc u) ls)) in let b = length-append l (flatten (take u ls)) in omega arith
 
 -- each of the lists that are joined
-pub stretch-joined : (ls : List (List ℕ)) (rest : List ℕ) (u : ℕ) → stretch (concat ls ++ rest) (length (concat (take u ls))) (length (get_or ls u [])) ≡ get_or ls u []
+pub stretch-joined : (ls : List (List ℕ)) (rest : List ℕ) (u : ℕ) → stretch (flatten ls ++ rest) (length (flatten (take u ls))) (length (get_or ls u [])) ≡ get_or ls u []
 unfolding stretch
 stretch-joined [] rest zero = refl
 stretch-joined [] rest (suc u) = refl
-stretch-joined (l ∷ ls) rest zero = ap (λ (m : List ℕ). stretch m 0 (length l)) (append_assoc l (concat ls) rest) ∙ stretch-front l (concat ls ++ rest)
+stretch-joined (l ∷ ls) rest zero = ap (λ (m : List ℕ). stretch m 0 (length l)) (append_assoc l (flatten ls) rest) ∙ stretch-front l (flatten ls ++ rest)
 stretch-joined (l ∷ ls) rest (suc u) =
     let k = length (get_or ls u []) in
-    (λ i. stretch (append_assoc l (concat ls) rest i) (length-append l (concat (take u ls)) i) k)
-    ∙ stretch-behind l (concat ls ++ rest) (length (concat (take u ls))) k
+    (λ i. stretch (append_assoc l (flatten ls) rest i) (length-append l (flatten (take u ls)) i) k)
+    ∙ stretch-behind l (flatten ls ++ rest) (length (flatten (take u ls))) k
     ∙ stretch-joined ls rest u
 
 -- two maps over a range that agree on its numbers

@@ -7,7 +7,7 @@ use mathlib.Core.Logic.{◌⊎◌, inl, inr}
 use mathlib.Core.Bool.{Bool, true, false, cond}
 use native.Mathlib.Omega.{arith}
 use Rattle.lists.specs.Tests.{tally}
-use Rattle.lists.specs.Parts.{concat}
+use Rattle.lists.specs.Parts.{flatten}
 use Rattle.lists.proofs.Bools.{both}
 use Rattle.lists.proofs.Once.{Once, once-right, once-apart}
 use Rattle.lists.proofs.Joins.{join_mem}
@@ -49,10 +49,10 @@ unfolding total
 total-map f g [] = refl
 total-map f g (a ∷ l) = ap (f (g a) +◌) (total-map f g l)
 
-pub total_join : {A B : Type 0} (f : B → ℕ) (g : A → List B) (l : List A) → total f (concat (map g l)) ≡ total (λ a. total f (g a)) l
+pub total_join : {A B : Type 0} (f : B → ℕ) (g : A → List B) (l : List A) → total f (flatten (map g l)) ≡ total (λ a. total f (g a)) l
 unfolding total
 total_join f g [] = refl
-total_join f g (a ∷ l) = total-append f (g a) (concat (map g l)) ∙ ap (total f (g a) +◌) (total_join f g l)
+total_join f g (a ∷ l) = total-append f (g a) (flatten (map g l)) ∙ ap (total f (g a) +◌) (total_join f g l)
 
 -- a list less the entry at a place
 module _ {A : Type 0} (a : A) where
@@ -129,18 +129,18 @@ module _ {A : Type 0} where
 
 -- an entry of lists joined in which nothing stands twice is in exactly one of them
 pub tally_join : {A B : Type 0} (f : A → List B) (b : B) (test : A → Bool) → ((a : A) → test a ≡ true → Memᴰ b (f a)) → ((a : A) → Memᴰ b (f a) → test a ≡ true)
-    → (l : List A) → Once (concat (map f l)) → Memᴰ b (concat (map f l)) → tally test l ≡ 1
+    → (l : List A) → Once (flatten (map f l)) → Memᴰ b (flatten (map f l)) → tally test l ≡ 1
 tally_join f b test says said [] o m = absurd (Memᴰ.not-nil m)
-tally_join {A} f b test says said (a ∷ l) o m = go (test a) refl (tally_join f b test says said l (once-right (f a) (concat (map f l)) o))
+tally_join {A} f b test says said (a ∷ l) o m = go (test a) refl (tally_join f b test says said l (once-right (f a) (flatten (map f l)) o))
   where
     none : Memᴰ b (f a) → (c : A) → Memᴰ c l → (t : Bool) → test c ≡ t → t ≡ false
-    none i c j true e = absurd (once-apart (f a) (concat (map f l)) o b i (join_mem f l c b j (says c e)))
+    none i c j true e = absurd (once-apart (f a) (flatten (map f l)) o b i (join_mem f l c b j (says c e)))
     none i c j false e = refl
 
-    rest : Memᴰ b (f a) ⊎ Memᴰ b (concat (map f l)) → test a ≡ false → Memᴰ b (concat (map f l))
+    rest : Memᴰ b (f a) ⊎ Memᴰ b (flatten (map f l)) → test a ≡ false → Memᴰ b (flatten (map f l))
     rest (inl i) e = both (test a) (said a i) e
     rest (inr j) e = j
 
-    go : (t : Bool) → test a ≡ t → (Memᴰ b (concat (map f l)) → tally test l ≡ 1) → cond t 1 0 + tally test l ≡ 1
+    go : (t : Bool) → test a ≡ t → (Memᴰ b (flatten (map f l)) → tally test l ≡ 1) → cond t 1 0 + tally test l ≡ 1
     go true e r = omega (arith, tally-none test l (λ c j. none (says a e) c j (test c) refl))
     go false e r = omega (arith, r (rest (Memᴰ.append_cases (f a) m) e))

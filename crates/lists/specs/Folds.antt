@@ -11,9 +11,9 @@ abbrev pub through : {A : Type 0} → (ℕ → A → A) → ℕ → ℕ → A �
 through step i e s = each step i (e - i) s
 
 -- the step at k − 1, .., 0
-unfoldable pub down : {A : Type 0} → (ℕ → A → A) → ℕ → A → A
-down step zero s = s
-down step (suc k) s = down step k (step k s)
+unfoldable pub each_down : {A : Type 0} → (ℕ → A → A) → ℕ → A → A
+each_down step zero s = s
+each_down step (suc k) s = each_down step k (step k s)
 
 -- some of the k numbers from i on passes
 unfoldable pub some_of : (ℕ → Bool) → ℕ → ℕ → Bool

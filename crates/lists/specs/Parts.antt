@@ -4,9 +4,9 @@ use Rattle.lists.specs.Ranges.{from}
 
 module _ {A : Type 0} where
   -- lists joined end to end
-  abbrev pub concat : List (List A) → List A
-  concat [] = []
-  concat (l ∷ ls) = l ++ concat ls
+  abbrev pub flatten : List (List A) → List A
+  flatten [] = []
+  flatten (l ∷ ls) = l ++ flatten ls
 
   -- each entry with the one after it
   abbrev pub steps : List A → List (A × A)

@@ -10,10 +10,10 @@ stretch l i (suc k) = get_or l i 0 ∷ stretch l (suc i) k
 abbrev pub span : List ℕ → ℕ → ℕ → List ℕ
 span l i e = stretch l i (e - i)
 
--- k zeros; shut, so that a goal does not print them one by one
+-- k zeros; folded, so that a goal does not print them one by one
 unfoldable pub zeros : ℕ → List ℕ
 zeros k = replicate k 0
 
 -- l in an array of k, and zeros after it
-unfoldable pub padded : ℕ → List ℕ → List ℕ
-padded k l = l ++ zeros (k - length l)
+unfoldable pub zero_padded : ℕ → List ℕ → List ℕ
+zero_padded k l = l ++ zeros (k - length l)

@@ -1,30 +1,21 @@
 -- Tests on lists: some entry passes, every entry passes, how many pass, an entry is there, an entry stands twice, two lists are equal.
+use Rattle.std.specs.List.{list_any}
 use Rattle.std.specs.Prelude.{ℕ, ◌+◌, List, [], ◌∷◌, Bool, true, false, cond, ◌&&◌, ◌||◌, eqb}
 
 module _ {A : Type 0} where
-  -- some entry passes
-  abbrev pub any : (A → Bool) → List A → Bool
-  any f [] = false
-  any f (a ∷ l) = f a || any f l
-
-  -- every entry passes
-  abbrev pub all : (A → Bool) → List A → Bool
-  all f [] = true
-  all f (a ∷ l) = f a && all f l
-
   -- how many entries pass
   abbrev pub tally : (A → Bool) → List A → ℕ
   tally f [] = 0
   tally f (a ∷ l) = cond (f a) 1 0 + tally f l
 
   -- there is no entry
-  abbrev pub empty : List A → Bool
-  empty [] = true
-  empty (a ∷ l) = false
+  abbrev pub is_empty : List A → Bool
+  is_empty [] = true
+  is_empty (a ∷ l) = false
 
 -- a is an entry
 abbrev pub member : ℕ → List ℕ → Bool
-member a l = any (eqb a) l
+member a l = list_any (eqb a) l
 
 -- some entry stands again after itself
 abbrev pub repeats : List ℕ → Bool

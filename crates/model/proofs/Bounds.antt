@@ -11,9 +11,9 @@ use borrow.Author.Tests.{eqb-true, eq-eqb, ne_eqb, ltb-true, ltb-false, lt-ltb, 
 use Rattle.lists.specs.Ranges.{from}
 use Rattle.lists.proofs.Bools.{and_yes, yes_and, or_yes}
 use Rattle.lists.proofs.Ranges.{length-map-from, get_or-map-from, lt-or-le}
-use Rattle.lists.proofs.Counts.{counted, counted_strict, counted-from}
+use Rattle.lists.proofs.Counts.{count_below, count_below_strict, count_below-from}
 use Rattle.model.specs.Outcome.{accepted, passed}
-use Rattle.model.specs.Plan.{Plan, count, adjacent, plan_rules, north, east, south, west}
+use Rattle.model.specs.Plan.{Plan, context_count, adjacent, plan_rules, north, east, south, west}
 use Rattle.model.specs.Labels.{up, right, turned, label_of, label_rules}
 use Rattle.model.specs.Chart.{Chart, x, y, least_placement, slope, chart}
 use Rattle.model.specs.Transversal.{Transversal}
@@ -87,12 +87,12 @@ module _ (key : ℕ → ℕ) (o : Order) where
 -- ---- levels: two border contexts at 0, the other two at n − 3, the inner ones between them by how many inner ones come before
 module _ (n : ℕ) (o : Order) where
   rank : ℕ → ℕ
-  rank u = counted (λ (w : ℕ). leb 4 w && o.before w u) n
+  rank u = count_below (λ (w : ℕ). leb 4 w && o.before w u) n
 
   rank_strict : (u v : ℕ) → u < n → 4 ≤ u → o.before u v ≡ true → rank u < rank v
   unfolding rank
   rank_strict u v h i b =
-      counted_strict (λ (w : ℕ). leb 4 w && o.before w u) (λ (w : ℕ). leb 4 w && o.before w v) n u wider h
+      count_below_strict (λ (w : ℕ). leb 4 w && o.before w u) (λ (w : ℕ). leb 4 w && o.before w v) n u wider h
       (rw (le-leb 4 u i) (o.strict u)) (rw (le-leb 4 u i) b)
     where
       wider : (w : ℕ) → (leb 4 w && o.before w u) ≡ true → (leb 4 w && o.before w v) ≡ true
@@ -101,8 +101,8 @@ module _ (n : ℕ) (o : Order) where
   rank-low : (u : ℕ) → u < n → 4 ≤ u → rank u < n - 4
   unfolding rank
   rank-low u h i =
-      let c = counted_strict (λ (w : ℕ). leb 4 w && o.before w u) (leb 4) n u (λ w e. (and_yes (leb 4 w) (o.before w u) e).0) h (rw (le-leb 4 u i) (o.strict u)) (le-leb 4 u i) in
-      let d = counted-from 4 n in
+      let c = count_below_strict (λ (w : ℕ). leb 4 w && o.before w u) (leb 4) n u (λ w e. (and_yes (leb 4 w) (o.before w u) e).0) h (rw (le-leb 4 u i) (o.strict u)) (le-leb 4 u i) in
+      let d = count_below-from 4 n in
       omega arith
 
   -- the level of u, with South and one more border context at 0
@@ -192,7 +192,7 @@ module _ (p : Plan) (ls : List ℕ) (returned : (u v : ℕ) → adjacent p u v �
             (k, sym (due_label_lem v u h k (returned u v m)) ∙ t.reverses u v (adjacent-from p u v m) m (omega arith) ∙ ap (λ (j : ℕ). turned j 2) e)
 
 -- ---- the grid
-module _ (p : Plan) (ls : List ℕ) (five : 5 ≤ count p) (returned : (u v : ℕ) → adjacent p u v ≡ true → adjacent p v u ≡ true) (t : Transversal p ls) (d : Chart) (k : Placed 0 p ls d) where
+module _ (p : Plan) (ls : List ℕ) (five : 5 ≤ context_count p) (returned : (u v : ℕ) → adjacent p u v ≡ true → adjacent p v u ≡ true) (t : Transversal p ls) (d : Chart) (k : Placed 0 p ls d) where
   -- x by x, then y; y by y, then x falling
   x_order : Order
   x_order = keyed (x d) (rising (y d))
@@ -201,13 +201,13 @@ module _ (p : Plan) (ls : List ℕ) (five : 5 ≤ count p) (returned : (u v : �
   y_order = keyed (y d) (falling (x d))
 
   pub grid : Chart
-  grid = record { w = count p - 3; h = count p - 3; xs = levels (count p) x_order west; ys = levels (count p) y_order east }
+  grid = record { w = context_count p - 3; h = context_count p - 3; xs = levels (context_count p) x_order west; ys = levels (context_count p) y_order east }
 
   module _ (u v : ℕ) (m : adjacent p u v ≡ true) where
-    in_u : u < count p
+    in_u : u < context_count p
     in_u = adjacent-from p u v m
 
-    in_v : v < count p
+    in_v : v < context_count p
     in_v = adjacent-from p v u (returned u v m)
 
     -- along an up dart both levels rise
@@ -216,11 +216,11 @@ module _ (p : Plan) (ls : List ℕ) (five : 5 ≤ count p) (returned : (u v : �
     rises_up e =
         let dx = k.compass.up_x u v m e in
         let dy = k.compass.up_y u v m e in (
-          climbs (count p) x_order west u v in_u in_v (λ h. ((from h).0, ap (x grid) (from h).1 ∙ (levels_zero (count p) x_order west (omega arith) (omega arith)).0))
-              (λ h. ((to h).0, ap (x grid) (to h).1 ∙ levels_top (count p) x_order west north (omega arith) (omega arith) (omega arith) (omega arith)))
+          climbs (context_count p) x_order west u v in_u in_v (λ h. ((from h).0, ap (x grid) (from h).1 ∙ (levels_zero (context_count p) x_order west (omega arith) (omega arith)).0))
+              (λ h. ((to h).0, ap (x grid) (to h).1 ∙ levels_top (context_count p) x_order west north (omega arith) (omega arith) (omega arith) (omega arith)))
               (λ i j. by_order (x d) (rising (y d)) u v (omega arith) (lt-ltb (y d u) (y d v) dy)),
-          climbs (count p) y_order east u v in_u in_v (λ h. ((from h).0, ap (y grid) (from h).1 ∙ (levels_zero (count p) y_order east (omega arith) (omega arith)).0))
-              (λ h. ((to h).0, ap (y grid) (to h).1 ∙ levels_top (count p) y_order east north (omega arith) (omega arith) (omega arith) (omega arith)))
+          climbs (context_count p) y_order east u v in_u in_v (λ h. ((from h).0, ap (y grid) (from h).1 ∙ (levels_zero (context_count p) y_order east (omega arith) (omega arith)).0))
+              (λ h. ((to h).0, ap (y grid) (to h).1 ∙ levels_top (context_count p) y_order east north (omega arith) (omega arith) (omega arith) (omega arith)))
               (λ i j. by_key (y d) (falling (x d)) u v dy),
         )
       where
@@ -236,11 +236,11 @@ module _ (p : Plan) (ls : List ℕ) (five : 5 ≤ count p) (returned : (u v : �
     rises_right e =
         let dx = k.compass.right_x u v m e in
         let dy = k.compass.right_y u v m e in (
-          climbs (count p) x_order west u v in_u in_v (λ h. ((from h).0, ap (x grid) (from h).1 ∙ (levels_zero (count p) x_order west (omega arith) (omega arith)).1))
-              (λ h. ((to h).0, ap (x grid) (to h).1 ∙ levels_top (count p) x_order west east (omega arith) (omega arith) (omega arith) (omega arith)))
+          climbs (context_count p) x_order west u v in_u in_v (λ h. ((from h).0, ap (x grid) (from h).1 ∙ (levels_zero (context_count p) x_order west (omega arith) (omega arith)).1))
+              (λ h. ((to h).0, ap (x grid) (to h).1 ∙ levels_top (context_count p) x_order west east (omega arith) (omega arith) (omega arith) (omega arith)))
               (λ i j. by_key (x d) (rising (y d)) u v dx),
-          climbs (count p) y_order east v u in_v in_u (λ h. ((to h).0, ap (y grid) (to h).1 ∙ (levels_zero (count p) y_order east (omega arith) (omega arith)).1))
-              (λ h. ((from h).0, ap (y grid) (from h).1 ∙ levels_top (count p) y_order east west (omega arith) (omega arith) (omega arith) (omega arith)))
+          climbs (context_count p) y_order east v u in_v in_u (λ h. ((to h).0, ap (y grid) (to h).1 ∙ (levels_zero (context_count p) y_order east (omega arith) (omega arith)).1))
+              (λ h. ((from h).0, ap (y grid) (from h).1 ∙ levels_top (context_count p) y_order east west (omega arith) (omega arith) (omega arith) (omega arith)))
               (λ i j. by_order (y d) (falling (x d)) v u (omega arith) (lt-ltb (x d u) (x d v) dx)),
         )
       where
@@ -254,12 +254,12 @@ module _ (p : Plan) (ls : List ℕ) (five : 5 ≤ count p) (returned : (u v : �
   pub grid_placed : (s : ℕ) → s ≤ 1 → Placed s p ls grid
   unfolding grid
   grid_placed s low =
-      let zx = levels_zero (count p) x_order west (omega arith) (omega arith) in
-      let zy = levels_zero (count p) y_order east (omega arith) (omega arith) in
-      let top : (o : Order) (a u : ℕ) → u < 4 → u ≢ south → u ≢ a → get_or (levels (count p) o a) u 0 ≡ count p - 3 = λ o a u. levels_top (count p) o a u (omega arith) in
+      let zx = levels_zero (context_count p) x_order west (omega arith) (omega arith) in
+      let zy = levels_zero (context_count p) y_order east (omega arith) (omega arith) in
+      let top : (o : Order) (a u : ℕ) → u < 4 → u ≢ south → u ≢ a → get_or (levels (context_count p) o a) u 0 ≡ context_count p - 3 = λ o a u. levels_top (context_count p) o a u (omega arith) in
       record {
-        count_x = levels_length (count p) x_order west;
-        count_y = levels_length (count p) y_order east;
+        count_x = levels_length (context_count p) x_order west;
+        count_y = levels_length (context_count p) y_order east;
         south_x = zx.0;
         south_y = zy.0;
         west_x = zx.1;
@@ -304,8 +304,8 @@ pub record Small (n : ℕ) (c : Chart) : Type 0 where
   pub x_small : (u : ℕ) → u < n → x c u ≤ n - 3
   pub y_small : (u : ℕ) → u < n → y c u ≤ n - 3
 
-pub chart-small : (s : ℕ) (p : Plan) (ls : List ℕ) → s ≤ 1 → 5 ≤ count p → ((u v : ℕ) → adjacent p u v ≡ true → adjacent p v u ≡ true) → Transversal p ls
-    → (c : Chart) → least_placement s p ls ≡ accepted c → Small (count p) c
+pub chart-small : (s : ℕ) (p : Plan) (ls : List ℕ) → s ≤ 1 → 5 ≤ context_count p → ((u v : ℕ) → adjacent p u v ≡ true → adjacent p v u ≡ true) → Transversal p ls
+    → (c : Chart) → least_placement s p ls ≡ accepted c → Small (context_count p) c
 unfolding grid
 chart-small s p ls low five returned t c e =
     let is = chart-is s p ls c e in
@@ -315,11 +315,11 @@ chart-small s p ls low five returned t c e =
     record {
       w_small = most.w_least;
       h_small = most.h_least;
-      x_small = λ u h. let a = most.x_least u h in let b = levels_most (count p) (x_order p ls five returned t c d) west u h in omega arith;
-      y_small = λ u h. let a = most.y_least u h in let b = levels_most (count p) (y_order p ls five returned t c d) east u h in omega arith;
+      x_small = λ u h. let a = most.x_least u h in let b = levels_most (context_count p) (x_order p ls five returned t c d) west u h in omega arith;
+      y_small = λ u h. let a = most.y_least u h in let b = levels_most (context_count p) (y_order p ls five returned t c d) east u h in omega arith;
     }
 
 -- The chart of an accepted plan with accepted labels: width, height and every point are at most n − 3
-pub chart-fits : (p : Plan) (ls : List ℕ) → 5 ≤ count p → plan_rules p ≡ passed → label_rules p ls ≡ passed → (c : Chart) → chart p ls ≡ accepted c → Small (count p) c
+pub chart-fits : (p : Plan) (ls : List ℕ) → 5 ≤ context_count p → plan_rules p ≡ passed → label_rules p ls ≡ passed → (c : Chart) → chart p ls ≡ accepted c → Small (context_count p) c
 unfolding chart slope
 chart-fits p ls five rules labels c e = chart-small 0 p ls (omega arith) five (sound p rules).returned ((labels_exactly p ls).0 labels) c e

@@ -8,9 +8,10 @@ use lib.ListN.{length, get_or, take, drop, length-append, length-drop, get_or-ap
 use lib.Seq.{length-take-le, get_or-take, get_or-drop, get_or-append-add}
 use lib.Dec.{eqb}
 use borrow.Author.Tests.{not-true, eqb-true}
-use Rattle.lists.specs.Tests.{any, all, empty, member, repeats}
+use Rattle.std.specs.List.{list_any, list_all}
+use Rattle.lists.specs.Tests.{is_empty, member, repeats}
 use Rattle.lists.specs.Ranges.{from}
-use Rattle.lists.specs.Parts.{concat, squeeze, squeeze_after}
+use Rattle.lists.specs.Parts.{flatten, squeeze, squeeze_after}
 use Rattle.lists.proofs.Bools.{and_yes, or_no}
 use Rattle.lists.proofs.Tests.{none_of}
 use Rattle.lists.proofs.Ranges.{from-mem}
@@ -54,15 +55,15 @@ unfolding chordless
 chordless-apart p [] e k l h q = absurd (omega arith)
 chordless-apart p (a ∷ g) e zero zero h q = absurd (omega arith)
 chordless-apart p (a ∷ g) e zero (suc l) h q =
-    let (t, _) = and_yes (not (any (adjacent p a) (drop 1 g))) (chordless p g) e in
-    first g l (omega arith) (omega arith) (not-true (any (adjacent p a) (drop 1 g)) t)
+    let (t, _) = and_yes (not (list_any (adjacent p a) (drop 1 g))) (chordless p g) e in
+    first g l (omega arith) (omega arith) (not-true (list_any (adjacent p a) (drop 1 g)) t)
   where
-    first : (g : List ℕ) (l : ℕ) → 1 ≤ l → l < length g → any (adjacent p a) (drop 1 g) ≡ false → adjacent p a (get_or g l 0) ≡ false
+    first : (g : List ℕ) (l : ℕ) → 1 ≤ l → l < length g → list_any (adjacent p a) (drop 1 g) ≡ false → adjacent p a (get_or g l 0) ≡ false
     first [] l h q t = absurd (omega arith)
     first (b ∷ g) zero h q t = absurd (omega arith)
     first (b ∷ g) (suc l) h q t = none_of (adjacent p a) g t (get_or g l 0) (get_or-mem g l (omega arith))
 chordless-apart p (a ∷ g) e (suc k) zero h q = absurd (omega arith)
-chordless-apart p (a ∷ g) e (suc k) (suc l) h q = chordless-apart p g (and_yes (not (any (adjacent p a) (drop 1 g))) (chordless p g) e).1 k l (omega arith) (omega arith)
+chordless-apart p (a ∷ g) e (suc k) (suc l) h q = chordless-apart p g (and_yes (not (list_any (adjacent p a) (drop 1 g))) (chordless p g) e).1 k l (omega arith) (omega arith)
 
 -- ---- where things stand in the frontier with a list put in place
 module _ (f l : List ℕ) (i j : ℕ) (h : i + 2 ≤ j) (q : j < length f) where
@@ -112,22 +113,22 @@ module _ (p : Plan) (s : State) (i j : ℕ) (o : Positions s i j) (e : eligible 
   l = listed p f i j
 
   abbrev something : ℕ → Bool
-  something k = not (empty (below p f k))
+  something k = not (is_empty (below p f k))
 
-  parts : (all something (from (suc i) (j - suc i)) ≡ true) × (any border l ≡ false) × (any (λ (c : ℕ). member c s.seen) l ≡ false) × (chordless p (replaced f i j l) ≡ true)
+  parts : (list_all something (from (suc i) (j - suc i)) ≡ true) × (list_any border l ≡ false) × (list_any (λ (c : ℕ). member c s.seen) l ≡ false) × (chordless p (replaced f i j l) ≡ true)
   unfolding eligible
   parts =
-      let seen : Bool = any (λ (c : ℕ). member c s.seen) l in
-      let bad : Bool = repeats l || any border l || seen in
-      let (ab, c) = and_yes (all something (from (suc i) (j - suc i)) && not bad) (chordless p (replaced f i j l)) e in
-      let (a, b) = and_yes (all something (from (suc i) (j - suc i))) (not bad) ab in
-      let (x, y) = or_no (repeats l || any border l) seen (not-true bad b) in
-      (a, (or_no (repeats l) (any border l) x).1, y, c)
+      let seen : Bool = list_any (λ (c : ℕ). member c s.seen) l in
+      let bad : Bool = repeats l || list_any border l || seen in
+      let (ab, c) = and_yes (list_all something (from (suc i) (j - suc i)) && not bad) (chordless p (replaced f i j l)) e in
+      let (a, b) = and_yes (list_all something (from (suc i) (j - suc i))) (not bad) ab in
+      let (x, y) = or_no (repeats l || list_any border l) seen (not-true bad b) in
+      (a, (or_no (repeats l) (list_any border l) x).1, y, c)
 
   -- what is below is listed
   pub below-listed : (k c : ℕ) → i < k → k < j → Memᴰ c (below p f k) → Memᴰ c l
   unfolding listed
-  below-listed k c a b m = squeeze-mem (concat (map (below p f) (from (suc i) (j - suc i)))) c (join_mem (below p f) (from (suc i) (j - suc i)) k c (from-mem (suc i) (j - suc i) k (omega arith) (omega arith)) m)
+  below-listed k c a b m = squeeze-mem (flatten (map (below p f) (from (suc i) (j - suc i)))) c (join_mem (below p f) (from (suc i) (j - suc i)) k c (from-mem (suc i) (j - suc i) k (omega arith) (omega arith)) m)
 
   -- THE CHEAP TESTS: each context below a position between is clear
   pub eligible_clear : (k c : ℕ) → i < k → k < j → Memᴰ c (below p f k) → Clear p s i j k c

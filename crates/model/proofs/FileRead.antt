@@ -10,14 +10,14 @@ use lib.ListN.{length, take, drop, length-drop, length-map, take-append-drop}
 use lib.Seq.{length-take-le}
 use lib.Dec.{eqb, leb}
 use borrow.Author.Tests.{eqb-true, leb-true}
-use Rattle.lists.specs.Tests.{empty}
+use Rattle.lists.specs.Tests.{is_empty}
 use Rattle.lists.specs.Parts.{pairs}
 use Rattle.lists.specs.Words.{word, words, bytes}
 use Rattle.lists.proofs.Bools.{and_yes}
 use Rattle.lists.proofs.Parts.{length_pairs}
 use Rattle.lists.proofs.Words.{Bytes, bytes_left, bytes-right, low_byte, high_byte, length-words, bytes-words, bytes_word}
 use Rattle.model.specs.Outcome.{Outcome, accepted, refused, ◌>>=◌, ◌>>◌, require}
-use Rattle.model.specs.Plan.{Plan, count, labels_due}
+use Rattle.model.specs.Plan.{Plan, context_count, labels_due}
 use Rattle.model.specs.File.{Sheet, Cursor, Framed, frame, fits_ring, frame_rings, Due, Part, frame_rest, optional, kinds_of, body_of, chart_in, sheet_of, decode, entry, points, chart_out, rings_out, plan_out, encode}
 use Rattle.model.proofs.Outcomes.{same-value, not-both, bind_accepted, then_accepted, require-passed}
 use Rattle.model.proofs.FileWrite.{PlanFits, ChartFits, Fits, InOrder, parts_out}
@@ -147,12 +147,12 @@ record RestAs (due : List Due) (c : Cursor) (parts : List Part) : Type 0 where
   pub first : Begins (word (drop 2 c.rest)) parts
   pub written : Bytes c.rest → c.rest ≡ parts_out parts
 
-empty-nil : (l : List ℕ) → empty l ≡ true → l ≡ []
-empty-nil [] e = refl
-empty-nil (a ∷ l) e = absurd (false≢true e)
+is_empty-nil : (l : List ℕ) → is_empty l ≡ true → l ≡ []
+is_empty-nil [] e = refl
+is_empty-nil (a ∷ l) e = absurd (false≢true e)
 
-rest-none : (due : List Due) (c : Cursor) (parts : List Part) → empty c.rest ≡ true → accepted [] ≡ accepted parts → RestAs due c parts
-rest-none due c parts y e = subst (RestAs due c) (same-value e) (record { order = tt; first = tt; written = λ b. empty-nil c.rest y })
+rest-none : (due : List Due) (c : Cursor) (parts : List Part) → is_empty c.rest ≡ true → accepted [] ≡ accepted parts → RestAs due c parts
+rest-none due c parts y e = subst (RestAs due c) (same-value e) (record { order = tt; first = tt; written = λ b. is_empty-nil c.rest y })
 
 rest-cons : (d : Due) (due : List Due) (c : Cursor) (r : Framed) (parts : List Part) → frame c d.kind (eqb d.size) ≡ accepted r → RestAs due r.1 parts → RestAs (d ∷ due) c ((d.kind, r.0) ∷ parts)
 rest-cons d due c r parts e g =
@@ -190,14 +190,14 @@ rest_more d due c parts r true n false s e = rest_there d due c parts r e
 
 rest_read : (due : List Due) (c : Cursor) (parts : List Part) → frame_rest due c ≡ accepted parts → RestAs due c parts
 unfolding frame_rest
-rest_read [] c parts e = go (empty c.rest) refl e
+rest_read [] c parts e = go (is_empty c.rest) refl e
   where
-    go : (t : Bool) → empty c.rest ≡ t → cond t (accepted []) (frame c 0 (λ (m : ℕ). false) >> accepted []) ≡ accepted parts → RestAs [] c parts
+    go : (t : Bool) → is_empty c.rest ≡ t → cond t (accepted []) (frame c 0 (λ (m : ℕ). false) >> accepted []) ≡ accepted parts → RestAs [] c parts
     go true y e = rest-none [] c parts y e
     go false y e = absurd (never (frame c 0 (λ (m : ℕ). false)) (accepted []) parts (λ r q. false≢true (frame-read c 0 (λ (m : ℕ). false) r q).size) e)
-rest_read (d ∷ due) c parts e = go (rest_read due) (empty c.rest) refl e
+rest_read (d ∷ due) c parts e = go (rest_read due) (is_empty c.rest) refl e
   where
-    go : ((f : Cursor) (l : List Part) → frame_rest due f ≡ accepted l → RestAs due f l) → (t : Bool) → empty c.rest ≡ t
+    go : ((f : Cursor) (l : List Part) → frame_rest due f ≡ accepted l → RestAs due f l) → (t : Bool) → is_empty c.rest ≡ t
         → cond t (accepted [])
         (cond (d.skippable && not (eqb (word (drop 2 c.rest)) d.kind)) (frame_rest due c) (frame c d.kind (eqb d.size) >>= λ (f : Framed). frame_rest due f.1 >>= λ (l : List Part). accepted ((d.kind, f.0) ∷ l))) ≡ accepted parts
         → RestAs (d ∷ due) c parts
@@ -245,7 +245,7 @@ decoded b s e =
 data Follow (p : Plan) : List Part → Type 0 where
   nothing : Follow p []
   labels : (ls : List ℕ) → labels_due p ≡ length ls → Follow p ((3, ls) ∷ [])
-  chart_too : (ls k : List ℕ) → labels_due p ≡ length ls → 4 + 4 * count p ≡ length k → Follow p ((3, ls) ∷ (4, k) ∷ [])
+  chart_too : (ls k : List ℕ) → labels_due p ≡ length ls → 4 + 4 * context_count p ≡ length k → Follow p ((3, ls) ∷ (4, k) ∷ [])
 
 follow : (p : Plan) (parts : List Part) → InOrder (optional p) parts → Follow p parts
 unfolding optional
@@ -269,11 +269,11 @@ chart_out_in n [] h = absurd (omega arith)
 chart_out_in n (a ∷ []) h = absurd (omega arith)
 chart_out_in n (a ∷ b ∷ l) h = ap (λ (m : List ℕ). a ∷ b ∷ m) (points-pairs l (omega arith))
 
-chart_in_fits : (p : Plan) (l : List ℕ) → length l ≡ 2 + 2 * count p → ChartFits p (chart_in l)
+chart_in_fits : (p : Plan) (l : List ℕ) → length l ≡ 2 + 2 * context_count p → ChartFits p (chart_in l)
 unfolding chart_in
 chart_in_fits p l h =
     let ps = pairs (drop 2 l) in
-    let size : length ps ≡ count p = omega (arith, length_pairs (drop 2 l), length-drop 2 l) in
+    let size : length ps ≡ context_count p = omega (arith, length_pairs (drop 2 l), length-drop 2 l) in
     record { xs_each = length-map ps (λ (t : ℕ × ℕ). t.0) ∙ size; ys_each = length-map ps (λ (t : ℕ × ℕ). t.1) ∙ size }
 
 sheet_fits : (p : Plan) {parts : List Part} → PlanFits p → Follow p parts → Fits (sheet_of p parts)
@@ -288,7 +288,7 @@ sheet_written p Follow.nothing y = sym (append-nil (plan_out p))
 sheet_written p (Follow.labels ls h) y = ap (λ (l : List ℕ). plan_out p ++ l) (sym (append-nil (entry 3 ls)))
 sheet_written p (Follow.chart_too ls k h size) y =
     let yk : Bytes k = entry-bytes 4 k (bytes_left (entry 4 k) [] (bytes-right (entry 3 ls) (entry 4 k ++ []) y)) in
-    let same : bytes (chart_out (chart_in (words k))) ≡ k = ap bytes (chart_out_in (count p) (words k) (omega (arith, length-words k))) ∙ bytes-words k yk (omega arith) in
+    let same : bytes (chart_out (chart_in (words k))) ≡ k = ap bytes (chart_out_in (context_count p) (words k) (omega (arith, length-words k))) ∙ bytes-words k yk (omega arith) in
     ap (λ (l : List ℕ). plan_out p ++ entry 3 ls ++ entry 4 l) same ∙ append_assoc (plan_out p) (entry 3 ls) (entry 4 k) ∙ ap (λ (l : List ℕ). plan_out p ++ (entry 3 ls ++ l)) (sym (append-nil (entry 4 k)))
 
 -- What was decoded fits, so that it can be written and read again

@@ -9,12 +9,12 @@ use lib.ListN.{length, drop, length-append}
 use lib.Seq.{take-append_seam, drop-append_seam}
 use lib.Dec.{eqb, leb}
 use borrow.Author.Tests.{eq-eqb, le-leb}
-use Rattle.lists.specs.Tests.{empty}
+use Rattle.lists.specs.Tests.{is_empty}
 use Rattle.lists.specs.Parts.{pairs}
 use Rattle.lists.specs.Words.{word, words, bytes}
 use Rattle.lists.proofs.Words.{rejoined, words-bytes, word_bytes, length-bytes}
 use Rattle.model.specs.Outcome.{accepted}
-use Rattle.model.specs.Plan.{Plan, count, labels_due}
+use Rattle.model.specs.Plan.{Plan, context_count, labels_due}
 use Rattle.model.specs.Chart.{Chart}
 use Rattle.model.specs.File.{Sheet, fresh, opened, labelled, charted, frame, fits_ring, frame_rings, Due, Part, frame_rest, optional, kinds_of, body_of, chart_in, sheet_of, decode, entry, points, chart_out, rings_out, plan_out, encode}
 
@@ -25,9 +25,9 @@ length-entry kind body = omega arith
 
 -- A plan that fits into a file: 5 to 200 contexts, and every ring shorter than their number
 pub record PlanFits (p : Plan) : Type 0 where
-  pub low : 5 ≤ count p
-  pub high : count p ≤ 200
-  pub short : (r : List ℕ) → Memᴰ r p.rings → length r < count p
+  pub low : 5 ≤ context_count p
+  pub high : context_count p ≤ 200
+  pub short : (r : List ℕ) → Memᴰ r p.rings → length r < context_count p
 
 -- a label for each dart
 abbrev pub LabelsFit : Plan → List ℕ → Type 0
@@ -35,8 +35,8 @@ LabelsFit p ls = length ls ≡ labels_due p
 
 -- a point for each context
 pub record ChartFits (p : Plan) (c : Chart) : Type 0 where
-  pub xs_each : length c.xs ≡ count p
-  pub ys_each : length c.ys ≡ count p
+  pub xs_each : length c.xs ≡ context_count p
+  pub ys_each : length c.ys ≡ context_count p
 
 -- What a sheet must be to come back from its file; a fresh one has no file
 abbrev pub Fits : Sheet → Type 0
@@ -84,9 +84,9 @@ abbrev pub parts_out : List Part → List ℕ
 parts_out [] = []
 parts_out (q ∷ parts) = entry q.0 q.1 ++ parts_out parts
 
-not-empty : (kind : ℕ) (body rest : List ℕ) → empty (entry kind body ++ rest) ≡ false
+not-is_empty : (kind : ℕ) (body rest : List ℕ) → is_empty (entry kind body ++ rest) ≡ false
 unfolding entry bytes
-not-empty kind body rest = refl
+not-is_empty kind body rest = refl
 
 -- a record's kind is read where it stands
 kind-out : (kind : ℕ) (body rest : List ℕ) → word (drop 2 (entry kind body ++ rest)) ≡ kind
@@ -99,14 +99,14 @@ there_framed : (d : Due) (due : List Due) (b : List ℕ) (parts : List Part) (at
     → frame_rest (d ∷ due) (record { at = at; rest = entry d.kind b ++ parts_out parts }) ≡ accepted ((d.kind, b) ∷ parts)
 unfolding frame_rest
 there_framed d due b parts at s e =
-    rw (not-empty d.kind b (parts_out parts), kind-out d.kind b (parts_out parts), eq-eqb d.kind d.kind refl, and-false, frame-entry at d.kind b (parts_out parts) (eqb d.size) (eq-eqb d.size (length b) s), e)
+    rw (not-is_empty d.kind b (parts_out parts), kind-out d.kind b (parts_out parts), eq-eqb d.kind d.kind refl, and-false, frame-entry at d.kind b (parts_out parts) (eqb d.size) (eq-eqb d.size (length b) s), e)
 
 -- one of a later row
 skipped_framed : (d : Due) (due : List Due) (q : Part) (parts : List Part) (at : ℕ) → d.skippable ≡ true → eqb q.0 d.kind ≡ false
     → frame_rest due (record { at = at; rest = parts_out (q ∷ parts) }) ≡ accepted (q ∷ parts)
     → frame_rest (d ∷ due) (record { at = at; rest = parts_out (q ∷ parts) }) ≡ accepted (q ∷ parts)
 unfolding frame_rest
-skipped_framed d due q parts at s n e = rw (not-empty q.0 q.1 (parts_out parts), kind-out q.0 q.1 (parts_out parts), s, n, e)
+skipped_framed d due q parts at s n e = rw (not-is_empty q.0 q.1 (parts_out parts), kind-out q.0 q.1 (parts_out parts), s, n, e)
 
 rest_framed : (due : List Due) (parts : List Part) (at : ℕ) → InOrder due parts → frame_rest due (record { at = at; rest = parts_out parts }) ≡ accepted parts
 unfolding frame_rest
@@ -122,7 +122,7 @@ rest_framed (d ∷ due) (q ∷ parts) at (inr (s, n, h)) = skipped_framed d due 
 file_decoded : (p : Plan) (parts : List Part) → PlanFits p → InOrder (optional p) parts → decode (plan_out p ++ parts_out parts) ≡ accepted (sheet_of p parts)
 unfolding decode plan_out
 file_decoded p parts f h =
-    let n = count p in
+    let n = context_count p in
     let head = bytes (n ∷ []) in
     let size : eqb 2 (length head) ≡ true = rw (length-bytes (n ∷ [])) refl in
     let low : leb 5 n ≡ true = le-leb 5 n f.low in
@@ -156,7 +156,7 @@ chart_back p c f =
     let same = f.xs_each ∙ sym f.ys_each in
     rw (words-bytes, xs_back c.xs c.ys same, ys_back c.xs c.ys same)
 
-length-chart : (p : Plan) (c : Chart) → ChartFits p c → 4 + 4 * count p ≡ length (bytes (chart_out c))
+length-chart : (p : Plan) (c : Chart) → ChartFits p c → 4 + 4 * context_count p ≡ length (bytes (chart_out c))
 unfolding chart_out
 length-chart p c f =
     let x = f.xs_each in

@@ -8,17 +8,17 @@ use lib.ListN.{length, get_or, set, length-append, length-map, length-set}
 use lib.Seq.{slice}
 use lib.Dec.{eqb, ltb}
 use Rattle.lists.specs.Ranges.{from}
-use Rattle.lists.specs.Parts.{concat, index_of, pairs, steps}
+use Rattle.lists.specs.Parts.{flatten, index_of, pairs, steps}
 use Rattle.model.specs.Outcome.{Outcome, accepted, refused, ◌>>=◌, ◌>>◌, require, rule}
-use Rattle.model.specs.Plan.{Plan, Dart, count, neighbour, entries, ring, adjacent, border, darts_from, darts, entry_count, north, south}
-use Rattle.model.specs.Labels.{up, right, border_label, unlabelled, start, label_of, turned, put, label_rules}
-use Rattle.model.specs.Sweep.{State, label_edges, product, top, bare_labels, first_state, finished, finish, listed, choices, choose, advance, sweep_from, sweep}
+use Rattle.model.specs.Plan.{Plan, Dart, context_count, neighbour, entries, ring, adjacent, border, darts_from, darts, entry_count, north, south}
+use Rattle.model.specs.Labels.{up, right, border_label, unlabelled, start, label_of, turned, put_label, label_rules}
+use Rattle.model.specs.Sweep.{State, label_edges, all_pairs, top, bare_labels, first_state, finished, finish, listed, choices, choose, advance, sweep_from, sweep}
 use Rattle.model.specs.Turn.{reverse_dart, bad_pair, quarters, turn_dart, turned_edges, turn}
 use Rattle.model.proofs.Outcomes.{not-both, same-value, bind_accepted, then_accepted}
 
 -- a label put on a dart
-pub put_long : (p : Plan) (u v l : ℕ) (ls : List ℕ) → length (put p u v l ls) ≡ length ls
-unfolding put
+pub put_long : (p : Plan) (u v l : ℕ) (ls : List ℕ) → length (put_label p u v l ls) ≡ length ls
+unfolding put_label
 put_long p u v l ls = go (adjacent p u v)
   where
     go : (t : Bool) → length (cond t (set ls (start p u + index_of v (ring p u)) l) ls) ≡ length ls
@@ -30,16 +30,16 @@ put_long p u v l ls = go (adjacent p u v)
 pub edges_long : (p : Plan) (l : ℕ) (ds : List Dart) (ls : List ℕ) → length (label_edges p l ds ls) ≡ length ls
 unfolding label_edges
 edges_long p l [] ls = refl
-edges_long p l ((u, v) ∷ ds) ls = edges_long p l ds (put p u v l (put p v u (turned l 2) ls)) ∙ put_long p u v l (put p v u (turned l 2) ls) ∙ put_long p v u (turned l 2) ls
+edges_long p l ((u, v) ∷ ds) ls = edges_long p l ds (put_label p u v l (put_label p v u (turned l 2) ls)) ∙ put_long p u v l (put_label p v u (turned l 2) ls) ∙ put_long p v u (turned l 2) ls
 
 -- lists over a range, as long as the lists of another list
-joined_long : {A B : Type 0} (rs : List (List A)) (a : ℕ) (f : ℕ → List B) → ((u i : ℕ) → i ≡ a + u → length (f i) ≡ length (get_or rs u [])) → length (concat (map f (from a (length rs)))) ≡ length (concat rs)
+joined_long : {A B : Type 0} (rs : List (List A)) (a : ℕ) (f : ℕ → List B) → ((u i : ℕ) → i ≡ a + u → length (f i) ≡ length (get_or rs u [])) → length (flatten (map f (from a (length rs)))) ≡ length (flatten rs)
 joined_long [] a f h = refl
 joined_long (r ∷ rs) a f h =
     let here = h 0 a (omega arith) in
     let rest = joined_long rs (suc a) f (λ u i e. h (suc u) i (omega arith)) in
-    let l = length-append (f a) (concat (map f (from (suc a) (length rs)))) in
-    let m = length-append r (concat rs) in
+    let l = length-append (f a) (flatten (map f (from (suc a) (length rs)))) in
+    let m = length-append r (flatten rs) in
     omega arith
 
 -- how many darts leave a context
@@ -58,14 +58,14 @@ finish_long : (p : Plan) (s : State) → length s.labels ≡ entry_count p → l
 unfolding finish
 finish_long p s h =
     let f = s.frontier in
-    let south-darts = product (south ∷ []) (slice 1 (length f - 1) f) in
+    let south-darts = all_pairs (south ∷ []) (slice 1 (length f - 1) f) in
     edges_long p right (steps f) (label_edges p up south-darts s.labels) ∙ edges_long p up south-darts s.labels ∙ h
 
 advance_long : (p : Plan) (s : State) → length s.labels ≡ entry_count p → (i j : ℕ) → length (advance p s i j).labels ≡ entry_count p
 unfolding advance
 advance_long p s h i j =
     let f = s.frontier in
-    let ups = product (listed p f i j) (slice (suc i) j f) in
+    let ups = all_pairs (listed p f i j) (slice (suc i) j f) in
     edges_long p right (steps (slice i (suc j) f)) (label_edges p up ups s.labels) ∙ edges_long p up ups s.labels ∙ h
 
 -- a sweep that finishes
@@ -82,7 +82,7 @@ from_long p (suc k) s h ls e = go (finished p s.frontier) (choose p s (choices s
 
 pub first_long : (p : Plan) → length (first_state p).labels ≡ entry_count p
 unfolding first_state
-first_long p = edges_long p up (product (top p) (north ∷ [])) (bare_labels p) ∙ bare_long p
+first_long p = edges_long p up (all_pairs (top p) (north ∷ [])) (bare_labels p) ∙ bare_long p
 
 -- labels that were tested and handed on
 tested_same : (p : Plan) (ls ms : List ℕ) → (label_rules p ls >> accepted ls) ≡ accepted ms → ls ≡ ms
@@ -91,8 +91,8 @@ tested_same p ls ms e = same-value (then_accepted (label_rules p ls) (accepted l
 pub sweep_long : (p : Plan) (ms : List ℕ) → sweep p ≡ accepted ms → length ms ≡ entry_count p
 unfolding sweep
 sweep_long p ms e =
-    let (ls, f, r) = bind_accepted (sweep_from p (count p) (first_state p)) (λ (l : List ℕ). label_rules p l >> accepted l) ms e in
-    ap length (sym (tested_same p ls ms r)) ∙ from_long p (count p) (first_state p) (first_long p) ls f
+    let (ls, f, r) = bind_accepted (sweep_from p (context_count p) (first_state p)) (λ (l : List ℕ). label_rules p l >> accepted l) ms e in
+    ap length (sym (tested_same p ls ms r)) ∙ from_long p (context_count p) (first_state p) (first_long p) ls f
 
 -- ---- the turn
 pub turns_long : (p : Plan) (q : ℕ) (es : List Dart) (ls : List ℕ) → length (turned_edges p q es ls) ≡ length ls

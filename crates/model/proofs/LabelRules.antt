@@ -8,14 +8,15 @@ use native.Mathlib.Omega.{arith}
 use lib.ListN.{length, get_or, take, drop, replicate}
 use lib.Dec.{eqb, ltb}
 use borrow.Author.Tests.{eqb-true, eq-eqb, ltb-true, ltb-false, lt-ltb, le-ltb, not-false}
-use Rattle.lists.specs.Tests.{any, same_list}
+use Rattle.std.specs.List.{list_any}
+use Rattle.lists.specs.Tests.{same_list}
 use Rattle.lists.specs.Ranges.{from}
 use Rattle.lists.specs.Parts.{squeeze_after, squeeze}
 use Rattle.lists.proofs.Bools.{or_no, no_or, and_yes, yes_and, no-not}
-use Rattle.lists.proofs.Tests.{some_of_lem, of_some, none_of, of_none, any-map, same-eq, eq-same}
+use Rattle.lists.proofs.Tests.{list_any_of, of_list_any, none_of, of_none, list_any-map, same-eq, eq-same}
 use Rattle.lists.proofs.Ranges.{from-mem, mem-from}
 use Rattle.model.specs.Outcome.{passed}
-use Rattle.model.specs.Plan.{Plan, count, ring, border, adjacent, north, east, south, west}
+use Rattle.model.specs.Plan.{Plan, context_count, ring, border, adjacent, north, east, south, west}
 use Rattle.model.specs.Labels.{up, right, down, left, border_label, label_of, labels_around, turned, due, bad_dart, not_due, four_runs, bad_ring, breaks, label_rules}
 use Rattle.model.specs.Transversal.{FourRuns, Transversal}
 use Rattle.model.proofs.Outcomes.{rule-passes}
@@ -88,7 +89,7 @@ reads r k = same_list (squeeze (drop k r ++ take k r)) (up ∷ right ∷ down �
 pub runs-said : (r : List ℕ) → four_runs r ≡ true → FourRuns r
 unfolding reads four_runs
 runs-said r e =
-    let (k, m, q) = some_of_lem (reads r) (from 0 (length r)) (any-map _ _ (from 0 (length r)) ∙ e) in
+    let (k, m, q) = list_any_of (reads r) (from 0 (length r)) (list_any-map _ _ (from 0 (length r)) ∙ e) in
     let (a, b, c, d, runs) = squeezed_runs (drop k r ++ take k r) (same-eq _ _ q) in
     record {
       begins = k;
@@ -117,8 +118,8 @@ said-runs r w =
     let (c, ec) = above w.c w.c_some in
     let (d, ed) = above w.d w.d_some in
     let runs : drop w.begins r ++ take w.begins r ≡ Runs (suc a) (suc b) (suc c) (suc d) = w.runs ∙ (λ i. Runs (ea i) (eb i) (ec i) (ed i)) in
-    sym (any-map _ _ (from 0 (length r)))
-    ∙ of_some (reads r) (from 0 (length r)) w.begins (from-mem 0 (length r) w.begins (omega arith) (let h = w.within in omega arith))
+    sym (list_any-map _ _ (from 0 (length r)))
+    ∙ of_list_any (reads r) (from 0 (length r)) w.begins (from-mem 0 (length r) w.begins (omega arith) (let h = w.within in omega arith))
     (eq-same _ (up ∷ right ∷ down ∷ left ∷ []) (ap squeeze runs ∙ runs_squeezed a b c d))
 
 -- ---- a dart's test, in its two cases
@@ -166,7 +167,7 @@ module _ (p : Plan) (ls : List ℕ) where
   keeps : (u : ℕ) → breaks p ls u ≡ false → Keeps u
   unfolding breaks bad_ring not_due
   keeps u e =
-      let (d, r) = or_no (any (bad_dart p ls u) (ring p u)) (bad_ring p ls u) e in
+      let (d, r) = or_no (list_any (bad_dart p ls u) (ring p u)) (bad_ring p ls u) e in
       let dart : (v : ℕ) → adjacent p u v ≡ true → bad_dart p ls u v ≡ false = λ v m. none_of (bad_dart p ls u) (ring p u) d v (adjacent-mem p u v m) in
       record {
         border_dart = λ v m. (dart-says u v (dart v m)).0;
@@ -180,7 +181,7 @@ module _ (p : Plan) (ls : List ℕ) where
   kept : (u : ℕ) → Keeps u → breaks p ls u ≡ false
   unfolding breaks bad_ring not_due
   kept u h =
-      no_or (any (bad_dart p ls u) (ring p u)) (bad_ring p ls u)
+      no_or (list_any (bad_dart p ls u) (ring p u)) (bad_ring p ls u)
       (of_none (bad_dart p ls u) (ring p u) (λ v m. says-dart u v (h.border_dart v (mem-adjacent p u v m)) (h.inner_dart v (mem-adjacent p u v m))))
       (go (ltb u 4) refl)
     where
@@ -188,11 +189,11 @@ module _ (p : Plan) (ls : List ℕ) where
       due-at hu v m true e = refl
       due-at hu v m false e = no-not _ (eq-eqb _ _ (h.border_ring hu v (mem-adjacent p u v m) (ltb-false v 4 e)))
 
-      go : (t : Bool) → ltb u 4 ≡ t → cond t (any (not_due p ls u) (ring p u)) (not (four_runs (labels_around p ls u))) ≡ false
+      go : (t : Bool) → ltb u 4 ≡ t → cond t (list_any (not_due p ls u) (ring p u)) (not (four_runs (labels_around p ls u))) ≡ false
       go true e = of_none (not_due p ls u) (ring p u) (λ v m. due-at (ltb-true u 4 e) v m (ltb v 4) refl)
       go false e = no-not _ (said-runs _ (h.inner_ring (ltb-false u 4 e)))
 
-  each_keeps : Transversal p ls → (u : ℕ) → u < count p → Keeps u
+  each_keeps : Transversal p ls → (u : ℕ) → u < context_count p → Keeps u
   unfolding due
   each_keeps t u h = record {
     border_dart = λ v m hu hv. t.border_darts u v hu hv m;
@@ -208,7 +209,7 @@ module _ (p : Plan) (ls : List ℕ) where
       at-border (suc (suc (suc zero))) hu v m hv = t.border_rings.from_west v m hv
       at-border (suc (suc (suc (suc u)))) hu v m hv = absurd (omega arith)
 
-  keeps-all : ((u : ℕ) → u < count p → Keeps u) → Transversal p ls
+  keeps-all : ((u : ℕ) → u < context_count p → Keeps u) → Transversal p ls
   unfolding due
   keeps-all k = record {
     border_darts = λ u v hu hv m. (k u (adjacent-from p u v m)).border_dart v m hu hv;
@@ -227,6 +228,6 @@ module _ (p : Plan) (ls : List ℕ) where
   pub labels_exactly : (label_rules p ls ≡ passed) ↔ Transversal p ls
   unfolding label_rules
   labels_exactly = (
-    λ e. keeps-all (λ u h. keeps u ((rule-passes 10 (count p) (breaks p ls)).0 e u h)),
-    λ t. (rule-passes 10 (count p) (breaks p ls)).1 (λ u h. kept u (each_keeps t u h)),
+    λ e. keeps-all (λ u h. keeps u ((rule-passes 10 (context_count p) (breaks p ls)).0 e u h)),
+    λ t. (rule-passes 10 (context_count p) (breaks p ls)).1 (λ u h. kept u (each_keeps t u h)),
   )

@@ -11,7 +11,7 @@ use lib.Dec.{eqb, ltb}
 use borrow.Author.Tests.{eqb-true, eqb-false, ltb-true, ltb-false, lt-ltb, le-ltb}
 use Rattle.lists.specs.Tests.{same_list}
 use Rattle.lists.proofs.Tests.{same-eq, same_refl}
-use Rattle.lists.proofs.Counts.{sum, sum_mono, sum_equal, sum_bound, counted, counted-le, counted_mono, counted_strict}
+use Rattle.lists.proofs.Counts.{sum_below, sum_below_mono, sum_below_equal, sum_below_bound, count_below, count_below-le, count_below_mono, count_below_strict}
 use Rattle.model.specs.Outcome.{Outcome, accepted, refused}
 use Rattle.model.specs.Chart.{Constraint, raise, pass, settle, least_numbers}
 use Rattle.model.proofs.Outcomes.{not-both, same-value, same-refusal}
@@ -117,27 +117,27 @@ module _ (cs : List Constraint) where
       go r false q e = r e
 
   -- each pass that changes something adds to the sum, and numbers that meet the constraints bound it
-  settle-refused : (n : ℕ) (d : ℕ → ℕ) → Meets n cs d → (fuel : ℕ) (ks : List ℕ) (k place : ℕ) → length ks ≡ n → Under ks d → settle cs fuel ks ≡ refused k place → sum (at ks) n + fuel ≤ sum d n
+  settle-refused : (n : ℕ) (d : ℕ → ℕ) → Meets n cs d → (fuel : ℕ) (ks : List ℕ) (k place : ℕ) → length ks ≡ n → Under ks d → settle cs fuel ks ≡ refused k place → sum_below (at ks) n + fuel ≤ sum_below d n
   unfolding settle
-  settle-refused n d m zero ks k place l b e = let x = sum_mono (at ks) d n b in omega arith
+  settle-refused n d m zero ks k place l b e = let x = sum_below_mono (at ks) d n b in omega arith
   settle-refused n d m (suc fuel) ks k place l b e =
       go (settle-refused n d m fuel (pass cs ks) k place (pass-length cs ks ∙ l) (pass-under n cs ks d l m b)) (same_list (pass cs ks) ks) refl e
     where
       old : ℕ
-      old = sum (at ks) n
+      old = sum_below (at ks) n
 
       new : ℕ
-      new = sum (at (pass cs ks)) n
+      new = sum_below (at (pass cs ks)) n
 
       grows : same_list (pass cs ks) ks ≡ false → (t : Bool) → ltb old new ≡ t → old < new
       grows q true e = ltb-true old new e
       grows q false e =
-          let same = sum_equal (at ks) (at (pass cs ks)) n (pass_rises cs ks) (ltb-false old new e) in
+          let same = sum_below_equal (at ks) (at (pass cs ks)) n (pass_rises cs ks) (ltb-false old new e) in
           let eq : ks ≡ pass cs ks = ext_get_or 0 ks (pass cs ks) (sym (pass-length cs ks)) (λ u h. same u (omega arith)) in
           absurd (false≢true (sym q ∙ ap (λ (r : List ℕ). same_list r ks) (sym eq) ∙ same_refl ks))
 
-      go : (settle cs fuel (pass cs ks) ≡ refused k place → new + fuel ≤ sum d n) → (t : Bool) → same_list (pass cs ks) ks ≡ t
-          → cond t (accepted ks) (settle cs fuel (pass cs ks)) ≡ refused k place → old + suc fuel ≤ sum d n
+      go : (settle cs fuel (pass cs ks) ≡ refused k place → new + fuel ≤ sum_below d n) → (t : Bool) → same_list (pass cs ks) ks ≡ t
+          → cond t (accepted ks) (settle cs fuel (pass cs ks)) ≡ refused k place → old + suc fuel ≤ sum_below d n
       go r true q e = not-both (sym e)
       go r false q e = let x = grows q (ltb old new) refl in let y = r e in omega arith
 
@@ -155,25 +155,25 @@ module _ (cs : List Constraint) where
 module _ (d : ℕ → ℕ) (n : ℕ) where
   -- how many of the first n + 1 numbers are smaller
   rank : ℕ → ℕ
-  rank u = counted (λ (w : ℕ). ltb (d w) (d u)) (suc n)
+  rank u = count_below (λ (w : ℕ). ltb (d w) (d u)) (suc n)
 
   widen : (u v : ℕ) → d v ≤ d u → (w : ℕ) → ltb (d w) (d v) ≡ true → ltb (d w) (d u) ≡ true
   widen u v h w e = let x = ltb-true (d w) (d v) e in lt-ltb (d w) (d u) (omega arith)
 
   rank_mono : (u v : ℕ) → d v ≤ d u → rank v ≤ rank u
   unfolding rank
-  rank_mono u v h = counted_mono (λ (w : ℕ). ltb (d w) (d v)) (λ (w : ℕ). ltb (d w) (d u)) (suc n) (widen u v h)
+  rank_mono u v h = count_below_mono (λ (w : ℕ). ltb (d w) (d v)) (λ (w : ℕ). ltb (d w) (d u)) (suc n) (widen u v h)
 
   rank_strict : (u v w : ℕ) → w < suc n → d w ≡ d v → d v < d u → rank v < rank u
   unfolding rank
   rank_strict u v w q e h =
-      counted_strict (λ (k : ℕ). ltb (d k) (d v)) (λ (k : ℕ). ltb (d k) (d u)) (suc n) w (widen u v (omega arith)) q (le-ltb (d w) (d v) (omega arith)) (lt-ltb (d w) (d u) (omega arith))
+      count_below_strict (λ (k : ℕ). ltb (d k) (d v)) (λ (k : ℕ). ltb (d k) (d u)) (suc n) w (widen u v (omega arith)) q (le-ltb (d w) (d v) (omega arith)) (lt-ltb (d w) (d u) (omega arith))
 
   rank-le : (u : ℕ) → u < suc n → rank u ≤ n
   unfolding rank
   rank-le u h =
-      let x = counted_strict (λ (w : ℕ). ltb (d w) (d u)) (λ (w : ℕ). true) (suc n) u (λ w e. refl) h (le-ltb (d u) (d u) (omega arith)) refl in
-      let y = counted-le (λ (w : ℕ). true) (suc n) in
+      let x = count_below_strict (λ (w : ℕ). ltb (d w) (d u)) (λ (w : ℕ). true) (suc n) u (λ w e. refl) h (le-ltb (d u) (d u) (omega arith)) refl in
+      let y = count_below-le (λ (w : ℕ). true) (suc n) in
       omega arith
 
 -- ---- the theorem
@@ -277,7 +277,7 @@ module _ (n : ℕ) (cs : List Constraint) where
     least_nowhere k place e ds s =
         let r = fits_low n cs small ds s in
         let x = settle-refused cs n r.low r.low_meets (suc (n * n)) (replicate n 0) k place (length-replicate n 0) (zeros-under n r.low) e in
-        let y = sum_bound r.low n n r.low_most in
+        let y = sum_below_bound r.low n n r.low_most in
         omega arith
 
     -- so there is no solution

@@ -10,14 +10,14 @@ use lib.ListN.{length, get_or}
 use lib.Seq.{ext_get_or}
 use lib.Dec.{eqb}
 use borrow.Author.Tests.{eqb-true, eq-eqb, leb-true, le-leb}
-use Rattle.lists.specs.Tests.{all}
-use Rattle.lists.specs.Parts.{concat}
+use Rattle.std.specs.List.{list_all}
+use Rattle.lists.specs.Parts.{flatten}
 use Rattle.lists.proofs.Bools.{and_yes, yes_and, both}
-use Rattle.lists.proofs.Tests.{all_of, of_all}
+use Rattle.lists.proofs.Tests.{list_all_of, of_list_all}
 use Rattle.lists.proofs.Ranges.{from-mem}
 use Rattle.lists.proofs.Joins.{join_mem, mem_join}
 use Rattle.model.specs.Outcome.{Outcome, accepted, refused, require, ◌>>◌, ◌>>=◌}
-use Rattle.model.specs.Plan.{Plan, Dart, count, contexts, ring, adjacent, darts_from, darts, north, east, south, west}
+use Rattle.model.specs.Plan.{Plan, Dart, context_count, contexts, ring, adjacent, darts_from, darts, north, east, south, west}
 use Rattle.model.specs.Labels.{up, right, label_of}
 use Rattle.model.specs.Chart.{Chart, x, y, Constraint, constraint, meets, x_constraint, y_constraint, x_constraints, y_constraints, is_at, is_placement, AtMost, IsChart, least_numbers, tie, least_placement}
 use Rattle.model.proofs.Outcomes.{not-both, same-value, same-refusal, bind_accepted, bind_refused, then_accepted, require-passed}
@@ -36,7 +36,7 @@ pub darts-mem : (p : Plan) (u v : ℕ) → adjacent p u v ≡ true → Memᴰ {A
 unfolding darts darts_from
 darts-mem p u v e =
     let h = adjacent-from p u v e in
-    join_mem (darts_from p) (contexts p) u (u, v) (from-mem 0 (count p) u (omega arith) (omega arith)) (Memᴰ.map {B = Dart} (λ (w : ℕ). (u, w)) (adjacent-mem p u v e))
+    join_mem (darts_from p) (contexts p) u (u, v) (from-mem 0 (context_count p) u (omega arith) (omega arith)) (Memᴰ.map {B = Dart} (λ (w : ℕ). (u, w)) (adjacent-mem p u v e))
 
 -- ---- the compass rules, one dart at a time
 pub record Compass (s : ℕ) (p : Plan) (ls : List ℕ) (c : Chart) : Type 0 where
@@ -52,11 +52,11 @@ Met ks e = get_or ks e.low 0 + e.gap ≤ get_or ks e.high 0
 abbrev AllMet : List ℕ → List Constraint → Type 0
 AllMet ks cs = (e : Constraint) → Memᴰ e cs → Met ks e
 
-met_test : (ks : List ℕ) (cs : List Constraint) → (all (meets ks) cs ≡ true) ↔ AllMet ks cs
+met_test : (ks : List ℕ) (cs : List Constraint) → (list_all (meets ks) cs ≡ true) ↔ AllMet ks cs
 unfolding meets
 met_test ks cs = (
-  λ t e m. leb-true _ _ (all_of (meets ks) cs t e m),
-  λ h. of_all (meets ks) cs (λ e m. le-leb _ _ (h e m)),
+  λ t e m. leb-true _ _ (list_all_of (meets ks) cs t e m),
+  λ h. of_list_all (meets ks) cs (λ e m. le-leb _ _ (h e m)),
 )
 
 -- ---- what one label asks: a where it is up, b where it is right, else nothing
@@ -87,7 +87,7 @@ module _ (p : Plan) (ls : List ℕ) (a b : Dart → Constraint) where
   asked_of d = asked (label_of p ls d.0 d.1) (a d) (b d)
 
   all_asked : List Constraint
-  all_asked = concat (map asked_of (darts p))
+  all_asked = flatten (map asked_of (darts p))
 
   module _ (P : Constraint → Type 0) where
     asked-all : ((u v : ℕ) → adjacent p u v ≡ true → label_of p ls u v ≡ up → P (a (u, v)))
@@ -152,8 +152,8 @@ module _ (s : ℕ) (p : Plan) (ls : List ℕ) where
 
 -- ---- a placement, rule by rule
 pub record Placed (s : ℕ) (p : Plan) (ls : List ℕ) (c : Chart) : Type 0 where
-  pub count_x : length c.xs ≡ count p
-  pub count_y : length c.ys ≡ count p
+  pub count_x : length c.xs ≡ context_count p
+  pub count_y : length c.ys ≡ context_count p
   pub south_x : x c south ≡ 0
   pub south_y : y c south ≡ 0
   pub west_x : x c west ≡ 0
@@ -176,13 +176,13 @@ module _ (s : ℕ) (p : Plan) (ls : List ℕ) (c : Chart) where
   pub placed : is_placement s p ls c ≡ true → Placed s p ls c
   unfolding is_placement
   placed t₀ =
-      let (t₁, my) = and_yes _ (all (meets c.ys) (y_constraints s p ls)) t₀ in
-      let (t₂, mx) = and_yes _ (all (meets c.xs) (x_constraints s p ls)) t₁ in
+      let (t₁, my) = and_yes _ (list_all (meets c.ys) (y_constraints s p ls)) t₀ in
+      let (t₂, mx) = and_yes _ (list_all (meets c.xs) (x_constraints s p ls)) t₁ in
       let (t₃, te) = and_yes _ (is_at c east c.w 0) t₂ in
       let (t₄, tn) = and_yes _ (is_at c north c.w c.h) t₃ in
       let (t₅, tw) = and_yes _ (is_at c west 0 c.h) t₄ in
       let (t₆, ts) = and_yes _ (is_at c south 0 0) t₅ in
-      let (ty, tx) = and_yes (eqb (length c.xs) (count p)) (eqb (length c.ys) (count p)) t₆ in
+      let (ty, tx) = and_yes (eqb (length c.xs) (context_count p)) (eqb (length c.ys) (context_count p)) t₆ in
       let (se, sf) = at-says south 0 0 ts in
       let (we, wf) = at-says west 0 c.h tw in
       let (ne, nf) = at-says north c.w c.h tn in
@@ -245,23 +245,23 @@ module _ (s : ℕ) (p : Plan) (ls : List ℕ) where
   abbrev y_all : List Constraint
   y_all = tie north west ++ y_constraints s p ls
 
-  solves_x : (d : Chart) → Placed s p ls d → Solves (count p) x_all d.xs
+  solves_x : (d : Chart) → Placed s p ls d → Solves (context_count p) x_all d.xs
   solves_x d k = record { for_all = k.count_x; met = both_met (Met d.xs) (tie north east) (x_constraints s p ls) (tie_met d.xs north east (k.north_x ∙ sym k.east_x)) (compass-x s p ls d k.compass) }
 
-  solves_y : (d : Chart) → Placed s p ls d → Solves (count p) y_all d.ys
+  solves_y : (d : Chart) → Placed s p ls d → Solves (context_count p) y_all d.ys
   solves_y d k = record { for_all = k.count_y; met = both_met (Met d.ys) (tie north west) (y_constraints s p ls) (tie_met d.ys north west (k.north_y ∙ sym k.west_y)) (compass-y s p ls d k.compass) }
 
   abbrev drawn : List ℕ → List ℕ → Chart
   drawn xs ys = record { w = get_or xs north 0; h = get_or ys north 0; xs = xs; ys = ys }
 
-  module _ (xs ys : List ℕ) (ex : least_numbers (count p) x_all ≡ accepted xs) (ey : least_numbers (count p) y_all ≡ accepted ys) (d : Chart) (k : Placed s p ls d) where
+  module _ (xs ys : List ℕ) (ex : least_numbers (context_count p) x_all ≡ accepted xs) (ey : least_numbers (context_count p) y_all ≡ accepted ys) (d : Chart) (k : Placed s p ls d) where
     -- where there is a placement, the least numbers are one
     drawn-placed : Placed s p ls (drawn xs ys)
     drawn-placed =
-        let hx = least_under (count p) x_all xs ex d.xs (solves_x d k) in
-        let hy = least_under (count p) y_all ys ey d.ys (solves_y d k) in
-        let sx = least_solves (count p) x_all xs ex d.xs (solves_x d k) in
-        let sy = least_solves (count p) y_all ys ey d.ys (solves_y d k) in
+        let hx = least_under (context_count p) x_all xs ex d.xs (solves_x d k) in
+        let hy = least_under (context_count p) y_all ys ey d.ys (solves_y d k) in
+        let sx = least_solves (context_count p) x_all xs ex d.xs (solves_x d k) in
+        let sy = least_solves (context_count p) y_all ys ey d.ys (solves_y d k) in
         let zero-x : (u : ℕ) → x d u ≡ 0 → get_or xs u 0 ≡ 0 = λ u e. let h = hx u in omega arith in
         let zero-y : (u : ℕ) → y d u ≡ 0 → get_or ys u 0 ≡ 0 = λ u e. let h = hy u in omega arith in
         record {
@@ -278,10 +278,10 @@ module _ (s : ℕ) (p : Plan) (ls : List ℕ) where
           compass = met_compass s p ls (drawn xs ys) (λ e m. sx.met e (Memᴰ.append_right (tie north east) m)) (λ e m. sy.met e (Memᴰ.append_right (tie north west) m));
         }
 
-    drawn-least : AtMost (count p) (drawn xs ys) d
+    drawn-least : AtMost (context_count p) (drawn xs ys) d
     drawn-least =
-        let hx = least_under (count p) x_all xs ex d.xs (solves_x d k) in
-        let hy = least_under (count p) y_all ys ey d.ys (solves_y d k) in
+        let hx = least_under (context_count p) x_all xs ex d.xs (solves_x d k) in
+        let hy = least_under (context_count p) y_all ys ey d.ys (solves_y d k) in
         let x₀ = hx north in
         let y₀ = hy north in
         let w = k.north_x in
@@ -291,7 +291,7 @@ module _ (s : ℕ) (p : Plan) (ls : List ℕ) where
   -- every refusal is 11 at 0
   pub chart_11 : (k at : ℕ) → least_placement s p ls ≡ refused k at → (k ≡ 11) × (at ≡ 0)
   unfolding least_placement
-  chart_11 k at e = in_x (bind_refused (least_numbers (count p) x_all) _ k at e)
+  chart_11 k at e = in_x (bind_refused (least_numbers (context_count p) x_all) _ k at e)
     where
       rest : List ℕ → List ℕ → Outcome Chart
       rest xs ys = require (is_placement s p ls (drawn xs ys)) 11 0 >> accepted (drawn xs ys)
@@ -300,34 +300,34 @@ module _ (s : ℕ) (p : Plan) (ls : List ℕ) where
       tested true c e = not-both (sym e)
       tested false c e = let (a, b) = same-refusal e in (sym a, sym b)
 
-      in_y : (xs : List ℕ) → (least_numbers (count p) y_all ≡ refused k at) ⊎ ((ys : List ℕ) × (least_numbers (count p) y_all ≡ accepted ys) × (rest xs ys ≡ refused k at)) → (k ≡ 11) × (at ≡ 0)
-      in_y xs (inl r) = least_11 (count p) y_all k at r
+      in_y : (xs : List ℕ) → (least_numbers (context_count p) y_all ≡ refused k at) ⊎ ((ys : List ℕ) × (least_numbers (context_count p) y_all ≡ accepted ys) × (rest xs ys ≡ refused k at)) → (k ≡ 11) × (at ≡ 0)
+      in_y xs (inl r) = least_11 (context_count p) y_all k at r
       in_y xs (inr r) = tested (is_placement s p ls (drawn xs r.0)) (drawn xs r.0) r.2
 
-      in_x : (least_numbers (count p) x_all ≡ refused k at) ⊎ ((xs : List ℕ) × (least_numbers (count p) x_all ≡ accepted xs) × ((least_numbers (count p) y_all >>= rest xs) ≡ refused k at)) → (k ≡ 11) × (at ≡ 0)
-      in_x (inl r) = least_11 (count p) x_all k at r
-      in_x (inr r) = in_y r.0 (bind_refused (least_numbers (count p) y_all) (rest r.0) k at r.2)
+      in_x : (least_numbers (context_count p) x_all ≡ refused k at) ⊎ ((xs : List ℕ) × (least_numbers (context_count p) x_all ≡ accepted xs) × ((least_numbers (context_count p) y_all >>= rest xs) ≡ refused k at)) → (k ≡ 11) × (at ≡ 0)
+      in_x (inl r) = least_11 (context_count p) x_all k at r
+      in_x (inr r) = in_y r.0 (bind_refused (least_numbers (context_count p) y_all) (rest r.0) k at r.2)
 
   -- The chart is a placement, and every number of it is at most that of every placement
   pub chart-is : (c : Chart) → least_placement s p ls ≡ accepted c → IsChart s p ls c
   unfolding least_placement
   chart-is c e =
-      let (xs, ex, e₁) = bind_accepted (least_numbers (count p) x_all) _ c e in
-      let (ys, ey, e₂) = bind_accepted (least_numbers (count p) y_all) _ c e₁ in
+      let (xs, ex, e₁) = bind_accepted (least_numbers (context_count p) x_all) _ c e in
+      let (ys, ey, e₂) = bind_accepted (least_numbers (context_count p) y_all) _ c e₁ in
       let (t, q) = then_accepted (require (is_placement s p ls (drawn xs ys)) 11 0) _ c e₂ in
       subst (IsChart s p ls) (same-value q) (record { keeps = require-passed _ 11 0 t; least = λ d k. drawn-least xs ys ex ey d (placed s p ls d k) })
 
   -- and it is refused only where there is no placement
   pub chart-none : s ≤ 1 → (k at : ℕ) → least_placement s p ls ≡ refused k at → (d : Chart) → is_placement s p ls d ≡ true → ⊥
   unfolding least_placement
-  chart-none low k at e d t = go (least_numbers (count p) x_all) refl (least_numbers (count p) y_all) refl
+  chart-none low k at e d t = go (least_numbers (context_count p) x_all) refl (least_numbers (context_count p) y_all) refl
     where
       kept : Placed s p ls d
       kept = placed s p ls d t
 
-      go : (a : Outcome (List ℕ)) → least_numbers (count p) x_all ≡ a → (b : Outcome (List ℕ)) → least_numbers (count p) y_all ≡ b → ⊥
-      go (refused i j) q b r = least-none (count p) x_all (both_met (λ e. e.gap ≤ 1) (tie north east) (x_constraints s p ls) (tie_gaps north east) (gaps_x s p ls low)) i j q d.xs (solves_x d kept)
-      go (accepted xs) q (refused i j) r = least-none (count p) y_all (both_met (λ e. e.gap ≤ 1) (tie north west) (y_constraints s p ls) (tie_gaps north west) (gaps_y s p ls low)) i j r d.ys (solves_y d kept)
+      go : (a : Outcome (List ℕ)) → least_numbers (context_count p) x_all ≡ a → (b : Outcome (List ℕ)) → least_numbers (context_count p) y_all ≡ b → ⊥
+      go (refused i j) q b r = least-none (context_count p) x_all (both_met (λ e. e.gap ≤ 1) (tie north east) (x_constraints s p ls) (tie_gaps north east) (gaps_x s p ls low)) i j q d.xs (solves_x d kept)
+      go (accepted xs) q (refused i j) r = least-none (context_count p) y_all (both_met (λ e. e.gap ≤ 1) (tie north west) (y_constraints s p ls) (tie_gaps north west) (gaps_y s p ls low)) i j r d.ys (solves_y d kept)
       go (accepted xs) q (accepted ys) r =
           let f : is_placement s p ls (drawn xs ys) ≡ true = is-placed s p ls (drawn xs ys) (drawn-placed xs ys q r d kept) in
           not-both (sym (rw (q, r, f) at e))

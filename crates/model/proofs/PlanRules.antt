@@ -10,26 +10,27 @@ use lib.ListN.{length, get_or}
 use lib.Seq.{slice}
 use lib.Dec.{eqb, leb, ltb}
 use borrow.Author.Tests.{eqb-true, eqb-false, eq-eqb, ne_eqb, leb-false, lt-leb, ltb-true, ltb-false, not-true, not-false}
-use Rattle.lists.specs.Tests.{any, member, repeats}
+use Rattle.std.specs.List.{list_any}
+use Rattle.lists.specs.Tests.{member, repeats}
 use Rattle.lists.proofs.Bools.{or_no, no_or, and_yes, yes_and, no-not, yes-not}
-use Rattle.lists.proofs.Tests.{none_of, of_none, any-map}
+use Rattle.lists.proofs.Tests.{none_of, of_none, list_any-map}
 use Rattle.lists.proofs.Members.{first_last}
 use Rattle.model.specs.Outcome.{Outcome, passed, ◌>>◌, rule, require}
-use Rattle.model.specs.Plan.{Plan, Dart, count, ring, adjacent, darts_from, outer, closes, bad_entry, bad_repeat, unreturned, entry_count, dart_count, bad_border, bad_face, plan_rules}
+use Rattle.model.specs.Plan.{Plan, Dart, context_count, ring, adjacent, darts_from, outer, closes, bad_entry, bad_repeat, unreturned, entry_count, dart_count, bad_border, bad_face, plan_rules}
 use Rattle.model.proofs.Outcomes.{then_accepted, passed_then, require-passed, passed-require, rule-passes}
 use Rattle.model.proofs.Plans.{ring_outside, adjacent-mem, mem-adjacent, adjacent-from}
 
 -- What the plan rules say
 pub record Sound (p : Plan) : Type 0 where
   -- 4: neighbours are contexts, and no context is its own neighbour
-  pub inside : (u v : ℕ) → adjacent p u v ≡ true → v < count p
+  pub inside : (u v : ℕ) → adjacent p u v ≡ true → v < context_count p
   pub other : (u v : ℕ) → adjacent p u v ≡ true → u ≢ v
   -- 5: no ring repeats an entry
   pub no_repeat : (u : ℕ) → repeats (ring p u) ≡ false
   -- 6: whoever is listed lists back
   pub returned : (u v : ℕ) → adjacent p u v ≡ true → adjacent p v u ≡ true
   -- 7: all rings together have 6n − 14 entries
-  pub total : entry_count p ≡ dart_count (count p)
+  pub total : entry_count p ≡ dart_count (context_count p)
   -- 8: a border ring begins with the next border context, ends with the one before, and lacks the one across
   pub begins : (u : ℕ) → u < 4 → get_or (ring p u) 0 u ≡ (u + 1) % 4
   pub ends : (u : ℕ) → u < 4 → get_or (ring p u) (length (ring p u) - 1) u ≡ (u + 3) % 4
@@ -38,25 +39,25 @@ pub record Sound (p : Plan) : Type 0 where
   pub closed : (u v : ℕ) → adjacent p u v ≡ true → outer (u, v) ≡ false → closes p (u, v) ≡ true
 
 module _ (p : Plan) where
-  repeats_outside : (u : ℕ) → ((w : ℕ) → w < count p → repeats (ring p w) ≡ false) → repeats (ring p u) ≡ false
-  repeats_outside u h = go (ltb u (count p)) refl
+  repeats_outside : (u : ℕ) → ((w : ℕ) → w < context_count p → repeats (ring p w) ≡ false) → repeats (ring p u) ≡ false
+  repeats_outside u h = go (ltb u (context_count p)) refl
     where
-      go : (t : Bool) → ltb u (count p) ≡ t → repeats (ring p u) ≡ false
-      go true q = h u (ltb-true u (count p) q)
-      go false q = subst (λ (r : List ℕ). repeats r ≡ false) (sym (ring_outside p u (ltb-false u (count p) q))) refl
+      go : (t : Bool) → ltb u (context_count p) ≡ t → repeats (ring p u) ≡ false
+      go true q = h u (ltb-true u (context_count p) q)
+      go false q = subst (λ (r : List ℕ). repeats r ≡ false) (sym (ring_outside p u (ltb-false u (context_count p) q))) refl
 
   -- each rule, for one context
-  entry-says : (u v : ℕ) → bad_entry p u ≡ false → adjacent p u v ≡ true → (v < count p) × (u ≢ v)
+  entry-says : (u v : ℕ) → bad_entry p u ≡ false → adjacent p u v ≡ true → (v < context_count p) × (u ≢ v)
   unfolding bad_entry
   entry-says u v b e =
-      let (h, k) = or_no (leb (count p) v) (eqb v u) (none_of (λ (w : ℕ). leb (count p) w || eqb w u) (ring p u) b v (adjacent-mem p u v e)) in
-      (leb-false (count p) v h, λ q. eqb-false v u k (sym q))
+      let (h, k) = or_no (leb (context_count p) v) (eqb v u) (none_of (λ (w : ℕ). leb (context_count p) w || eqb w u) (ring p u) b v (adjacent-mem p u v e)) in
+      (leb-false (context_count p) v h, λ q. eqb-false v u k (sym q))
 
-  pub says-entry : (u : ℕ) → ((v : ℕ) → adjacent p u v ≡ true → v < count p) → ((v : ℕ) → adjacent p u v ≡ true → u ≢ v) → bad_entry p u ≡ false
+  pub says-entry : (u : ℕ) → ((v : ℕ) → adjacent p u v ≡ true → v < context_count p) → ((v : ℕ) → adjacent p u v ≡ true → u ≢ v) → bad_entry p u ≡ false
   unfolding bad_entry
   says-entry u h k =
-      of_none (λ (w : ℕ). leb (count p) w || eqb w u) (ring p u)
-      (λ v m. no_or (leb (count p) v) (eqb v u) (lt-leb (count p) v (h v (mem-adjacent p u v m))) (ne_eqb v u (λ q. k v (mem-adjacent p u v m) (sym q))))
+      of_none (λ (w : ℕ). leb (context_count p) w || eqb w u) (ring p u)
+      (λ v m. no_or (leb (context_count p) v) (eqb v u) (lt-leb (context_count p) v (h v (mem-adjacent p u v m))) (ne_eqb v u (λ q. k v (mem-adjacent p u v m) (sym q))))
 
   return_says : (u v : ℕ) → unreturned p u ≡ false → adjacent p u v ≡ true → adjacent p v u ≡ true
   unfolding unreturned
@@ -97,13 +98,13 @@ module _ (p : Plan) where
   face_says : (u v : ℕ) → bad_face p u ≡ false → adjacent p u v ≡ true → outer (u, v) ≡ false → closes p (u, v) ≡ true
   unfolding bad_face darts_from
   face_says u v b e o =
-      let none : any (open_face u) (ring p u) ≡ false = any-map (λ (d : Dart). not (outer d || closes p d)) (λ (w : ℕ). (u, w)) (ring p u) ∙ b in
+      let none : list_any (open_face u) (ring p u) ≡ false = list_any-map (λ (d : Dart). not (outer d || closes p d)) (λ (w : ℕ). (u, w)) (ring p u) ∙ b in
       let one : (outer (u, v) || closes p (u, v)) ≡ true = not-false (outer (u, v) || closes p (u, v)) (none_of (open_face u) (ring p u) none v (adjacent-mem p u v e)) in
       rw o at one
 
   says_face : (u : ℕ) → ((v : ℕ) → adjacent p u v ≡ true → outer (u, v) ≡ false → closes p (u, v) ≡ true) → bad_face p u ≡ false
   unfolding bad_face darts_from
-  says_face u h = sym (any-map (λ (d : Dart). not (outer d || closes p d)) (λ (w : ℕ). (u, w)) (ring p u)) ∙ of_none (open_face u) (ring p u) (λ v m. go v (mem-adjacent p u v m) (outer (u, v)) refl)
+  says_face u h = sym (list_any-map (λ (d : Dart). not (outer d || closes p d)) (λ (w : ℕ). (u, w)) (ring p u)) ∙ of_none (open_face u) (ring p u) (λ v m. go v (mem-adjacent p u v m) (outer (u, v)) refl)
     where
       go : (v : ℕ) → adjacent p u v ≡ true → (t : Bool) → outer (u, v) ≡ t → open_face u v ≡ false
       go v e true o = rw o
@@ -111,22 +112,22 @@ module _ (p : Plan) where
 
   -- the rules from the k-th on
   abbrev from8 : Outcome (Unit {0})
-  from8 = rule 8 4 (bad_border p) >> rule 9 (count p) (bad_face p)
+  from8 = rule 8 4 (bad_border p) >> rule 9 (context_count p) (bad_face p)
 
   abbrev from7 : Outcome (Unit {0})
-  from7 = require (eqb (entry_count p) (dart_count (count p))) 7 0 >> from8
+  from7 = require (eqb (entry_count p) (dart_count (context_count p))) 7 0 >> from8
 
   abbrev from6 : Outcome (Unit {0})
-  from6 = rule 6 (count p) (unreturned p) >> from7
+  from6 = rule 6 (context_count p) (unreturned p) >> from7
 
   abbrev from5 : Outcome (Unit {0})
-  from5 = rule 5 (count p) (bad_repeat p) >> from6
+  from5 = rule 5 (context_count p) (bad_repeat p) >> from6
 
   -- The rules pass exactly where what they say holds
   pub sound : plan_rules p ≡ passed → Sound p
   unfolding plan_rules bad_repeat
   sound e =
-      let n = count p in
+      let n = context_count p in
       let (r₄, e₅) = then_accepted (rule 4 n (bad_entry p)) from5 tt e in
       let (r₅, e₆) = then_accepted (rule 5 n (bad_repeat p)) from6 tt e₅ in
       let (r₆, e₇) = then_accepted (rule 6 n (unreturned p)) from7 tt e₆ in
@@ -149,7 +150,7 @@ module _ (p : Plan) where
   pub sound-passes : Sound p → plan_rules p ≡ passed
   unfolding plan_rules bad_repeat
   sound-passes s =
-      let n = count p in
+      let n = context_count p in
       let r₄ = (rule-passes 4 n (bad_entry p)).1 (λ u h. says-entry u (s.inside u) (s.other u)) in
       let r₅ = (rule-passes 5 n (bad_repeat p)).1 (λ u h. s.no_repeat u) in
       let r₆ = (rule-passes 6 n (unreturned p)).1 (λ u h. says_return u (s.returned u)) in

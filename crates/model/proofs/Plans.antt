@@ -12,10 +12,10 @@ use Rattle.lists.specs.Parts.{index_of}
 use Rattle.lists.proofs.Bools.{and_yes}
 use Rattle.lists.proofs.Members.{mem-take, mem-drop}
 use Rattle.lists.proofs.Tests.{mem-member, member-mem}
-use Rattle.model.specs.Plan.{Plan, Dart, count, neighbour, entries, ring, adjacent, onward, next, outer}
+use Rattle.model.specs.Plan.{Plan, Dart, context_count, neighbour, entries, ring, adjacent, onward, next, outer}
 
 -- past the last context rings are empty
-pub ring_outside : (p : Plan) (u : ℕ) → count p ≤ u → ring p u ≡ []
+pub ring_outside : (p : Plan) (u : ℕ) → context_count p ≤ u → ring p u ≡ []
 unfolding ring entries
 ring_outside p u h = ap (map neighbour) (get_or-eq_default p.rings [] h)
 
@@ -29,12 +29,12 @@ unfolding adjacent
 mem-adjacent p u v m = mem-member v (ring p u) m
 
 -- a context that has a neighbour is one of the n
-pub adjacent-from : (p : Plan) (u v : ℕ) → adjacent p u v ≡ true → u < count p
-adjacent-from p u v e = go (ltb u (count p)) refl
+pub adjacent-from : (p : Plan) (u v : ℕ) → adjacent p u v ≡ true → u < context_count p
+adjacent-from p u v e = go (ltb u (context_count p)) refl
   where
-    go : (t : Bool) → ltb u (count p) ≡ t → u < count p
-    go true q = ltb-true u (count p) q
-    go false q = absurd (Memᴰ.not-nil (subst (Memᴰ v) (ring_outside p u (ltb-false u (count p) q)) (adjacent-mem p u v e)))
+    go : (t : Bool) → ltb u (context_count p) ≡ t → u < context_count p
+    go true q = ltb-true u (context_count p) q
+    go false q = absurd (Memᴰ.not-nil (subst (Memᴰ v) (ring_outside p u (ltb-false u (context_count p) q)) (adjacent-mem p u v e)))
 
 -- ---- the four outer darts
 pub outer-says : (d : Dart) → outer d ≡ true → (d.0 < 4) × (d.1 ≡ (d.0 + 1) % 4)

@@ -8,16 +8,17 @@ use mathlib.Core.Logic.{◌⊎◌, inl, inr, ◌↔◌}
 use native.Mathlib.Omega.{arith}
 use lib.ListN.{length, get_or, take, drop, length-append}
 use borrow.Author.Tests.{not-true}
-use Rattle.lists.specs.Tests.{any, all, empty, member, repeats}
+use Rattle.std.specs.List.{list_any, list_all}
+use Rattle.lists.specs.Tests.{is_empty, member, repeats}
 use Rattle.lists.specs.Ranges.{from}
-use Rattle.lists.specs.Parts.{concat, index_of, squeeze}
+use Rattle.lists.specs.Parts.{flatten, index_of, squeeze}
 use Rattle.lists.proofs.Bools.{or_no, and_yes}
 use Rattle.lists.proofs.Tests.{repeats-append}
-use Rattle.lists.proofs.Counts.{counted-le, length-counted}
+use Rattle.lists.proofs.Counts.{count_below-le, length-count_below}
 use Rattle.lists.proofs.Joins.{mem_join}
 use Rattle.lists.proofs.Members.{mem-take, mem-drop, mem-reverse, mem-before, mem-squeeze, repeats-reverse}
 use Rattle.model.specs.Outcome.{Outcome, accepted, refused, passed, ◌>>=◌, ◌>>◌, rule}
-use Rattle.model.specs.Plan.{Plan, count, ring, onward, between, border, north, east, west, plan_rules}
+use Rattle.model.specs.Plan.{Plan, context_count, ring, onward, strictly_between, border, north, east, west, plan_rules}
 use Rattle.model.specs.Labels.{label_rules, breaks}
 use Rattle.model.specs.Sweep.{State, top, first_state, below, finished, finish, listed, replaced, chordless, eligible, choices, choose, advance, sweep_from, sweep}
 use Rattle.model.proofs.Outcomes.{not-both, same-refusal, bind_refused, rule_refuses}
@@ -43,24 +44,24 @@ pub record Stuck (p : Plan) (s : State) : Type 0 where
 
 -- What is seen are contexts, none twice
 pub record Sane (p : Plan) (s : State) : Type 0 where
-  pub inside : (a : ℕ) → Memᴰ a s.seen → a < count p
+  pub inside : (a : ℕ) → Memᴰ a s.seen → a < context_count p
   pub once : repeats s.seen ≡ false
 
 -- The two ways in which the sweep ends
 abbrev pub Ends : Plan → Outcome (List ℕ) → Type 0
 Ends p o = ((s : State) × Finished p s × (o ≡ accepted (finish p s))) ⊎ ((s : State) × Stuck p s × (o ≡ refused 14 0))
 
-nonempty : (l m : List ℕ) → not (empty l) ≡ true → 0 < length (squeeze (l ++ m))
+nonempty : (l m : List ℕ) → not (is_empty l) ≡ true → 0 < length (squeeze (l ++ m))
 nonempty [] m e = absurd (false≢true e)
 nonempty (a ∷ l) m e = omega arith
 
 module _ (p : Plan) where
   abbrev something : List ℕ → ℕ → Bool
-  something f k = not (empty (below p f k))
+  something f k = not (is_empty (below p f k))
 
   -- the whole sweep, before the label rules are tested
   abbrev swept : Outcome (List ℕ)
-  swept = sweep_from p (count p) (first_state p)
+  swept = sweep_from p (context_count p) (first_state p)
 
   -- what a step does
   at_end : (fuel : ℕ) (s : State) → finished p s.frontier ≡ true → sweep_from p (suc fuel) s ≡ accepted (finish p s)
@@ -76,54 +77,54 @@ module _ (p : Plan) where
   no_step fuel s u n = rw (u, none-taken p s n)
 
   -- something is listed between positions that are two apart
-  listed-some : (f : List ℕ) (i j : ℕ) → i + 2 ≤ j → all (something f) (from (suc i) (j - suc i)) ≡ true → 0 < length (listed p f i j)
+  listed-some : (f : List ℕ) (i j : ℕ) → i + 2 ≤ j → list_all (something f) (from (suc i) (j - suc i)) ≡ true → 0 < length (listed p f i j)
   unfolding listed
   listed-some f i j h e = go (j - suc i) refl e
     where
-      go : (m : ℕ) → j - suc i ≡ m → all (something f) (from (suc i) m) ≡ true → 0 < length (squeeze (concat (map (below p f) (from (suc i) m))))
+      go : (m : ℕ) → j - suc i ≡ m → list_all (something f) (from (suc i) m) ≡ true → 0 < length (squeeze (flatten (map (below p f) (from (suc i) m))))
       go zero q e = absurd (omega arith)
-      go (suc m) q e = nonempty (below p f (suc i)) (concat (map (below p f) (from (suc (suc i)) m))) (and_yes (something f (suc i)) (all (something f) (from (suc (suc i)) m)) e).0
+      go (suc m) q e = nonempty (below p f (suc i)) (flatten (map (below p f) (from (suc (suc i)) m))) (and_yes (something f (suc i)) (list_all (something f) (from (suc (suc i)) m)) e).0
 
   -- what an eligible pair lists: something, all of it new, nothing twice
   record News (s : State) (l : List ℕ) : Type 0 where
     some : 0 < length l
     once : repeats l ≡ false
-    new : any (λ (c : ℕ). member c s.seen) l ≡ false
+    new : list_any (λ (c : ℕ). member c s.seen) l ≡ false
 
   eligible-news : (s : State) (i j : ℕ) → i + 2 ≤ j → eligible p s i j ≡ true → News s (listed p s.frontier i j)
   unfolding eligible
   eligible-news s i j h e =
       let f = s.frontier in
       let l = listed p f i j in
-      let new = any (λ (c : ℕ). member c s.seen) l in
-      let full = all (something f) (from (suc i) (j - suc i)) in
-      let bad = repeats l || any border l || new in
+      let new = list_any (λ (c : ℕ). member c s.seen) l in
+      let full = list_all (something f) (from (suc i) (j - suc i)) in
+      let bad = repeats l || list_any border l || new in
       let (a, b) = and_yes full (not bad) (and_yes (full && not bad) (chordless p (replaced f i j l)) e).0 in
-      let (c, d) = or_no (repeats l || any border l) new (not-true bad b) in
-      record { some = listed-some f i j h a; once = (or_no (repeats l) (any border l) c).0; new = d }
+      let (c, d) = or_no (repeats l || list_any border l) new (not-true bad b) in
+      record { some = listed-some f i j h a; once = (or_no (repeats l) (list_any border l) c).0; new = d }
 
   module _ (r : Sound p) where
-    pub ring-inside : (u a : ℕ) → Memᴰ a (ring p u) → a < count p
+    pub ring-inside : (u a : ℕ) → Memᴰ a (ring p u) → a < context_count p
     ring-inside u a m = r.inside u a (mem-adjacent p u a m)
 
-    below-inside : (f : List ℕ) (k a : ℕ) → Memᴰ a (below p f k) → a < count p
-    unfolding below between onward
+    below-inside : (f : List ℕ) (k a : ℕ) → Memᴰ a (below p f k) → a < context_count p
+    unfolding below strictly_between onward
     below-inside f k a m =
         let u = get_or f k 0 in
         let x = get_or f (suc k) 0 in
         let y = get_or f (k - 1) 0 in
         let c = ring p u in
-        go u (index_of x c) (Memᴰ.append_cases (drop (suc (index_of x c)) c) (mem-before y (onward x c) a (mem-reverse (between x y c) a m)))
+        go u (index_of x c) (Memᴰ.append_cases (drop (suc (index_of x c)) c) (mem-before y (onward x c) a (mem-reverse (strictly_between x y c) a m)))
       where
-        go : (u k : ℕ) → Memᴰ a (drop (suc k) (ring p u)) ⊎ Memᴰ a (take k (ring p u)) → a < count p
+        go : (u k : ℕ) → Memᴰ a (drop (suc k) (ring p u)) ⊎ Memᴰ a (take k (ring p u)) → a < context_count p
         go u k (inl m) = ring-inside u a (mem-drop (suc k) (ring p u) a m)
         go u k (inr m) = ring-inside u a (mem-take k (ring p u) a m)
 
-    listed-inside : (f : List ℕ) (i j a : ℕ) → Memᴰ a (listed p f i j) → a < count p
+    listed-inside : (f : List ℕ) (i j a : ℕ) → Memᴰ a (listed p f i j) → a < context_count p
     unfolding listed
     listed-inside f i j a m =
         let ks = from (suc i) (j - suc i) in
-        let (k, n, h) = mem_join (below p f) ks a (mem-squeeze (concat (map (below p f) ks)) a m) in
+        let (k, n, h) = mem_join (below p f) ks a (mem-squeeze (flatten (map (below p f) ks)) a m) in
         below-inside f k a h
 
     -- West, North's inner neighbours, East: North's ring in reverse
@@ -148,7 +149,7 @@ module _ (p : Plan) where
         let n = eligible-news s i j c.positions.apart c.fits in
         record { inside = λ a m. go a (Memᴰ.append_cases l m); once = repeats-append l s.seen n.once h.once n.new }
       where
-        go : (a : ℕ) → Memᴰ a (listed p s.frontier i j) ⊎ Memᴰ a s.seen → a < count p
+        go : (a : ℕ) → Memᴰ a (listed p s.frontier i j) ⊎ Memᴰ a s.seen → a < context_count p
         go a (inl m) = listed-inside s.frontier i j a m
         go a (inr m) = h.inside a m
 
@@ -157,11 +158,11 @@ module _ (p : Plan) where
     sane s (further t i j q u c) = sane_further t i j (sane t q) c
 
     -- so at most n are seen, and each step adds to them
-    pub seen-short : (s : State) → Reached p s → length s.seen ≤ count p
+    pub seen-short : (s : State) → Reached p s → length s.seen ≤ context_count p
     seen-short s q =
         let h = sane s q in
-        let x = length-counted (count p) s.seen h.once h.inside in
-        let y = counted-le (λ (w : ℕ). member w s.seen) (count p) in
+        let x = length-count_below (context_count p) s.seen h.once h.inside in
+        let y = count_below-le (λ (w : ℕ). member w s.seen) (context_count p) in
         omega arith
 
     seen_grows : (s : State) (i j : ℕ) → Chosen p s i j → length s.seen < length (advance p s i j).seen
@@ -177,7 +178,7 @@ module _ (p : Plan) where
 
     -- more steps are left than contexts not seen
     abbrev Enough : ℕ → State → Type 0
-    Enough fuel s = count p < length s.seen + fuel
+    Enough fuel s = context_count p < length s.seen + fuel
 
     -- the sweep from a state that is reached ends finished or stuck
     ends : (fuel : ℕ) (s : State) → Reached p s → Enough fuel s → Ends p (sweep_from p fuel s)
@@ -195,7 +196,7 @@ module _ (p : Plan) where
 
     -- the sweep passes through every state that is reached, with steps enough left
     passes : (s : State) → Reached p s → (fuel : ℕ) × Enough fuel s × (swept ≡ sweep_from p fuel s)
-    passes s first = (count p, (let x = first_some in omega arith), refl)
+    passes s first = (context_count p, (let x = first_some in omega arith), refl)
     passes s (further t i j q u c) = let (fuel, h, e) = passes t q in go fuel h e
       where
         go : (fuel : ℕ) → Enough fuel t → swept ≡ sweep_from p fuel t
@@ -212,11 +213,11 @@ module _ (p : Plan) where
 
   module _ (rules : plan_rules p ≡ passed) where
     -- n steps are enough: the sweep ends finished or stuck
-    pub sweep_ends : Ends p (sweep_from p (count p) (first_state p))
-    sweep_ends = let r = sound p rules in ends r (count p) (first_state p) first (let x = first_some r in omega arith)
+    pub sweep_ends : Ends p (sweep_from p (context_count p) (first_state p))
+    sweep_ends = let r = sound p rules in ends r (context_count p) (first_state p) first (let x = first_some r in omega arith)
 
     -- It refuses exactly where a stuck state is reached, and then with 14 at 0
-    pub stuck_exactly : (k at : ℕ) → (sweep_from p (count p) (first_state p) ≡ refused k at) ↔ ((k ≡ 14) × (at ≡ 0) × (s : State) × Stuck p s)
+    pub stuck_exactly : (k at : ℕ) → (sweep_from p (context_count p) (first_state p) ≡ refused k at) ↔ ((k ≡ 14) × (at ≡ 0) × (s : State) × Stuck p s)
     stuck_exactly k at = (go sweep_ends, back)
       where
         back : ((k ≡ 14) × (at ≡ 0) × (s : State) × Stuck p s) → swept ≡ refused k at
@@ -232,15 +233,15 @@ module _ (p : Plan) where
     refusal_14 at = (λ e. go (bind_refused swept tested 14 at e), back)
       where
         tested : List ℕ → Outcome (List ℕ)
-        tested ls = rule 10 (count p) (breaks p ls) >> accepted ls
+        tested ls = rule 10 (context_count p) (breaks p ls) >> accepted ls
 
         back : ((at ≡ 0) × (s : State) × Stuck p s) → (swept >>= tested) ≡ refused 14 at
         back h = ap (λ (o : Outcome (List ℕ)). o >>= tested) ((stuck_exactly 14 at).1 (refl, h.0, h.1, h.2))
 
-        not_10 : (ls : List ℕ) (o : Outcome (Unit {0})) → rule 10 (count p) (breaks p ls) ≡ o → (o >> accepted ls) ≡ refused 14 at → ⊥
+        not_10 : (ls : List ℕ) (o : Outcome (Unit {0})) → rule 10 (context_count p) (breaks p ls) ≡ o → (o >> accepted ls) ≡ refused 14 at → ⊥
         not_10 ls (accepted t) q e = not-both (sym e)
-        not_10 ls (refused k place) q e = let x : k ≡ 14 = (same-refusal e).0 in let y = ((rule_refuses 10 (count p) (breaks p ls) k place).0 q).0 in omega arith
+        not_10 ls (refused k place) q e = let x : k ≡ 14 = (same-refusal e).0 in let y = ((rule_refuses 10 (context_count p) (breaks p ls) k place).0 q).0 in omega arith
 
         go : (swept ≡ refused 14 at) ⊎ ((ls : List ℕ) × (swept ≡ accepted ls) × (tested ls ≡ refused 14 at)) → (at ≡ 0) × (s : State) × Stuck p s
         go (inl e) = let (a, b, s, f) = (stuck_exactly 14 at).0 e in (b, s, f)
-        go (inr h) = absurd (not_10 h.0 (rule 10 (count p) (breaks p h.0)) refl h.2)
+        go (inr h) = absurd (not_10 h.0 (rule 10 (context_count p) (breaks p h.0)) refl h.2)

@@ -1,7 +1,7 @@
 -- The calls on a sheet: open, offer, sweep, turn, chart, write, scan, same, ring. The stage comes first, then the order of 01's table.
 use Rattle.std.specs.Prelude.{ℕ, ◌*◌, List, [], ◌++◌, Bool, ◌&&◌, length, take, drop, eqb, ltb, leb, Option}
 use Rattle.model.specs.Outcome.{Outcome, accepted, refused, passed, ◌>>=◌, ◌>>◌, mapped, require}
-use Rattle.model.specs.Plan.{Plan, count, entries, labels_due, plan_rules}
+use Rattle.model.specs.Plan.{Plan, context_count, entries, labels_due, plan_rules}
 use Rattle.model.specs.Labels.{start, label_rules}
 use Rattle.model.specs.Chart.{Chart, chart, same_chart}
 use Rattle.model.specs.Sweep.{sweep}
@@ -21,25 +21,25 @@ stage (labelled p ls) = LABELLED
 stage (charted p ls c) = CHARTED
 
 -- OPEN up: the plan; 13 where the stage is too early
-unfoldable pub plan_of : Sheet → Outcome Plan
-plan_of fresh = refused 13 0
-plan_of (opened p) = accepted p
-plan_of (labelled p ls) = accepted p
-plan_of (charted p ls c) = accepted p
+unfoldable pub require_plan : Sheet → Outcome Plan
+require_plan fresh = refused 13 0
+require_plan (opened p) = accepted p
+require_plan (labelled p ls) = accepted p
+require_plan (charted p ls c) = accepted p
 
 -- LABELLED up: plan and labels
-unfoldable pub labels_of : Sheet → Outcome (Plan × List ℕ)
-labels_of fresh = refused 13 0
-labels_of (opened p) = refused 13 0
-labels_of (labelled p ls) = accepted (p, ls)
-labels_of (charted p ls c) = accepted (p, ls)
+unfoldable pub require_labels : Sheet → Outcome (Plan × List ℕ)
+require_labels fresh = refused 13 0
+require_labels (opened p) = refused 13 0
+require_labels (labelled p ls) = accepted (p, ls)
+require_labels (charted p ls c) = accepted (p, ls)
 
 -- CHARTED: plan and chart
-unfoldable pub chart_of : Sheet → Outcome (Plan × Chart)
-chart_of fresh = refused 13 0
-chart_of (opened p) = refused 13 0
-chart_of (labelled p ls) = refused 13 0
-chart_of (charted p ls c) = accepted (p, c)
+unfoldable pub require_chart : Sheet → Outcome (Plan × Chart)
+require_chart fresh = refused 13 0
+require_chart (opened p) = refused 13 0
+require_chart (labelled p ls) = refused 13 0
+require_chart (charted p ls c) = accepted (p, c)
 
 -- what an opened file must keep: 4 to 9, 10, then for a chart 11 and 12
 unfoldable pub judge : Sheet → Outcome (Unit {0})
@@ -65,28 +65,28 @@ offered p ls = do
 -- offer, sweep and turn (LABELLED afterwards, the chart dropped)
 unfoldable pub offer_call : Sheet → List ℕ → Outcome Sheet
 offer_call s ls = do
-  p ← plan_of s
+  p ← require_plan s
   ms ← offered p ls
   accepted (labelled p ms)
 
 -- sweep works out labels
 unfoldable pub sweep_call : Sheet → Outcome Sheet
 sweep_call s = do
-  p ← plan_of s
+  p ← require_plan s
   ms ← sweep p
   accepted (labelled p ms)
 
 -- turn changes the labels of named edges
 unfoldable pub turn_call : Sheet → List ℕ → ℕ → Outcome Sheet
 turn_call s items direction = do
-  (p, ls) ← labels_of s
+  (p, ls) ← require_labels s
   ms ← turn p ls items direction
   accepted (labelled p ms)
 
 -- chart stores the chart
 unfoldable pub chart_call : Sheet → Outcome Sheet
 chart_call s = do
-  (p, ls) ← labels_of s
+  (p, ls) ← require_labels s
   c ← chart p ls
   accepted (charted p ls c)
 
@@ -95,20 +95,20 @@ unfoldable pub write_call : Sheet → List ℕ → Outcome (ℕ × List ℕ)
 write_call s buffer =
     let b = encode s in
     do
-      p ← plan_of s
+      p ← require_plan s
       require (leb (length b) (length buffer)) 16 (length b)
       accepted (length b, b ++ drop (length b) buffer)
 
 -- scan names the smallest triple, or says that there is none
 unfoldable pub scan_call : Sheet → Outcome (Option Triple)
-scan_call s = mapped scan (plan_of s)
+scan_call s = mapped scan (require_plan s)
 
 -- same says yes exactly when n, w, h and all points are equal
 unfoldable pub same_call : Sheet → Sheet → Outcome Bool
 same_call s t = do
-  (p, c) ← chart_of s
-  (q, d) ← chart_of t
-  accepted (eqb (count p) (count q) && same_chart c d)
+  (p, c) ← require_chart s
+  (q, d) ← require_chart t
+  accepted (eqb (context_count p) (context_count q) && same_chart c d)
 
 -- where the body of u's ring begins in the file
 unfoldable pub ring_start : Plan → ℕ → ℕ
@@ -118,8 +118,8 @@ ring_start p u = entry_offset u (start p u)
 unfoldable pub ring_call : List ℕ → ℕ → Outcome (ℕ × ℕ)
 ring_call b u = do
   s ← open_call b
-  p ← plan_of s
-  require (ltb u (count p)) 17 (count p)
+  p ← require_plan s
+  require (ltb u (context_count p)) 17 (context_count p)
   accepted (ring_start p u, 2 * length (entries p u))
 
 -- the part of the file that it hands back: empty on a refusal
@@ -129,5 +129,5 @@ ring_part b (refused k at) = []
 
 -- who unfolds this unfolds all of the above: for facts that are computed
 unfoldable pub calls_computes : Unit {0}
-unfolding stage plan_of labels_of chart_of judge open_call offered offer_call sweep_call turn_call chart_call write_call scan_call same_call ring_start ring_call ring_part
+unfolding stage require_plan require_labels require_chart judge open_call offered offer_call sweep_call turn_call chart_call write_call scan_call same_call ring_start ring_call ring_part
 calls_computes = tt

@@ -1,10 +1,11 @@
 -- Placement and chart: the compass rules, and the least placement that keeps them.
 -- Standard terms: a placement is a straight-line grid drawing; the compass rules are difference constraints, and the chart is their least solution.
 use Rattle.std.specs.Prelude.{ℕ, zero, suc, ◌+◌, ◌*◌, ◌≤◌, ◌<◌, max, ◌≡◌, List, [], ◌∷◌, ◌++◌, map, Bool, true, cond, ◌&&◌, length, get_or, set, replicate, eqb, leb}
-use Rattle.lists.specs.Tests.{all, same_list}
-use Rattle.lists.specs.Parts.{concat}
+use Rattle.std.specs.List.{list_all}
+use Rattle.lists.specs.Tests.{same_list}
+use Rattle.lists.specs.Parts.{flatten}
 use Rattle.model.specs.Outcome.{Outcome, accepted, refused, ◌>>=◌, ◌>>◌, require}
-use Rattle.model.specs.Plan.{Plan, Dart, count, darts, north, east, south, west}
+use Rattle.model.specs.Plan.{Plan, Dart, context_count, darts, north, east, south, west}
 use Rattle.model.specs.Labels.{up, right, label_of}
 
 -- Width, height, and x and y of each context
@@ -48,11 +49,11 @@ y_constraint s l d = cond (eqb l up) (constraint d.0 d.1 1 ∷ []) (cond (eqb l 
 
 -- what all darts ask of x
 unfoldable pub x_constraints : ℕ → Plan → List ℕ → List Constraint
-x_constraints s p ls = concat (map (λ (d : Dart). x_constraint s (label_of p ls d.0 d.1) d) (darts p))
+x_constraints s p ls = flatten (map (λ (d : Dart). x_constraint s (label_of p ls d.0 d.1) d) (darts p))
 
 -- what all darts ask of y
 unfoldable pub y_constraints : ℕ → Plan → List ℕ → List Constraint
-y_constraints s p ls = concat (map (λ (d : Dart). y_constraint s (label_of p ls d.0 d.1) d) (darts p))
+y_constraints s p ls = flatten (map (λ (d : Dart). y_constraint s (label_of p ls d.0 d.1) d) (darts p))
 
 -- the context u stands at (a, b)
 unfoldable pub is_at : Chart → ℕ → ℕ → ℕ → Bool
@@ -61,9 +62,9 @@ is_at c u a b = eqb (x c u) a && eqb (y c u) b
 -- A placement that keeps the compass rules: South (0,0), West (0,h), North (w,h), East (w,0)
 unfoldable pub is_placement : ℕ → Plan → List ℕ → Chart → Bool
 is_placement s p ls c =
-    eqb (length c.xs) (count p) && eqb (length c.ys) (count p)
+    eqb (length c.xs) (context_count p) && eqb (length c.ys) (context_count p)
     && is_at c south 0 0 && is_at c west 0 c.h && is_at c north c.w c.h && is_at c east c.w 0
-    && all (meets c.xs) (x_constraints s p ls) && all (meets c.ys) (y_constraints s p ls)
+    && list_all (meets c.xs) (x_constraints s p ls) && list_all (meets c.ys) (y_constraints s p ls)
 
 -- The chart is, among the placements, the one in which every x, every y, w and h is least
 pub record AtMost (n : ℕ) (c d : Chart) : Type 0 where
@@ -75,7 +76,7 @@ pub record AtMost (n : ℕ) (c d : Chart) : Type 0 where
 -- c is a placement, and every number of it is at most that of every placement
 pub record IsChart (s : ℕ) (p : Plan) (ls : List ℕ) (c : Chart) : Type 0 where
   pub keeps : is_placement s p ls c ≡ true
-  pub least : (d : Chart) → is_placement s p ls d ≡ true → AtMost (count p) c d
+  pub least : (d : Chart) → is_placement s p ls d ≡ true → AtMost (context_count p) c d
 
 -- How it is worked out: numbers are raised from 0, constraint by constraint, until nothing rises
 unfoldable pub raise : Constraint → List ℕ → List ℕ
@@ -102,8 +103,8 @@ tie u v = constraint u v 0 ∷ constraint v u 0 ∷ []
 -- The least numbers in which North is above East and level with West; 11 if there are none, or if South, West or East would have to leave its 0
 unfoldable pub least_placement : ℕ → Plan → List ℕ → Outcome Chart
 least_placement s p ls = do
-  xs ← least_numbers (count p) (tie north east ++ x_constraints s p ls)
-  ys ← least_numbers (count p) (tie north west ++ y_constraints s p ls)
+  xs ← least_numbers (context_count p) (tie north east ++ x_constraints s p ls)
+  ys ← least_numbers (context_count p) (tie north west ++ y_constraints s p ls)
   let c : Chart = record { w = get_or xs north 0; h = get_or ys north 0; xs = xs; ys = ys } in
       require (is_placement s p ls c) 11 0 >> accepted c
 

@@ -1,10 +1,10 @@
 -- The file: records, framing (1, 2, 3), and what is written.
 use Rattle.std.specs.Prelude.{ℕ, zero, suc, ◌+◌, ◌-◌, ◌*◌, ◌%◌, List, [], ◌∷◌, ◌++◌, map, Bool, false, cond, not, ◌&&◌, length, get_or, take, drop, eqb, leb}
-use Rattle.lists.specs.Tests.{empty, member}
-use Rattle.lists.specs.Parts.{concat, pairs}
+use Rattle.lists.specs.Tests.{is_empty, member}
+use Rattle.lists.specs.Parts.{flatten, pairs}
 use Rattle.lists.specs.Words.{word, words, bytes}
 use Rattle.model.specs.Outcome.{Outcome, accepted, ◌>>=◌, ◌>>◌, require}
-use Rattle.model.specs.Plan.{Plan, count, labels_due}
+use Rattle.model.specs.Plan.{Plan, context_count, labels_due}
 use Rattle.model.specs.Chart.{Chart}
 
 -- What a sheet holds at its stage: EMPTY, OPEN, LABELLED, CHARTED
@@ -59,7 +59,7 @@ Part = ℕ × List ℕ
 -- The records that may still follow, in this order; then the end, where a whole record is 2.
 -- One that may be skipped is due only where a record of its kind stands.
 unfoldable pub frame_rest : List Due → Cursor → Outcome (List Part)
-frame_rest [] c = cond (empty c.rest) (accepted []) (frame c 0 (λ (m : ℕ). false) >> accepted [])
+frame_rest [] c = cond (is_empty c.rest) (accepted []) (frame c 0 (λ (m : ℕ). false) >> accepted [])
 frame_rest (d ∷ due) c =
     let skipped = d.skippable && not (eqb (word (drop 2 c.rest)) d.kind) in
     let there = do
@@ -67,11 +67,11 @@ frame_rest (d ∷ due) c =
       parts ← frame_rest due e
       accepted ((d.kind, b) ∷ parts)
     in
-    cond (empty c.rest) (accepted []) (cond skipped (frame_rest due c) there)
+    cond (is_empty c.rest) (accepted []) (cond skipped (frame_rest due c) there)
 
 -- What may follow the rings of a plan: kind 3, the label bytes; after it kind 4: w, h, then x and y per context, 2 bytes each
 unfoldable pub optional : Plan → List Due
-optional p = record { kind = 3; size = labels_due p; skippable = false } ∷ record { kind = 4; size = 4 + 4 * count p; skippable = false } ∷ []
+optional p = record { kind = 3; size = labels_due p; skippable = false } ∷ record { kind = 4; size = 4 + 4 * context_count p; skippable = false } ∷ []
 
 -- the kinds of the parts
 unfoldable pub kinds_of : List Part → List ℕ
@@ -119,11 +119,11 @@ chart_out c = c.w ∷ c.h ∷ points c.xs c.ys
 
 -- a kind 2 record for each ring
 unfoldable pub rings_out : List (List ℕ) → List ℕ
-rings_out rs = concat (map (λ (r : List ℕ). entry 2 (bytes r)) rs)
+rings_out rs = flatten (map (λ (r : List ℕ). entry 2 (bytes r)) rs)
 
 -- the kind 1 record, then the rings
 unfoldable pub plan_out : Plan → List ℕ
-plan_out p = entry 1 (bytes (count p ∷ [])) ++ rings_out p.rings
+plan_out p = entry 1 (bytes (context_count p ∷ [])) ++ rings_out p.rings
 
 -- where an entry of u's ring stands, the k-th of all: behind 6 bytes of kind 1, a head of 4 bytes for each ring up to u's, and the k entries before it
 abbrev pub entry_offset : ℕ → ℕ → ℕ

@@ -1,7 +1,7 @@
 -- Areas, lines and points of a chart.
 use Rattle.std.specs.Prelude.{ℕ, zero, suc, ◌*◌, min, max, List, [], ◌∷◌, Bool, true, false, ◌&&◌, ℤ, pos, negsuc, ◌+ℤ◌, ◌-ℤ◌, ◌*ℤ◌, ltb, leb}
 use Rattle.std.proofs.Math.IntN.{sub_ℕ}
-use Rattle.lists.specs.Tests.{any, all}
+use Rattle.std.specs.List.{list_any, list_all}
 use Rattle.lists.specs.Parts.{cycle}
 use Rattle.model.specs.Plan.{Plan, Dart, Face, darts}
 use Rattle.model.specs.Chart.{Chart, x, y}
@@ -67,7 +67,7 @@ on_line k t e =
 
 -- the point is on some line of the plan
 unfoldable pub on_some_line : Chart → Plan → Point → Bool
-on_some_line k p t = any (on_line k t) (darts p)
+on_some_line k p t = list_any (on_line k t) (darts p)
 
 -- the point is strictly inside the rectangle from (0,0) to (w,h)
 unfoldable pub in_rectangle : Chart → Point → Bool
@@ -75,7 +75,7 @@ in_rectangle k t = ltb 0 t.p && ltb t.p (k.w * t.d) && ltb 0 t.q && ltb t.q (k.h
 
 -- the point is strictly inside an inner face: strictly left of each dart of the face's walk
 unfoldable pub in_face : Chart → Point → Face → Bool
-in_face k t f = all (is_left k t) (cycle f)
+in_face k t f = list_all (is_left k t) (cycle f)
 
 -- who unfolds this unfolds all of the above: for facts that are computed
 unfoldable pub geometry_computes : Unit {0}

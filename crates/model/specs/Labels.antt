@@ -1,10 +1,11 @@
 -- Labels: 0 up, 1 right, 2 down, 3 left, 4 between border contexts; and the label rules, 10.
 -- Standard terms: accepted labels are a transversal structure (regular edge labelling). Up is outgoing red, right outgoing blue, down ingoing red, left ingoing blue.
 use Rattle.std.specs.Prelude.{ℕ, ◌+◌, ◌%◌, List, [], ◌∷◌, Bool, cond, not, ◌&&◌, ◌||◌, length, get_or, set, take, drop, eqb, ltb}
-use Rattle.lists.specs.Tests.{any, same_list}
-use Rattle.lists.specs.Parts.{concat, index_of, squeeze, rotations}
+use Rattle.std.specs.List.{list_any}
+use Rattle.lists.specs.Tests.{same_list}
+use Rattle.lists.specs.Parts.{flatten, index_of, squeeze, rotations}
 use Rattle.model.specs.Outcome.{Outcome, rule}
-use Rattle.model.specs.Plan.{Plan, entries, ring, count, border, adjacent}
+use Rattle.model.specs.Plan.{Plan, entries, ring, context_count, border, adjacent}
 
 -- the label up
 abbrev pub up : ℕ
@@ -32,7 +33,7 @@ unlabelled = 5
 
 -- The labels of all darts stand in one list, all rings in context order: where u's part begins
 unfoldable pub start : Plan → ℕ → ℕ
-start p u = length (concat (take u p.rings))
+start p u = length (flatten (take u p.rings))
 
 -- the labels of the darts that leave u, in ring order
 unfoldable pub labels_around : Plan → List ℕ → ℕ → List ℕ
@@ -54,7 +55,7 @@ bad_dart p ls u v =
 
 -- four runs, none empty: up, right, down, left; the ring may begin inside a run
 unfoldable pub four_runs : List ℕ → Bool
-four_runs r = any (λ (t : List ℕ). same_list (squeeze t) (up ∷ right ∷ down ∷ left ∷ [])) (rotations r)
+four_runs r = list_any (λ (t : List ℕ). same_list (squeeze t) (up ∷ right ∷ down ∷ left ∷ [])) (rotations r)
 
 -- inner darts leaving North are down, East left, South up, West right
 unfoldable pub due : ℕ → ℕ
@@ -66,21 +67,21 @@ not_due p ls u v = not (border v || eqb (label_of p ls u v) (due u))
 
 -- a border context's inner darts are not all due, or an inner context's labels are not four runs
 unfoldable pub bad_ring : Plan → List ℕ → ℕ → Bool
-bad_ring p ls u = cond (border u) (any (not_due p ls u) (ring p u)) (not (four_runs (labels_around p ls u)))
+bad_ring p ls u = cond (border u) (list_any (not_due p ls u) (ring p u)) (not (four_runs (labels_around p ls u)))
 
 -- a context breaks the rules if one of its darts or its ring does
 unfoldable pub breaks : Plan → List ℕ → ℕ → Bool
-breaks p ls u = any (bad_dart p ls u) (ring p u) || bad_ring p ls u
+breaks p ls u = list_any (bad_dart p ls u) (ring p u) || bad_ring p ls u
 
 -- The label rules: 10 at the lowest context that breaks them
 unfoldable pub label_rules : Plan → List ℕ → Outcome (Unit {0})
-label_rules p ls = rule 10 (count p) (breaks p ls)
+label_rules p ls = rule 10 (context_count p) (breaks p ls)
 
 -- label l put on the dart from u to v, if there is one
-unfoldable pub put : Plan → ℕ → ℕ → ℕ → List ℕ → List ℕ
-put p u v l ls = cond (adjacent p u v) (set ls (start p u + index_of v (ring p u)) l) ls
+unfoldable pub put_label : Plan → ℕ → ℕ → ℕ → List ℕ → List ℕ
+put_label p u v l ls = cond (adjacent p u v) (set ls (start p u + index_of v (ring p u)) l) ls
 
 -- who unfolds this unfolds all of the above: for facts that are computed
 unfoldable pub labels_computes : Unit {0}
-unfolding start labels_around label_of bad_dart four_runs due not_due bad_ring breaks label_rules put
+unfolding start labels_around label_of bad_dart four_runs due not_due bad_ring breaks label_rules put_label
 labels_computes = tt

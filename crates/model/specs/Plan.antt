@@ -1,9 +1,10 @@
 -- Contexts, rings, faces: the plan, and the plan rules 4 to 9.
 -- Standard terms: a plan is a rotation system on a graph. A context is a vertex, a contact an edge, a ring the clockwise rotation at a vertex, a dart a directed edge, a face an orbit of the face step.
 use Rattle.std.specs.Prelude.{ℕ, suc, ◌+◌, ◌-◌, ◌*◌, ◌%◌, List, [], ◌∷◌, ◌++◌, map, Bool, cond, not, ◌&&◌, ◌||◌, length, get_or, take, drop, eqb, ltb, leb}
-use Rattle.lists.specs.Tests.{any, member, repeats}
+use Rattle.std.specs.List.{list_any}
+use Rattle.lists.specs.Tests.{member, repeats}
 use Rattle.lists.specs.Ranges.{from}
-use Rattle.lists.specs.Parts.{concat, index_of, before}
+use Rattle.lists.specs.Parts.{flatten, index_of, before}
 use Rattle.model.specs.Outcome.{Outcome, ◌>>◌, require, rule}
 
 -- A plan: the ring of each context, in context order
@@ -11,12 +12,12 @@ pub record Plan : Type 0 where
   pub rings : List (List ℕ)
 
 -- n, the number of contexts
-abbrev pub count : Plan → ℕ
-count p = length p.rings
+abbrev pub context_count : Plan → ℕ
+context_count p = length p.rings
 
 -- the contexts are numbered 0 to n − 1
 abbrev pub contexts : Plan → List ℕ
-contexts p = from 0 (count p)
+contexts p = from 0 (context_count p)
 
 -- the border contexts: North
 abbrev pub north : ℕ
@@ -64,7 +65,7 @@ darts_from p u = map (λ (v : ℕ). (u, v)) (ring p u)
 
 -- all darts, in context order
 unfoldable pub darts : Plan → List Dart
-darts p = concat (map (darts_from p) (contexts p))
+darts p = flatten (map (darts_from p) (contexts p))
 
 -- the two darts are one
 abbrev pub same_dart : Dart → Dart → Bool
@@ -79,8 +80,8 @@ unfoldable pub next : ℕ → List ℕ → ℕ
 next a r = get_or (onward a r) 0 a
 
 -- the entries strictly between a and b, clockwise
-unfoldable pub between : ℕ → ℕ → List ℕ → List ℕ
-between a b r = before b (onward a r)
+unfoldable pub strictly_between : ℕ → ℕ → List ℕ → List ℕ
+strictly_between a b r = before b (onward a r)
 
 -- The face step: the dart from u to v is followed by the dart from v to the entry after u in v's ring
 unfoldable pub step : Plan → Dart → Dart
@@ -96,7 +97,7 @@ closes p d = same_dart (step p (step p (step p d))) d
 
 -- 4: an entry is not below n, or is the context itself
 unfoldable pub bad_entry : Plan → ℕ → Bool
-bad_entry p u = any (λ (v : ℕ). leb (count p) v || eqb v u) (ring p u)
+bad_entry p u = list_any (λ (v : ℕ). leb (context_count p) v || eqb v u) (ring p u)
 
 -- 5: a ring repeats an entry
 unfoldable pub bad_repeat : Plan → ℕ → Bool
@@ -104,11 +105,11 @@ bad_repeat p u = repeats (ring p u)
 
 -- 6: u lists some v that does not list u
 unfoldable pub unreturned : Plan → ℕ → Bool
-unreturned p u = any (λ (v : ℕ). not (adjacent p v u)) (ring p u)
+unreturned p u = list_any (λ (v : ℕ). not (adjacent p v u)) (ring p u)
 
 -- 7: how many entries all rings together have
 unfoldable pub entry_count : Plan → ℕ
-entry_count p = length (concat p.rings)
+entry_count p = length (flatten p.rings)
 
 -- how many entries a plan of n contexts has
 abbrev pub dart_count : ℕ → ℕ
@@ -116,7 +117,7 @@ dart_count n = 6 * n - 14
 
 -- how many labels a plan takes: one for each of its darts
 abbrev pub labels_due : Plan → ℕ
-labels_due p = dart_count (count p)
+labels_due p = dart_count (context_count p)
 
 -- 8: a border ring begins with the next border context and ends with the one before; the one across is no neighbour
 unfoldable pub bad_border : Plan → ℕ → Bool
@@ -126,17 +127,17 @@ bad_border p u =
 
 -- 9: a dart that leaves u is not outer and does not come back to itself after three steps
 unfoldable pub bad_face : Plan → ℕ → Bool
-bad_face p u = any (λ (d : Dart). not (outer d || closes p d)) (darts_from p u)
+bad_face p u = list_any (λ (d : Dart). not (outer d || closes p d)) (darts_from p u)
 
 -- The plan rules, each tested over the whole table before the next
 unfoldable pub plan_rules : Plan → Outcome (Unit {0})
 plan_rules p = do
-  rule 4 (count p) (bad_entry p)
-  rule 5 (count p) (bad_repeat p)
-  rule 6 (count p) (unreturned p)
-  require (eqb (entry_count p) (dart_count (count p))) 7 0
+  rule 4 (context_count p) (bad_entry p)
+  rule 5 (context_count p) (bad_repeat p)
+  rule 6 (context_count p) (unreturned p)
+  require (eqb (entry_count p) (dart_count (context_count p))) 7 0
   rule 8 4 (bad_border p)
-  rule 9 (count p) (bad_face p)
+  rule 9 (context_count p) (bad_face p)
 
 -- A face, walked counterclockwise: the contexts that its darts leave
 abbrev pub Face : Type 0
@@ -152,11 +153,11 @@ on_inner_face p d = not (outer d) && closes p d
 
 -- the inner faces whose lowest context is a, each once, walked from it
 unfoldable pub faces_from : Plan → ℕ → List Face
-faces_from p a = concat (map (λ (d : Dart). cond (on_inner_face p d && ltb a d.1 && ltb a (step p d).1) (walk p d ∷ []) []) (darts_from p a))
+faces_from p a = flatten (map (λ (d : Dart). cond (on_inner_face p d && ltb a d.1 && ltb a (step p d).1) (walk p d ∷ []) []) (darts_from p a))
 
 -- all inner faces
 unfoldable pub faces : Plan → List Face
-faces p = concat (map (faces_from p) (contexts p))
+faces p = flatten (map (faces_from p) (contexts p))
 
 -- an edge is inner unless both its ends are border contexts
 unfoldable pub inner_edge : Plan → ℕ → ℕ → Bool
@@ -164,5 +165,5 @@ inner_edge p u v = adjacent p u v && not (border u && border v)
 
 -- who unfolds this unfolds all of the above: for facts that are computed
 unfoldable pub plan_computes : Unit {0}
-unfolding neighbour entries ring adjacent darts_from darts onward next between step outer closes bad_entry bad_repeat unreturned entry_count bad_border bad_face plan_rules walk on_inner_face faces_from faces inner_edge
+unfolding neighbour entries ring adjacent darts_from darts onward next strictly_between step outer closes bad_entry bad_repeat unreturned entry_count bad_border bad_face plan_rules walk on_inner_face faces_from faces inner_edge
 plan_computes = tt

@@ -4,20 +4,20 @@ use Rattle.std.specs.Prelude.{ℕ, suc, ◌-◌, List, [], ◌∷◌, map, Bool,
 use Rattle.std.specs.List.{find}
 use Rattle.lists.specs.Tests.{same_list}
 use Rattle.lists.specs.Ranges.{from}
-use Rattle.lists.specs.Parts.{concat}
-use Rattle.model.specs.Plan.{Plan, count, contexts, adjacent, on_inner_face, walk}
+use Rattle.lists.specs.Parts.{flatten}
+use Rattle.model.specs.Plan.{Plan, context_count, contexts, adjacent, on_inner_face, walk}
 
 -- three contexts
 abbrev pub Triple : Type 0
 Triple = ℕ × ℕ × ℕ
 
 -- the contexts after a
-unfoldable pub after : Plan → ℕ → List ℕ
-after p a = from (suc a) (count p - suc a)
+unfoldable pub contexts_after : Plan → ℕ → List ℕ
+contexts_after p a = from (suc a) (context_count p - suc a)
 
 -- the triples a < b < c, by a, then b, then c
 unfoldable pub triples : Plan → List Triple
-triples p = concat (map (λ (a : ℕ). concat (map (λ (b : ℕ). map (λ (c : ℕ). (a, b, c)) (after p b)) (after p a))) (contexts p))
+triples p = flatten (map (λ (a : ℕ). flatten (map (λ (b : ℕ). map (λ (c : ℕ). (a, b, c)) (contexts_after p b)) (contexts_after p a))) (contexts p))
 
 -- the walk a, b, c is an inner face, where a and b are neighbours
 unfoldable pub inner_face : Plan → ℕ → ℕ → ℕ → Bool
@@ -35,5 +35,5 @@ scan p = find (enclosing p) (triples p)
 
 -- who unfolds this unfolds all of the above: for facts that are computed
 unfoldable pub scan_computes : Unit {0}
-unfolding after triples inner_face enclosing scan
+unfolding contexts_after triples inner_face enclosing scan
 scan_computes = tt

@@ -1,7 +1,7 @@
 -- What the label rules say, without a test: conditions C1 and C2 of source 001, read as 01 reads them.
 -- Up is outgoing red, right outgoing blue, down ingoing red, left ingoing blue.
 use Rattle.std.specs.Prelude.{ℕ, ◌≤◌, ◌<◌, max, ◌≡◌, List, ◌++◌, true, length, take, drop, replicate}
-use Rattle.model.specs.Plan.{Plan, count, adjacent, north, east, south, west}
+use Rattle.model.specs.Plan.{Plan, context_count, adjacent, north, east, south, west}
 use Rattle.model.specs.Labels.{up, right, down, left, border_label, turned, label_of, labels_around}
 
 -- C1: some rotation of the ring's labels is up^a right^b down^c left^d with a, b, c, d above 0
@@ -28,7 +28,7 @@ pub record Borders (p : Plan) (ls : List ℕ) : Type 0 where
 -- The label rules: 4 between border contexts and only there, a dart and its reverse two quarters apart, C1 and C2
 pub record Transversal (p : Plan) (ls : List ℕ) : Type 0 where
   pub border_darts : (u v : ℕ) → u < 4 → v < 4 → adjacent p u v ≡ true → label_of p ls u v ≡ border_label
-  pub inner_darts : (u v : ℕ) → u < count p → adjacent p u v ≡ true → 4 ≤ max u v → label_of p ls u v < 4
-  pub reverses : (u v : ℕ) → u < count p → adjacent p u v ≡ true → 4 ≤ max u v → label_of p ls v u ≡ turned (label_of p ls u v) 2
-  pub inner_rings : (u : ℕ) → u < count p → 4 ≤ u → FourRuns (labels_around p ls u)
+  pub inner_darts : (u v : ℕ) → u < context_count p → adjacent p u v ≡ true → 4 ≤ max u v → label_of p ls u v < 4
+  pub reverses : (u v : ℕ) → u < context_count p → adjacent p u v ≡ true → 4 ≤ max u v → label_of p ls v u ≡ turned (label_of p ls u v) 2
+  pub inner_rings : (u : ℕ) → u < context_count p → 4 ≤ u → FourRuns (labels_around p ls u)
   pub border_rings : Borders p ls

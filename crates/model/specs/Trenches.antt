@@ -1,6 +1,6 @@
 -- Four trenches, and the table of what 01 says is to be shown of them.
 use Rattle.std.specs.Prelude.{ℕ, ◌+◌, ◌%◌, ◌≡◌, List, [], ◌∷◌, ◌++◌, map, pos, Some, None}
-use Rattle.lists.specs.Parts.{concat}
+use Rattle.lists.specs.Parts.{flatten}
 use Rattle.model.specs.Outcome.{Outcome, accepted, refused, passed, ◌>>=◌, mapped}
 use Rattle.model.specs.Plan.{Plan, faces}
 use Rattle.model.specs.Labels.{labels_around, label_rules}
@@ -40,7 +40,7 @@ D = record { rings = rings_a ++ map ring_d ks }
 
 -- A's labels, then the torus labelled 0,0,1,2,2,3
 abbrev pub labels_d : List ℕ → List ℕ
-labels_d ls = ls ++ concat (map (λ (k : ℕ). 0 ∷ 0 ∷ 1 ∷ 2 ∷ 2 ∷ 3 ∷ []) ks)
+labels_d ls = ls ++ flatten (map (λ (k : ℕ). 0 ∷ 0 ∷ 1 ∷ 2 ∷ 2 ∷ 3 ∷ []) ks)
 
 -- the chart of the swept labels
 abbrev pub swept_chart : Plan → Outcome Chart
@@ -62,8 +62,8 @@ Holds [] = Unit {0}
 Holds (r ∷ rs) = (r.worked ≡ r.said) × Holds rs
 
 -- The table of what 01 says is to be shown
-unfoldable pub table : List Row
-table =
+unfoldable pub worked_table : List Row
+worked_table =
     -- A's sweep labels 4 as 0,1,2,3
     row (mapped (λ ls. labels_around A ls 4) (sweep A)) (accepted (0 ∷ 1 ∷ 2 ∷ 3 ∷ []))
     -- A's chart is 2 by 2 with 4 at (1,1)

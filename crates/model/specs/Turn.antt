@@ -1,10 +1,10 @@
 -- Turn: both darts of each named edge by a quarter; 15, then 10.
 use Rattle.std.specs.Prelude.{ℕ, ◌%◌, List, [], ◌∷◌, Bool, cond, not, ◌||◌, length, get_or, take, eqb, ltb}
-use Rattle.lists.specs.Tests.{any}
+use Rattle.std.specs.List.{list_any}
 use Rattle.lists.specs.Parts.{pairs}
 use Rattle.model.specs.Outcome.{Outcome, accepted, ◌>>◌, require, rule}
 use Rattle.model.specs.Plan.{Plan, Dart, inner_edge, same_dart}
-use Rattle.model.specs.Labels.{label_of, turned, put, label_rules}
+use Rattle.model.specs.Labels.{label_of, turned, put_label, label_rules}
 
 -- the dart the other way
 abbrev pub reverse_dart : Dart → Dart
@@ -16,7 +16,7 @@ same_edge d e = same_dart d e || same_dart d (reverse_dart e)
 
 -- pair k is not an inner edge, or was named before in either order
 unfoldable pub bad_pair : Plan → List Dart → ℕ → Bool
-bad_pair p es k = let e = get_or es k (0, 0) in not (inner_edge p e.0 e.1) || any (same_edge e) (take k es)
+bad_pair p es k = let e = get_or es k (0, 0) in not (inner_edge p e.0 e.1) || list_any (same_edge e) (take k es)
 
 -- direction 0 is clockwise, one quarter more; 1 is counterclockwise, one quarter less
 abbrev pub quarters : ℕ → ℕ
@@ -24,7 +24,7 @@ quarters direction = cond (eqb direction 0) 1 3
 
 -- the dart's label turned
 unfoldable pub turn_dart : Plan → ℕ → Dart → List ℕ → List ℕ
-turn_dart p q d ls = put p d.0 d.1 (turned (label_of p ls d.0 d.1) q) ls
+turn_dart p q d ls = put_label p d.0 d.1 (turned (label_of p ls d.0 d.1) q) ls
 
 -- both darts of each edge turned
 unfoldable pub turned_edges : Plan → ℕ → List Dart → List ℕ → List ℕ

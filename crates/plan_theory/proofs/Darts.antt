@@ -9,7 +9,7 @@ use borrow.Author.Tests.{eqb-true, eq-eqb}
 use Rattle.lists.specs.Parts.{cycle}
 use Rattle.lists.proofs.Bools.{and_yes, both}
 use Rattle.lists.proofs.Once.{Once, once-apart, once_join, once-map, once-from, no_repeat_once}
-use Rattle.model.specs.Plan.{Plan, Dart, count, contexts, ring, adjacent, darts_from, darts, same_dart, next, step, outer, closes}
+use Rattle.model.specs.Plan.{Plan, Dart, context_count, contexts, ring, adjacent, darts_from, darts, same_dart, next, step, outer, closes}
 use Rattle.model.proofs.Plans.{next-mem, adjacent-mem, mem-adjacent, outer-says, says-outer}
 use Rattle.model.proofs.PlanRules.{Sound, inner_ring, border_ring}
 use Rattle.plan_theory.proofs.Rings.{next_last}
@@ -71,7 +71,7 @@ module _ (p : Plan) (s : Sound p) where
   pub once-darts : Once (darts p)
   unfolding darts darts_from
   once-darts =
-      once_join (darts_from p) (contexts p) (once-from 0 (count p)) (λ u i. once-map (dart u) (λ (d : Dart). d.1) (ring p u) (λ v. refl) (once-ring u))
+      once_join (darts_from p) (contexts p) (once-from 0 (context_count p)) (λ u i. once-map (dart u) (λ (d : Dart). d.1) (ring p u) (λ v. refl) (once-ring u))
       (λ u v d i j k l. sym (leaves u d k) ∙ leaves v d l)
     where
       leaves : (u : ℕ) (d : Dart) → Memᴰ d (map (dart u) (ring p u)) → d.0 ≡ u

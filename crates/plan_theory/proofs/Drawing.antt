@@ -7,7 +7,7 @@ use native.Mathlib.Omega.{arith}
 use lib.IntN.{ℤ, pos, negsuc}
 use lib.Dec.{ltb, leb}
 use borrow.Author.Tests.{lt-ltb, le-ltb, ltb-true, le-leb}
-use Rattle.lists.specs.Tests.{all}
+use Rattle.std.specs.List.{list_all}
 use Rattle.lists.specs.Parts.{steps, cycle}
 use Rattle.lists.proofs.Bools.{and_yes, yes_and, both}
 use Rattle.lists.proofs.Tests.{none_of}
@@ -19,7 +19,7 @@ use Rattle.model.specs.Geometry.{Point, positive, is_zero, corner, fan, area, ar
 use Rattle.model.specs.Transversal.{Transversal}
 use Rattle.model.proofs.PlanRules.{Sound}
 use Rattle.model.proofs.Placements.{Placed, darts-mem}
-use Rattle.geometry.specs.Points.{Position, area_plus, area_minus, left, OnSegment, crossing, inside, InBox, scaled}
+use Rattle.geometry.specs.Points.{Position, area_plus, area_minus, strictly_left, OnSegment, crossing, inside, InBox, scaled}
 use Rattle.geometry.proofs.Signed.{Difference, Says, says_as, says-zero, says-sum, says_pos, says-area}
 use Rattle.geometry.proofs.Walks.{along, against, cancels}
 use Rattle.geometry.proofs.Crossings.{triangle_crossings, box_crossings, left-scaled}
@@ -80,15 +80,15 @@ module _ (c : Chart) (t : Point) where
   unfolding side spread here place
   side-says e = says-area (spread e.0) (spread e.1) here
 
-  left_tested : (e : Dart) → is_left c t e ≡ left (spread e.0) (spread e.1) here
-  unfolding is_left left
+  left_tested : (e : Dart) → is_left c t e ≡ strictly_left (spread e.0) (spread e.1) here
+  unfolding is_left strictly_left
   left_tested e = says-positive (side-says e)
 
   inside_tested : (f : Face) → in_face c t f ≡ inside here (map spread f)
   unfolding in_face inside
-  inside_tested f = renamed (cycle f) ∙ ap (all (λ (d : Position × Position). left d.0 d.1 here)) (sym (cycle-map spread f))
+  inside_tested f = renamed (cycle f) ∙ ap (list_all (λ (d : Position × Position). strictly_left d.0 d.1 here)) (sym (cycle-map spread f))
     where
-      renamed : (ds : List Dart) → all (is_left c t) ds ≡ all (λ (d : Position × Position). left d.0 d.1 here) (map (λ (d : Dart). (spread d.0, spread d.1)) ds)
+      renamed : (ds : List Dart) → list_all (is_left c t) ds ≡ list_all (λ (d : Position × Position). strictly_left d.0 d.1 here) (map (λ (d : Dart). (spread d.0, spread d.1)) ds)
       renamed [] = refl
       renamed (d ∷ ds) = ap₂ ◌&&◌ (left_tested d) (renamed ds)
 

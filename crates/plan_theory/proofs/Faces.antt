@@ -9,9 +9,9 @@ use native.Mathlib.Omega.{arith}
 use lib.Dec.{ltb}
 use borrow.Author.Tests.{not-true, ltb-true, lt-ltb}
 use Rattle.lists.specs.Ranges.{from}
-use Rattle.lists.specs.Parts.{concat, cycle}
+use Rattle.lists.specs.Parts.{flatten, cycle}
 use Rattle.lists.proofs.Bools.{and_yes, both}
-use Rattle.lists.proofs.Tests.{some_of_lem, of_some}
+use Rattle.lists.proofs.Tests.{list_any_of, of_list_any}
 use Rattle.lists.proofs.Joins.{join_mem, mem_join}
 use Rattle.lists.proofs.Concats.{join_join}
 use Rattle.lists.proofs.Once.{Once, once-append, once_join, once-map, once-from}
@@ -34,25 +34,25 @@ starts p d = on_inner_face p d && ltb d.0 d.1 && ltb d.0 (step p d).1
 face_at : Plan → Dart → List Face
 face_at p d = cond (starts p d) (walk p d ∷ []) []
 
-faces_by_dart : (p : Plan) → faces p ≡ concat (map (face_at p) (darts p))
+faces_by_dart : (p : Plan) → faces p ≡ flatten (map (face_at p) (darts p))
 unfolding faces faces_from darts darts_from face_at starts
-faces_by_dart p = ap (λ (f : ℕ → List Face). concat (map f (contexts p))) (fun_ext (λ u. around u (ring p u))) ∙ sym (join_join (face_at p) (darts_from p) (contexts p))
+faces_by_dart p = ap (λ (f : ℕ → List Face). flatten (map f (contexts p))) (fun_ext (λ u. around u (ring p u))) ∙ sym (join_join (face_at p) (darts_from p) (contexts p))
   where
-    around : (u : ℕ) (r : List ℕ) → concat (map (λ (d : Dart). cond (on_inner_face p d && ltb u d.1 && ltb u (step p d).1) (walk p d ∷ []) []) (map (λ (v : ℕ). (u, v)) r)) ≡ concat (map (face_at p) (map (λ (v : ℕ). (u, v)) r))
+    around : (u : ℕ) (r : List ℕ) → flatten (map (λ (d : Dart). cond (on_inner_face p d && ltb u d.1 && ltb u (step p d).1) (walk p d ∷ []) []) (map (λ (v : ℕ). (u, v)) r)) ≡ flatten (map (face_at p) (map (λ (v : ℕ). (u, v)) r))
     around u [] = refl
     around u (v ∷ r) = ap (face_at p (u, v) ++◌) (around u r)
 
 -- the darts of the face that is listed from this dart, if any
 darts_at : Plan → Dart → List Dart
-darts_at p d = concat (map cycle (face_at p d))
+darts_at p d = flatten (map cycle (face_at p d))
 
 -- all darts of all inner faces
 abbrev walked : Plan → List Dart
-walked p = concat (map cycle (faces p))
+walked p = flatten (map cycle (faces p))
 
-walked_by_dart : (p : Plan) → walked p ≡ concat (map (darts_at p) (darts p))
+walked_by_dart : (p : Plan) → walked p ≡ flatten (map (darts_at p) (darts p))
 unfolding darts_at
-walked_by_dart p = ap (λ (fs : List Face). concat (map cycle fs)) (faces_by_dart p) ∙ join_join cycle (face_at p) (darts p)
+walked_by_dart p = ap (λ (fs : List Face). flatten (map cycle fs)) (faces_by_dart p) ∙ join_join cycle (face_at p) (darts p)
 
 -- what is listed, and from where
 face_at-mem : (p : Plan) (e : Dart) (f : Face) → Memᴰ f (face_at p e) → (starts p e ≡ true) × (f ≡ walk p e)
@@ -75,7 +75,7 @@ once-darts-at : (p : Plan) (e : Dart) → (starts p e ≡ true → Once (cycle (
 unfolding darts_at face_at
 once-darts-at p e o = go (starts p e) refl
   where
-    go : (t : Bool) → starts p e ≡ t → Once (concat (map cycle (cond t (walk p e ∷ []) [])))
+    go : (t : Bool) → starts p e ≡ t → Once (flatten (map cycle (cond t (walk p e ∷ []) [])))
     go true q = subst Once (sym (append-nil (cycle (walk p e)))) (o q)
     go false q = tt
 
@@ -308,7 +308,7 @@ module _ (p : Plan) (s : Sound p) where
         let (t, q) = face_at-mem p e f j in
         subst (InnerFace p) (sym q) (inner_face_lem e (starts_says e i t));
     each_once = λ d m o. tally_join cycle d (passes d)
-        (λ f t. let (e, i, q) = some_of_lem (same_dart d) (cycle f) t in Memᴰ.cast (same-dart d e q) i)
-        (λ f i. of_some (same_dart d) (cycle f) d i (dart-same d d refl))
+        (λ f t. let (e, i, q) = list_any_of (same_dart d) (cycle f) t in Memᴰ.cast (same-dart d e q) i)
+        (λ f i. of_list_any (same_dart d) (cycle f) d i (dart-same d d refl))
         (faces p) once-walked (inner_walked d (record { is_dart = mem-darts p d m; not_outer = o }));
   }

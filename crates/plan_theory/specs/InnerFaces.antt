@@ -1,7 +1,8 @@
 -- What it means that a list has each inner face of a plan exactly once.
 use Rattle.std.specs.Prelude.{ℕ, ◌≤◌, ◌≡◌, Bool, true, false, length, get_or}
 use mathlib.Core.List.{List, Memᴰ}
-use Rattle.lists.specs.Tests.{any, tally}
+use Rattle.std.specs.List.{list_any}
+use Rattle.lists.specs.Tests.{tally}
 use Rattle.lists.specs.Parts.{cycle}
 use Rattle.model.specs.Plan.{Plan, Dart, Face, darts, adjacent, same_dart, step, outer}
 
@@ -15,7 +16,7 @@ pub record InnerFace (p : Plan) (f : Face) : Type 0 where
 
 -- the walk has the dart
 unfoldable pub passes : Dart → Face → Bool
-passes d f = any (same_dart d) (cycle f)
+passes d f = list_any (same_dart d) (cycle f)
 
 -- Each of these walks is an inner face, and each dart that is not outer is on exactly one of them
 pub record InnerFaces (p : Plan) (fs : List Face) : Type 0 where

@@ -7,7 +7,7 @@ use lib.ListN.{length, take}
 use Rattle.std.proofs.Common.{length-append}
 use Rattle.std.proofs.lemmas.List.{take_min}
 use Rattle.buffer.proofs.Puts.{put-none, put_join, put-size, put_long, put_front, put_same}
-use Rattle.forms.proofs.Forms.{filled_wide, filled-word}
+use Rattle.text_templates.proofs.Forms.{filled_wide, filled-word}
 use Rattle.printing.proofs.Texts.{points_none, points-more, none_line, found_line}
 
 -- the part of an input that is taken

@@ -10,8 +10,8 @@ use Rattle.model.specs.Scan.{scan_computes}
 use Rattle.model.specs.File.{opened, encode, file_computes}
 use Rattle.model.specs.Calls.{calls_computes}
 use Rattle.model.specs.Trenches.{A, B, C, D}
-use Rattle.forms.specs.Words.{letters, words_computes}
-use Rattle.forms.specs.Forms.{forms_computes}
+use Rattle.text_templates.specs.Digits.{letters, words_computes}
+use Rattle.text_templates.specs.Forms.{forms_computes}
 use Rattle.printing.specs.Text.{text, text_computes}
 
 -- 01's example

@@ -8,41 +8,41 @@ ghost use Rattle.buffer.specs.Puts.{put};
 ghost use Rattle.printing.specs.Text.{size_line, point_lines, refusal_line, triangle_line, chart_text, sweep_text, scan_text, file_text, text, written};
 
 use buffer::Buffer;
-use charts::Points;
+use chart_points::Points;
 use refusal::Refusal;
 use sheet::Sheet;
 
 // The line of a refusal.
-#[tactic(auto, using(crate::proofs::Prints::lines), unfolding(crate::specs::Text::refusal_line, forms::specs::Forms::line, forms::specs::Words::letters))]
+#[tactic(auto, using(crate::proofs::Prints::lines), unfolding(crate::specs::Text::refusal_line, text_templates::specs::Forms::filled_word, text_templates::specs::Digits::letters))]
 fn put_refusal(to: &mut Buffer, refusal: Refusal)
     ensures value { to.new ≡ put to.old (refusal_line (number_of refusal) (place_of refusal)) }
     ensures upper_bound { length (refusal_line (number_of refusal) (place_of refusal)) ≤ 72 }
 {
     let number = usize::from(refusal.number());
-    forms::put(to, b"refused # at #\n", &[number, refusal.place()]);
+    text_templates::put(to, b"refused # at #\n", &[number, refusal.place()]);
 }
 
 // A line for each of the first n contexts: its number, x and y.
-#[tactic(auto, using(crate::proofs::Prints::lines), unfolding(crate::specs::Text::point_line, forms::specs::Forms::line, forms::specs::Words::letters))]
+#[tactic(auto, using(crate::proofs::Prints::lines), unfolding(crate::specs::Text::point_line, text_templates::specs::Forms::filled_word, text_templates::specs::Digits::letters))]
 fn put_points(to: &mut Buffer, points: &Points, n: u16)
     ensures value { to.new ≡ put to.old (point_lines points.now.xs.now points.now.ys.now n) }
     ensures upper_bound { length (point_lines points.now.xs.now points.now.ys.now n) ≤ 18 * n }
 {
     for u in 0..usize::from(n) {
-        let x = arrays::num(points.xs, u);
-        let y = arrays::num(points.ys, u);
-        forms::put(to, b"# # #\n", &[u, x, y]);
+        let x = arrays::number_at(points.xs, u);
+        let y = arrays::number_at(points.ys, u);
+        text_templates::put(to, b"# # #\n", &[u, x, y]);
     }
 }
 
 // The lines of a sheet's chart: its size, then its points.
-#[tactic(auto, using(crate::proofs::Prints::lines), unfolding(crate::specs::Text::size_line, forms::specs::Forms::line, forms::specs::Words::letters))]
+#[tactic(auto, using(crate::proofs::Prints::lines), unfolding(crate::specs::Text::size_line, text_templates::specs::Forms::filled_word, text_templates::specs::Digits::letters))]
 fn put_chart(to: &mut Buffer, sheet: &Sheet)
     ensures value { to.new ≡ put to.old (size_line sheet.now.w sheet.now.h ++ point_lines sheet.now.xs sheet.now.ys sheet.now.n) }
     ensures upper_bound { length (size_line sheet.now.w sheet.now.h ++ point_lines sheet.now.xs sheet.now.ys sheet.now.n) ≤ 66 + 18 * sheet.now.n }
 {
     let size = [usize::from(sheet.w), usize::from(sheet.h)];
-    forms::put(to, b"size # #\n", &size);
+    text_templates::put(to, b"size # #\n", &size);
     put_points(to, &sheet::points_of(sheet), sheet.n);
 }
 
@@ -52,7 +52,7 @@ fn put_drawn(to: &mut Buffer, sheet: &Sheet)
     ensures value { to.new ≡ put to.old (chart_text (reads sheet.now)) }
     ensures upper_bound { length (chart_text (reads sheet.now)) ≤ 3666 }
 {
-    match calls::chart(*sheet) {
+    match sheet_updates::chart(*sheet) {
         Err(refusal) => put_refusal(to, refusal),
         Ok(drawn) => put_chart(to, &drawn),
     }
@@ -64,21 +64,21 @@ fn put_swept(to: &mut Buffer, sheet: &Sheet)
     ensures value { to.new ≡ put to.old (sweep_text (reads sheet.now)) }
     ensures upper_bound { length (sweep_text (reads sheet.now)) ≤ 3666 }
 {
-    match calls::sweep(*sheet) {
+    match sheet_updates::sweep(*sheet) {
         Err(refusal) => put_refusal(to, refusal),
         Ok(swept) => put_drawn(to, &swept),
     }
 }
 
 // The line of what a scan finds: three contexts, or none.
-#[tactic(auto, using(crate::proofs::Prints::lines), unfolding(forms::specs::Forms::line, forms::specs::Words::letters))]
+#[tactic(auto, using(crate::proofs::Prints::lines), unfolding(text_templates::specs::Forms::filled_word, text_templates::specs::Digits::letters))]
 fn put_triangle(to: &mut Buffer, found: Option<(usize, usize, usize)>)
     ensures value { to.new ≡ put to.old (triangle_line found) }
     ensures upper_bound { length (triangle_line found) ≤ 72 }
 {
     match found {
         None => to.put_bytes(b"triangle none\n"),
-        Some((a, b, c)) => forms::put(to, b"triangle # # #\n", &[a, b, c]),
+        Some((a, b, c)) => text_templates::put(to, b"triangle # # #\n", &[a, b, c]),
     }
 }
 
@@ -88,7 +88,7 @@ fn put_scanned(to: &mut Buffer, sheet: &Sheet)
     ensures value { to.new ≡ put to.old (scan_text (reads sheet.now)) }
     ensures upper_bound { length (scan_text (reads sheet.now)) ≤ 3738 }
 {
-    match reports::scan(sheet) {
+    match sheet_queries::scan(sheet) {
         Err(refusal) => put_refusal(to, refusal),
         Ok(found) => {
             put_triangle(to, found);
@@ -98,15 +98,15 @@ fn put_scanned(to: &mut Buffer, sheet: &Sheet)
 }
 
 // Of a plan file: its plan, then from scan on.
-#[tactic(auto, using(crate::proofs::Texts::filed), unfolding(forms::specs::Forms::line, forms::specs::Words::letters))]
+#[tactic(auto, using(crate::proofs::Texts::filed), unfolding(text_templates::specs::Forms::filled_word, text_templates::specs::Digits::letters))]
 fn put_file(to: &mut Buffer, file: &[u8])
     ensures value { to.new ≡ put to.old (file_text file.now) }
     ensures upper_bound { length (file_text file.now) ≤ 4096 }
 {
-    match opening::open_file(file) {
+    match sheet_open::open_file(file) {
         Err(refusal) => put_refusal(to, refusal),
         Ok(sheet) => {
-            forms::put(to, b"plan #\n", &[usize::from(sheet.n)]);
+            text_templates::put(to, b"plan #\n", &[usize::from(sheet.n)]);
             put_scanned(to, &sheet);
         }
     }

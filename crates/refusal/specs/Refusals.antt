@@ -46,9 +46,9 @@ place_of (Refusal.ShortBuffer at) = at
 place_of (Refusal.NoSuchContext at) = at
 
 -- what a result tells: it is accepted, or refused with the refusal's number and place
-abbrev pub told : {A : Type 0} → Result A Refusal → Outcome A
-told (Ok a) = accepted a
-told (Err r) = refused (number_of r) (place_of r)
+abbrev pub outcome_of : {A : Type 0} → Result A Refusal → Outcome A
+outcome_of (Ok a) = accepted a
+outcome_of (Err r) = refused (number_of r) (place_of r)
 
 -- a rule, for a test and a refusal of which this is said at each number: whatever number k the refusals have, a result tells what the model's rule k says of the test
 abbrev pub NoneOf : (ℕ → Bool → Type 0) → (ℕ → Refusal → Type 0) → ℕ → Result (Unit {0}) Refusal → Type 0
@@ -56,4 +56,4 @@ NoneOf tests refusals n result =
     (k : ℕ) (bad : ℕ → Bool)
     → ((u : ℕ) (t : Bool) → u < 2 ^ 64 → tests u t → t ≡ bad u)
     → ((u : ℕ) (r : Refusal) → u < 2 ^ 64 → refusals u r → (number_of r ≡ k) × (place_of r ≡ u))
-    → told result ≡ rule k n bad
+    → outcome_of result ≡ rule k n bad

@@ -5,11 +5,11 @@ use mathlib.Core.List.{List, [], ◌∷◌, ◌++◌, map, append-nil}
 use native.Mathlib.Omega.{arith}
 use lib.ListN.{length, get_or}
 use Rattle.lists.specs.Ranges.{from}
-use Rattle.lists.specs.Parts.{concat}
+use Rattle.lists.specs.Parts.{flatten}
 use Rattle.lists.specs.Spans.{stretch}
 use Rattle.lists.proofs.Ranges.{get_or-map-from}
 use Rattle.lists.proofs.Spans.{length-stretch}
-use Rattle.lists.proofs.Concats.{map-append, concat-append}
+use Rattle.lists.proofs.Concats.{map-append, flatten-append}
 use Rattle.rings.specs.Tables.{start_of, starts_of, rows, table}
 use Rattle.rings.proofs.Rows.{start_first, start-more}
 
@@ -51,21 +51,21 @@ module _ (sizes es : List ℕ) where
   unfolding starts_of
   start-at u h = get_or-map-from (start_of sizes) 0 200 u 0 h ∙ ap (start_of sizes) (omega arith)
 
-  rows-joined : (n : ℕ) → n ≤ 200 → concat (map Row (from 0 n)) ≡ stretch es 0 (start_of sizes n)
+  rows-joined : (n : ℕ) → n ≤ 200 → flatten (map Row (from 0 n)) ≡ stretch es 0 (start_of sizes n)
   unfolding stretch Row
   rows-joined zero h = ap (stretch es 0) (start_first sizes)
   rows-joined (suc n) h =
       let z : 0 + n ≡ n = omega arith in
       let s : get_or (starts_of sizes) n 0 ≡ 0 + start_of sizes n = start-at n (omega arith) ∙ omega arith in
-      ap (λ (l : List ℕ). concat (map Row l)) (range_more 0 n ∙ ap (λ (j : ℕ). from 0 n ++ (j ∷ [])) z)
-      ∙ ap concat (map-append Row (from 0 n) (n ∷ []))
-      ∙ concat-append (map Row (from 0 n)) (Row n ∷ [])
+      ap (λ (l : List ℕ). flatten (map Row l)) (range_more 0 n ∙ ap (λ (j : ℕ). from 0 n ++ (j ∷ [])) z)
+      ∙ ap flatten (map-append Row (from 0 n) (n ∷ []))
+      ∙ flatten-append (map Row (from 0 n)) (Row n ∷ [])
       ∙ (λ i. rows-joined n (omega arith) i ++ append-nil (Row n) i)
       ∙ ap (λ (j : ℕ). stretch es 0 (start_of sizes n) ++ stretch es j (get_or sizes n 0)) s
       ∙ stretch-on es 0 (start_of sizes n) (get_or sizes n 0)
       ∙ ap (stretch es 0) (sym (start-more sizes n))
 
   -- the entries of a table's rings, joined
-  pub table-entries : (n : ℕ) → n ≤ 200 → concat (table sizes es n).rings ≡ stretch es 0 (start_of sizes n)
+  pub table-entries : (n : ℕ) → n ≤ 200 → flatten (table sizes es n).rings ≡ stretch es 0 (start_of sizes n)
   unfolding table rows Row
   table-entries n h = rows-joined n h

@@ -9,7 +9,7 @@ use lib.Dec.{ltb}
 use borrow.Author.Tests.{ltb-true, ltb-false}
 use Rattle.lists.specs.Ranges.{from}
 use Rattle.lists.proofs.Ranges.{length-map-from, get_or-map-from}
-use Rattle.model.specs.Plan.{Plan, count, neighbour, entries, ring}
+use Rattle.model.specs.Plan.{Plan, context_count, neighbour, entries, ring}
 use Rattle.rings.specs.Tables.{size_of}
 
 -- the first k entries of u's ring are part u k; the i-th of them is item u i
@@ -39,7 +39,7 @@ module _ {part : ℕ → ℕ → List ℕ} {item : ℕ → ℕ → ℕ} (reads :
   unfolding ring
   ring-made u = ap (map neighbour) (entries-made u)
 
-  pub count-made : count (made part sizes n) ≡ n
+  pub count-made : context_count (made part sizes n) ≡ n
   count-made = length-map-from (λ (u : ℕ). part u (get_or sizes u 0)) 0 n
 
   pub size-made : (u : ℕ) → length (ring (made part sizes n) u) ≡ size_of sizes n u

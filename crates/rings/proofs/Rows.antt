@@ -13,7 +13,7 @@ use Rattle.lists.specs.Tests.{member}
 use Rattle.lists.specs.Parts.{index_of}
 use Rattle.lists.specs.Spans.{stretch, span}
 use Rattle.lists.proofs.Spans.{length-stretch, get_or-stretch}
-use Rattle.model.specs.Plan.{count, neighbour, entries, ring, onward, next}
+use Rattle.model.specs.Plan.{context_count, neighbour, entries, ring, onward, next}
 use Rattle.rings.specs.declared.Table as tables
 use Rattle.rings.specs.declared.Rings as rings
 use Rattle.rings.specs.Tables.{sum_of, start_of, starts_of, size_of, rows, table, table_of, plan_of, cell}
@@ -110,7 +110,7 @@ module _ (starts sizes es : List ℕ) (n : ℕ) where
   unfolding rows
   ring-rows u = ring-made (row_reads starts es) sizes n u
 
-  pub count-rows : count (rows starts sizes es n) ≡ n
+  pub count-rows : context_count (rows starts sizes es n) ≡ n
   unfolding rows
   count-rows = count-made (row_reads starts es) sizes n
 

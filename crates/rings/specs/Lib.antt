@@ -1,2 +1,2 @@
 pub mod Tables
-pub mod Lent
+pub mod FilePlans

@@ -2,7 +2,7 @@
 #![tactic(auto)]
 
 ghost use Rattle.std.specs.Prelude.{◌≡◌, ◌+◌, ◌-◌, min, ◌<◌, ◌^◌, get_or};
-ghost use Rattle.model.specs.Plan.{Plan, count, dart_count, labels_due, neighbour, ring};
+ghost use Rattle.model.specs.Plan.{Plan, context_count, dart_count, labels_due, neighbour, ring};
 ghost use Rattle.model.specs.File.{entry_offset};
 ghost use Rattle.rings.specs.Tables.{size_of, starts_of, plan_of, cell};
 
@@ -72,7 +72,7 @@ pub fn dart_count(n: usize) -> usize
 
 // How many labels a plan of n contexts takes.
 pub fn labels_due(n: u16) -> usize
-    ensures { (p : Plan) → count p ≡ n → result ≡ labels_due p }
+    ensures { (p : Plan) → context_count p ≡ n → result ≡ labels_due p }
 {
     dart_count(usize::from(n))
 }
@@ -90,7 +90,11 @@ pub fn size_of(sizes: &[u8], n: usize, u: usize) -> usize
     ensures value { result ≡ size_of sizes.now n u }
     ensures upper_bound { result < 2 ^ 8 }
 {
-    if u < n { arrays::num(sizes, u) } else { 0 }
+    if u < n {
+        arrays::number_at(sizes, u)
+    } else {
+        0
+    }
 }
 
 // Where each ring begins among the entries.
@@ -134,7 +138,7 @@ impl Rings<'_> {
         ensures start { result.start ≡ get_or self.now.starts.now u 0 }
         ensures end { result.end ≡ get_or self.now.starts.now u 0 + size_of self.now.sizes.now self.now.n u }
     {
-        let start = arrays::num(self.starts, u);
+        let start = arrays::number_at(self.starts, u);
         start..start + self.size_of(u)
     }
 
@@ -143,7 +147,7 @@ impl Rings<'_> {
         ensures { result ≡ get_or (ring (plan_of self.now) u) i 0 }
     {
         if i < self.size_of(u) {
-            arrays::at(self.entries, arrays::num(self.starts, u) + i)
+            arrays::at(self.entries, arrays::number_at(self.starts, u) + i)
         } else {
             0
         }

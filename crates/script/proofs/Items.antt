@@ -17,16 +17,16 @@ use Rattle.model.specs.File as file
 use Rattle.model.specs.CallLists.{Call}
 use Rattle.model.proofs.Outcomes.{not-both, same-value}
 use Rattle.refusal.specs.declared.Refusal.{Refusal}
-use Rattle.refusal.specs.Refusals.{told}
+use Rattle.refusal.specs.Refusals.{outcome_of}
 use Rattle.sheet.specs.declared.Sheet.{Sheet}
 use Rattle.sheet.specs.Answers.{packed_as, after}
 use Rattle.script.specs.Scripts.{argument_size, call_of, call_at}
 use Rattle.script.specs.declared.Step.{Step}
-use Rattle.script.specs.Steps.{stepped}
+use Rattle.script.specs.Items.{stepped}
 
 -- ---- what a result leaves
 -- what is there after a call that was answered so
-pub unwrapped : (s : Sheet) (r : Result Sheet Refusal) (o : Outcome file.Sheet) → told r ≡ packed_as o → result_unwrap_or r s ≡ after s o
+pub unwrapped : (s : Sheet) (r : Result Sheet Refusal) (o : Outcome file.Sheet) → outcome_of r ≡ packed_as o → result_unwrap_or r s ≡ after s o
 unfolding packed_as after
 unwrapped s (Ok t) (accepted u) e = same-value e
 unwrapped s (Ok t) (refused k at) e = not-both (sym e)

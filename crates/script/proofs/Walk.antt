@@ -11,10 +11,10 @@ use Rattle.model.specs.CallLists.{Call, call}
 use Rattle.sheet.specs.declared.Sheet.{Sheet}
 use Rattle.sheet.specs.Sheets.{reads}
 use Rattle.sheet.specs.Answers.{after}
-use Rattle.guarantee.specs.Engine.{start, left}
+use Rattle.guarantee.specs.Engine.{fresh_sheet, sheet_after}
 use Rattle.script.specs.Scripts.{argument_size, call_at, behind, with_later, if_called, calls_from, rest_from, calls_of, end_of}
 use Rattle.script.specs.declared.Step.{Step}
-use Rattle.script.specs.Steps.{stepped}
+use Rattle.script.specs.Items.{stepped}
 use Rattle.script.proofs.Items.{item-fits}
 
 -- ---- one item of the definitions
@@ -46,13 +46,13 @@ pub record Runs (b : List ℕ) (s : Sheet) (at : ℕ) : Type 0 where
   pub reached : at ≤ length b
   pub fuel : ℕ
   pub enough : length b ≤ at + fuel
-  pub same : left start (calls_of b) ≡ left s (calls_from fuel (drop at b))
+  pub same : sheet_after fresh_sheet (calls_of b) ≡ sheet_after s (calls_from fuel (drop at b))
   pub rest : rest_from (length b) b ≡ rest_from fuel (drop at b)
 
 -- at the script's beginning, with a fresh sheet
-pub runs-start : {b : List ℕ} {s : Sheet} → s ≡ start → Runs b s 0
+pub runs-start : {b : List ℕ} {s : Sheet} → s ≡ fresh_sheet → Runs b s 0
 unfolding calls_of
-runs-start {b} e = record { reached = omega arith; fuel = length b; enough = omega arith; same = ap (λ (t : Sheet). left t (calls_from (length b) b)) (sym e); rest = refl }
+runs-start {b} e = record { reached = omega arith; fuel = length b; enough = omega arith; same = ap (λ (t : Sheet). sheet_after t (calls_from (length b) b)) (sym e); rest = refl }
 
 -- all that is left from an offset on
 pub rest_whole : (b : List ℕ) (at : ℕ) → take (length b - at) (drop at b) ≡ drop at b
@@ -60,27 +60,27 @@ rest_whole b at = take_all (length b - at) (drop at b) (omega (arith, length-dro
 
 module _ {b : List ℕ} {s : Sheet} {at : ℕ} (inv : Runs b s at) where
   -- no call at this offset: the script ends here
-  stops : call_at (drop at b) ≡ None → (s ≡ left start (calls_of b)) × (at ≡ end_of b)
-  unfolding left end_of
+  stops : call_at (drop at b) ≡ None → (s ≡ sheet_after fresh_sheet (calls_of b)) × (at ≡ end_of b)
+  unfolding sheet_after end_of
   stops e =
       let r = inv.reached in
       let long = ap length (inv.rest ∙ rest-none inv.fuel (drop at b) e) ∙ length-drop at b in
-      (sym (inv.same ∙ ap (left s) (calls_none inv.fuel (drop at b) e)), omega arith)
+      (sym (inv.same ∙ ap (sheet_after s) (calls_none inv.fuel (drop at b) e)), omega arith)
 
   -- the part of the script from the offset on, as the code lends it
   module _ {w : List ℕ} (part : w ≡ drop at b) where
     -- nothing is left: the script ends here, or at a malformed item
-    pub runs_end : {o : Option Step} → o ≡ stepped s (4 + argument_size w) (call_at w) → ((r : Step) → o ≡ Some r → ⊥) → (s ≡ left start (calls_of b)) × (at ≡ end_of b)
+    pub runs_end : {o : Option Step} → o ≡ stepped s (4 + argument_size w) (call_at w) → ((r : Step) → o ≡ Some r → ⊥) → (s ≡ sheet_after fresh_sheet (calls_of b)) × (at ≡ end_of b)
     unfolding stepped
     runs_end {o} e n = go (call_at w) refl e
       where
-        go : (q : Option Call) → call_at w ≡ q → o ≡ stepped s (4 + argument_size w) q → (s ≡ left start (calls_of b)) × (at ≡ end_of b)
+        go : (q : Option Call) → call_at w ≡ q → o ≡ stepped s (4 + argument_size w) q → (s ≡ sheet_after fresh_sheet (calls_of b)) × (at ≡ end_of b)
         go None p f = stops (ap call_at (sym part) ∙ p)
         go (Some c) p f = absurd (n _ f)
 
     -- behind an item
     pub runs_on : (r : Step) → Some r ≡ stepped s (4 + argument_size w) (call_at w) → Runs b r.sheet (at + r.size)
-    unfolding left stepped
+    unfolding sheet_after stepped
     runs_on r e = go (call_at w) refl e
       where
         go : (q : Option Call) → call_at w ≡ q → Some r ≡ stepped s (4 + argument_size w) q → Runs b r.sheet (at + r.size)
@@ -102,7 +102,7 @@ module _ {b : List ℕ} {s : Sheet} {at : ℕ} (inv : Runs b s at) where
               reached = omega arith;
               fuel = f;
               enough = omega arith;
-              same = inv.same ∙ (λ i. left s (calls_from (one i) (sym part i))) ∙ ap (left s) (calls_more f w c p) ∙ λ i. left (sym u i) (calls_from f (next i));
+              same = inv.same ∙ (λ i. sheet_after s (calls_from (one i) (sym part i))) ∙ ap (sheet_after s) (calls_more f w c p) ∙ λ i. sheet_after (sym u i) (calls_from f (next i));
               rest = inv.rest ∙ (λ i. rest_from (one i) (sym part i)) ∙ rest_more f w c p ∙ ap (rest_from f) next;
             }
 

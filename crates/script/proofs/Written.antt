@@ -11,7 +11,7 @@ use Rattle.lists.specs.Words.{bytes}
 use Rattle.lists.proofs.Words.{words-bytes, length-bytes}
 use Rattle.model.specs.CallLists.{Call, open_file, offer_labels, sweep-labels, turn_edges, draw_chart}
 use Rattle.script.specs.Scripts.{argument_size, call_of, call_at, behind, calls_from, rest_from, calls_of, end_of}
-use Rattle.script.specs.Written.{item, item_of, script_of, Below, Holds, AllHeld}
+use Rattle.script.specs.Written.{item, item_of, script_of, Below, FitsItem, AllFitItems}
 use Rattle.script.proofs.Turns.{turn_whole}
 use Rattle.script.proofs.Items.{item-short, item_whole}
 use Rattle.script.proofs.Walk.{calls_more, rest_more, calls_none, rest-none}
@@ -48,7 +48,7 @@ turn-read items direction h =
 -- the item of a call, at the front of a script
 module _ (s : List ℕ) where
   -- the call is read back
-  call-read : (c : Call) → Holds c → call_at (item_of c ++ s) ≡ Some c
+  call-read : (c : Call) → FitsItem c → call_at (item_of c ++ s) ≡ Some c
   unfolding item_of call_of
   call-read (open_file b) h = item-read 1 b s
   call-read (offer_labels ls) h = item-read 2 ls s
@@ -80,7 +80,7 @@ none_left : call_at [] ≡ None
 none_left = item-short [] (omega arith)
 
 -- all calls are read back, and nothing is left, with fuel enough
-calls_read : (cs : List Call) → AllHeld cs → (fuel : ℕ) → length (script_of cs) ≤ fuel → (calls_from fuel (script_of cs) ≡ cs) × (rest_from fuel (script_of cs) ≡ [])
+calls_read : (cs : List Call) → AllFitItems cs → (fuel : ℕ) → length (script_of cs) ≤ fuel → (calls_from fuel (script_of cs) ≡ cs) × (rest_from fuel (script_of cs) ≡ [])
 unfolding script_of
 calls_read [] h fuel l = (calls_none fuel [] none_left, rest-none fuel [] none_left)
 calls_read (c ∷ cs) h zero l = absurd (omega (arith, call_long (script_of cs) c))
@@ -92,12 +92,12 @@ calls_read (c ∷ cs) h (suc fuel) l =
     (calls_more fuel (item_of c ++ s) c e ∙ ap (λ (ds : List Call). c ∷ ds) (ap (calls_from fuel) b ∙ r.0), rest_more fuel (item_of c ++ s) c e ∙ ap (rest_from fuel) b ∙ r.1)
 
 -- THERE AND BACK: the calls of the script of a list are that list
-pub script_calls : (cs : List Call) → AllHeld cs → calls_of (script_of cs) ≡ cs
+pub script_calls : (cs : List Call) → AllFitItems cs → calls_of (script_of cs) ≡ cs
 unfolding calls_of
 script_calls cs h = (calls_read cs h (length (script_of cs)) (omega arith)).0
 
 -- and the script ends at its length
-pub script_ends : (cs : List Call) → AllHeld cs → end_of (script_of cs) ≡ length (script_of cs)
+pub script_ends : (cs : List Call) → AllFitItems cs → end_of (script_of cs) ≡ length (script_of cs)
 unfolding end_of
 script_ends cs h = let e = ap length (calls_read cs h (length (script_of cs)) (omega arith)).1 in omega arith
 
@@ -132,7 +132,7 @@ below-item kind a p q h =
     below_more 256 kind (n % 256 ∷ two) p (below_more 256 (n % 256) two (omega arith) (below_more 256 (n / 256 % 256) (n / 65536 ∷ a) (omega arith) (below_more 256 (n / 65536) a (omega arith) h)))
 
 -- an item of a call
-below-call : (c : Call) → Holds c → Below 256 (item_of c)
+below-call : (c : Call) → FitsItem c → Below 256 (item_of c)
 unfolding item_of
 below-call (open_file b) h = below-item 1 b (omega arith) h.1 h.0
 below-call (offer_labels ls) h = below-item 2 ls (omega arith) h.1 h.0
@@ -143,7 +143,7 @@ below-call (turn_edges items direction) h =
 below-call draw_chart h = below-item 5 [] (omega arith) (omega arith) (below_none 256)
 
 -- what run_script takes
-pub script_bytes : (cs : List Call) → AllHeld cs → Below 256 (script_of cs)
+pub script_bytes : (cs : List Call) → AllFitItems cs → Below 256 (script_of cs)
 unfolding script_of
 script_bytes [] h = below_none 256
 script_bytes (c ∷ cs) h = below_join 256 (item_of c) (script_of cs) (below-call c h.0) (script_bytes cs h.1)

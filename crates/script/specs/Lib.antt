@@ -1,3 +1,3 @@
 pub mod Scripts
 pub mod Written
-pub mod Steps
+pub mod Items

@@ -13,8 +13,8 @@ abbrev pub alone : Call → List ℕ → Option Call
 alone c a = cond (eqb (length a) 0) (Some c) None
 
 -- turn: the direction, then numbers of two bytes, at most 1200; so an odd number of bytes, at most 2401
-unfoldable pub turn_of : List ℕ → Option Call
-turn_of a = cond (eqb (length a % 2) 1 && leb (length a) 2401) (Some (turn_edges (words (drop 1 a)) (get_or a 0 0))) None
+unfoldable pub turn_item : List ℕ → Option Call
+turn_item a = cond (eqb (length a % 2) 1 && leb (length a) 2401) (Some (turn_edges (words (drop 1 a)) (get_or a 0 0))) None
 
 -- The call of a kind with its argument; none where there is no such kind or the argument is not one of its kind
 unfoldable pub call_of : ℕ → List ℕ → Option Call
@@ -22,7 +22,7 @@ call_of kind a =
     cond (eqb kind 1) (Some (open_file a))
     (cond (eqb kind 2) (Some (offer_labels a))
     (cond (eqb kind 3) (alone sweep-labels a)
-    (cond (eqb kind 4) (turn_of a)
+    (cond (eqb kind 4) (turn_item a)
     (cond (eqb kind 5) (alone draw_chart a)
     None))))
 
@@ -64,5 +64,5 @@ end_of script = length script - length (rest_from (length script) script)
 
 -- who unfolds this unfolds all of the above: for facts that are computed
 unfoldable pub scripts_computes : Unit {0}
-unfolding turn_of call_of call_at calls_from rest_from calls_of end_of
+unfolding turn_item call_of call_at calls_from rest_from calls_of end_of
 scripts_computes = tt

@@ -26,14 +26,14 @@ abbrev pub Below : ℕ → List ℕ → Type 0
 Below k l = (a : ℕ) → Memᴰ a l → a < k
 
 -- an argument that an item can hold: fewer than 2 ^ 24 bytes of a file or of labels; at most 1200 numbers of two bytes and a direction of one
-abbrev pub Holds : Call → Type 0
-Holds (open_file b) = Below 256 b × (length b < 2 ^ 24)
-Holds (offer_labels ls) = Below 256 ls × (length ls < 2 ^ 24)
-Holds sweep-labels = Unit {0}
-Holds (turn_edges items direction) = Below 65536 items × (length items ≤ 1200) × (direction < 256)
-Holds draw_chart = Unit {0}
+abbrev pub FitsItem : Call → Type 0
+FitsItem (open_file b) = Below 256 b × (length b < 2 ^ 24)
+FitsItem (offer_labels ls) = Below 256 ls × (length ls < 2 ^ 24)
+FitsItem sweep-labels = Unit {0}
+FitsItem (turn_edges items direction) = Below 65536 items × (length items ≤ 1200) × (direction < 256)
+FitsItem draw_chart = Unit {0}
 
 -- every call of a list has such an argument
-abbrev pub AllHeld : List Call → Type 0
-AllHeld [] = Unit {0}
-AllHeld (c ∷ cs) = Holds c × AllHeld cs
+abbrev pub AllFitItems : List Call → Type 0
+AllFitItems [] = Unit {0}
+AllFitItems (c ∷ cs) = FitsItem c × AllFitItems cs

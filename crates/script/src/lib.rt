@@ -10,10 +10,10 @@
 #![tactic(auto)]
 
 ghost use Rattle.std.specs.Prelude.{◌≡◌, ◌+◌, ◌*◌};
-ghost use Rattle.guarantee.specs.Engine.{start, left};
+ghost use Rattle.guarantee.specs.Engine.{fresh_sheet, sheet_after};
 ghost use Rattle.guarantee.specs.Guarantee.{Guarantee};
-ghost use Rattle.script.specs.Scripts.{argument_size, turn_of, call_of, call_at, calls_of, end_of};
-ghost use Rattle.script.specs.Steps.{number_of, IsKind, ran, answered, stepped};
+ghost use Rattle.script.specs.Scripts.{argument_size, turn_item, call_of, call_at, calls_of, end_of};
+ghost use Rattle.script.specs.Items.{item_number, IsKind, ran, item_answer, stepped};
 
 use refusal::Refusal;
 use sheet::Sheet;
@@ -57,9 +57,9 @@ fn kind_of(number: u8) -> Option<Kind>
 }
 
 // An item of the kind turn: malformed without a direction, with an odd byte over, or with more than 1200 numbers.
-#[tactic(auto, using(crate::proofs::Turns::numbers_front), unfolding(model::specs::CallLists::call, crate::specs::Scripts::turn_of, crate::specs::Steps::answered))]
+#[tactic(auto, using(crate::proofs::Turns::numbers_front), unfolding(model::specs::CallLists::call, crate::specs::Scripts::turn_item, crate::specs::Items::item_answer))]
 fn run_turn(sheet: Sheet, argument: &[u8]) -> Option<Result<Sheet, Refusal>>
-    ensures { ran result ≡ answered sheet (turn_of argument.now) }
+    ensures { ran result ≡ item_answer sheet (turn_item argument.now) }
 {
     let long = argument.len();
     if long % 2 != 1 || 2401 < long {
@@ -67,20 +67,20 @@ fn run_turn(sheet: Sheet, argument: &[u8]) -> Option<Result<Sheet, Refusal>>
     }
     let k = long / 2;
     let numbers = arrays::words::<1200>(argument, 1, 2, k);
-    Some(calls::turn(sheet, &numbers[..k], argument[0]))
+    Some(sheet_updates::turn(sheet, &numbers[..k], argument[0]))
 }
 
 // An item of a kind with its argument: what its call answers; nothing where it is malformed.
-#[tactic(auto, unfolding(model::specs::CallLists::call, crate::specs::Scripts::call_of, crate::specs::Steps::answered))]
+#[tactic(auto, unfolding(model::specs::CallLists::call, crate::specs::Scripts::call_of, crate::specs::Items::item_answer))]
 fn run_call(sheet: Sheet, kind: Kind, argument: &[u8]) -> Option<Result<Sheet, Refusal>>
-    ensures { ran result ≡ answered sheet (call_of (number_of kind) argument.now) }
+    ensures { ran result ≡ item_answer sheet (call_of (item_number kind) argument.now) }
 {
     match kind {
-        Kind::Open => Some(opening::open_file(argument)),
-        Kind::Offer => Some(calls::offer(sheet, argument)),
-        Kind::Sweep if argument.is_empty() => Some(calls::sweep(sheet)),
+        Kind::Open => Some(sheet_open::open_file(argument)),
+        Kind::Offer => Some(sheet_updates::offer(sheet, argument)),
+        Kind::Sweep if argument.is_empty() => Some(sheet_updates::sweep(sheet)),
         Kind::Turn => run_turn(sheet, argument),
-        Kind::Chart if argument.is_empty() => Some(calls::chart(sheet)),
+        Kind::Chart if argument.is_empty() => Some(sheet_updates::chart(sheet)),
         _ => None,
     }
 }
@@ -93,7 +93,7 @@ fn size_of(low: u8, middle: u8, high: u8) -> usize
 }
 
 // The item that the bytes begin with; nothing where it is malformed.
-#[tactic(auto, using(crate::proofs::Items::steps), unfolding(crate::specs::Scripts::call_at, crate::specs::Steps::answered, crate::specs::Steps::stepped))]
+#[tactic(auto, using(crate::proofs::Items::steps), unfolding(crate::specs::Scripts::call_at, crate::specs::Items::item_answer, crate::specs::Items::stepped))]
 fn run_item(sheet: Sheet, rest: &[u8]) -> Option<Step>
     ensures { result ≡ stepped sheet (4 + argument_size rest.now) (call_at rest.now) }
 {
@@ -112,7 +112,7 @@ fn run_item(sheet: Sheet, rest: &[u8]) -> Option<Step>
 // Runs the calls of a script from a fresh sheet, refused ones included. What stands on the sheet then is what demand 3 says of this very list of calls.
 #[tactic(auto, using(crate::proofs::Walk::steps))]
 pub fn run_script(script: &[u8]) -> Ran
-    ensures sheet_value { result.sheet ≡ left start (calls_of script.now) }
+    ensures sheet_value { result.sheet ≡ sheet_after fresh_sheet (calls_of script.now) }
     ensures at_value { result.at ≡ end_of script.now }
     ensures guarantee { Guarantee (calls_of script.now) }
 {

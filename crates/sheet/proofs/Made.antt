@@ -8,16 +8,16 @@ use native.Mathlib.Omega.{arith}
 use lib.ListN.{length, get_or, take, drop, replicate, length-take}
 use lib.Seq.{ext_get_or, get_or-drop, take_all}
 use Rattle.std.proofs.lemmas.List.{get_or-take, drop-replicate}
-use Rattle.lists.specs.Spans.{stretch, zeros, padded}
-use Rattle.lists.proofs.Loops.{padded-none}
+use Rattle.lists.specs.Spans.{stretch, zeros, zero_padded}
+use Rattle.lists.proofs.Loops.{zero_padded-none}
 use Rattle.lists.proofs.Ranges.{lt-or-le}
-use Rattle.lists.proofs.Padded.{get_or-padded, length-padded}
+use Rattle.lists.proofs.Padded.{get_or-zero_padded, length-zero_padded}
 use Rattle.lists.proofs.Spans.{past, length-stretch, get_or-stretch, stretch-first}
 use Rattle.model.specs.File as file
 use Rattle.rings.specs.Tables.{start_of, starts_of, table}
 use Rattle.rings.proofs.Rows.{count-rows}
 use Rattle.rings.proofs.Joined.{table_sizes, table-entries}
-use Rattle.charts.specs.Charts.{chart_on}
+use Rattle.chart_points.specs.Charts.{chart_on}
 use Rattle.sheet.specs.declared.Sheet.{Sheet}
 use Rattle.sheet.specs.declared.Stage.{Stage}
 use Rattle.sheet.specs.declared.Stage.TheVariants.{Labelled, Charted}
@@ -34,12 +34,12 @@ part_reads s at k i = go (lt-or-le i k)
     go (inr h) = sym (past (take k (drop at s)) i (omega (arith, length-take k (drop at s)))) ∙ past (stretch s at k) i (omega (arith, length-stretch s at k))
 
 -- the part of a list from an offset on, at most k elements, in an array with zeros behind it
-pub part_padded : (s : List ℕ) (at k m : ℕ) → k ≤ m → padded m (take k (drop at s)) ≡ padded m (stretch s at k)
+pub part_padded : (s : List ℕ) (at k m : ℕ) → k ≤ m → zero_padded m (take k (drop at s)) ≡ zero_padded m (stretch s at k)
 part_padded s at k m h =
     let l = take k (drop at s) in
-    let a = length-padded m l (omega (arith, length-take k (drop at s))) in
-    let b = length-padded m (stretch s at k) (omega (arith, length-stretch s at k)) in
-    ext_get_or 0 (padded m l) (padded m (stretch s at k)) (a ∙ sym b) (λ i p. get_or-padded m l i ∙ part_reads s at k i ∙ sym (get_or-padded m (stretch s at k) i))
+    let a = length-zero_padded m l (omega (arith, length-take k (drop at s))) in
+    let b = length-zero_padded m (stretch s at k) (omega (arith, length-stretch s at k)) in
+    ext_get_or 0 (zero_padded m l) (zero_padded m (stretch s at k)) (a ∙ sym b) (λ i p. get_or-zero_padded m l i ∙ part_reads s at k i ∙ sym (get_or-zero_padded m (stretch s at k) i))
 
 -- so many elements as there are
 pub take-there : (a : List ℕ) (k : ℕ) → take (min k (length a)) a ≡ take k a
@@ -53,12 +53,12 @@ take-there a k = go (lt-or-le k (length a))
 abbrev fronted : ℕ → List ℕ → List ℕ → List ℕ
 fronted k a old = take (min k (length a)) a ++ drop (min k (length a)) old
 
-fronted-padded : (m k : ℕ) (a old : List ℕ) → k ≤ m → old ≡ padded m [] → fronted k a old ≡ padded m (stretch a 0 k)
-unfolding padded zeros
-fronted-padded m k a old h e =
+fronted-zero_padded : (m k : ℕ) (a old : List ℕ) → k ≤ m → old ≡ zero_padded m [] → fronted k a old ≡ zero_padded m (stretch a 0 k)
+unfolding zero_padded zeros
+fronted-zero_padded m k a old h e =
     let j = min k (length a) in
     let size : j ≡ length (take k a) = omega (arith, length-take k a) in
-    let behind : drop j old ≡ replicate (m - length (take k a)) 0 = ap (drop j) (e ∙ padded-none m) ∙ drop-replicate j m 0 ∙ ap (λ (i : ℕ). replicate (m - i) 0) size in
+    let behind : drop j old ≡ replicate (m - length (take k a)) 0 = ap (drop j) (e ∙ zero_padded-none m) ∙ drop-replicate j m 0 ∙ ap (λ (i : ℕ). replicate (m - i) 0) size in
     (λ i. take-there a k i ++ behind i) ∙ part_padded a 0 k m h
 
 -- ---- a sheet
@@ -78,9 +78,9 @@ module _ (sizes es : List ℕ) (n : ℕ) (few : n ≤ 200) where
       λ i. record {
         stage = g;
         n = all i;
-        sizes = (p ∙ fronted-padded 200 n sizes s.sizes few (ap (λ (v : Sheet). v.sizes) e) ∙ ap (padded 200) (sym (table_sizes sizes es n))) i;
-        entries = (f ∙ fronted-padded 1186 t es s.entries (omega arith) (ap (λ (v : Sheet). v.entries) e) ∙ ap (λ (j : ℕ). padded 1186 (stretch es 0 j)) total ∙ ap (padded 1186) (sym (table-entries sizes es n few))) i;
-        labels = (r ∙ fronted-padded 1186 k ls s.labels (omega arith) (ap (λ (v : Sheet). v.labels) e) ∙ ap (padded 1186) front) i;
+        sizes = (p ∙ fronted-zero_padded 200 n sizes s.sizes few (ap (λ (v : Sheet). v.sizes) e) ∙ ap (zero_padded 200) (sym (table_sizes sizes es n))) i;
+        entries = (f ∙ fronted-zero_padded 1186 t es s.entries (omega arith) (ap (λ (v : Sheet). v.entries) e) ∙ ap (λ (j : ℕ). zero_padded 1186 (stretch es 0 j)) total ∙ ap (zero_padded 1186) (sym (table-entries sizes es n few))) i;
+        labels = (r ∙ fronted-zero_padded 1186 k ls s.labels (omega arith) (ap (λ (v : Sheet). v.labels) e) ∙ ap (zero_padded 1186) front) i;
         w = (e i).w;
         h = (e i).h;
         xs = (e i).xs;
@@ -99,8 +99,8 @@ module _ (sizes es : List ℕ) (n : ℕ) (few : n ≤ 200) where
     labels = (e i).labels;
     w = w;
     h = h;
-    xs = (p ∙ fronted-padded 200 n xs s.xs few (ap (λ (v : Sheet). v.xs) e)) i;
-    ys = (q ∙ fronted-padded 200 n ys s.ys few (ap (λ (v : Sheet). v.ys) e)) i;
+    xs = (p ∙ fronted-zero_padded 200 n xs s.xs few (ap (λ (v : Sheet). v.xs) e)) i;
+    ys = (q ∙ fronted-zero_padded 200 n ys s.ys few (ap (λ (v : Sheet). v.ys) e)) i;
   }
 
 -- ---- from a sheet whose plan fits
@@ -126,4 +126,4 @@ module _ (s : Sheet) (f : fits s ≡ true) where
       let there : take m ls ≡ take k ls = ap (λ (j : ℕ). take j ls) e ∙ take-there ls k in
       let p = held_plan s in
       h ∙ ap (λ (l : List ℕ). pack Labelled p.rings l no_chart) (take_all 1186 (take m ls) (omega (arith, length-take m ls)) ∙ there)
-      ∙ λ i. record (pack Labelled p.rings (take k ls) no_chart) { labels = (part_padded ls 0 k 1186 (omega arith) ∙ ap (λ (j : ℕ). padded 1186 (stretch ls 0 j)) total) i }
+      ∙ λ i. record (pack Labelled p.rings (take k ls) no_chart) { labels = (part_padded ls 0 k 1186 (omega arith) ∙ ap (λ (j : ℕ). zero_padded 1186 (stretch ls 0 j)) total) i }

@@ -16,90 +16,90 @@ use Rattle.std.proofs.lemmas.Bool.Decides.{nat_tests}
 use Rattle.model.specs.Outcome.{Outcome, accepted, refused, passed, require, rule, taken, ◌>>◌}
 use Rattle.std.specs.declared.result.Result.{Result}
 use Rattle.refusal.specs.declared.Refusal.{Refusal}
-use Rattle.refusal.specs.Refusals.{told}
-use Rattle.model.specs.Plan.{Plan, count, entry_count, plan_rules}
+use Rattle.refusal.specs.Refusals.{outcome_of}
+use Rattle.model.specs.Plan.{Plan, context_count, entry_count, plan_rules}
 use Rattle.model.specs.Labels.{label_rules}
 use Rattle.model.specs.File as file
-use Rattle.model.specs.Calls.{plan_of, labels_of, chart_of, judge}
+use Rattle.model.specs.Calls.{require_plan, require_labels, require_chart, judge}
 use Rattle.rings.specs.declared.Rings as rings
 use Rattle.rings.specs.Tables as flat
 use Rattle.rings.specs.Tables.{start_of, starts_of, rows, table}
 use Rattle.rings.proofs.Rows.{count-rows}
-use Rattle.fit.proofs.Fits.{fit-says, total-is, all-counted}
+use Rattle.plan_bounds.proofs.Fits.{fit-says, total-is, all-counted}
 use Rattle.model.proofs.Outcomes.{not-both, require-passed, then_accepted}
 use Rattle.sheet.specs.contracts.StageOrd.TheImpl.{cmp-value}
 use Rattle.sheet.specs.contracts.StagePartialOrd.TheImpl.{partial_cmp-value}
 use Rattle.sheet.specs.declared.Sheet.{Sheet}
 use Rattle.sheet.specs.declared.Stage.{Stage}
 use Rattle.sheet.specs.declared.Stage.TheVariants.{Empty, Open, Labelled, Charted}
-use Rattle.sheet.specs.Sheets.{held_count, held_plan, held_labels, held_chart, held, fits, reads, stage_read, rank, packed}
+use Rattle.sheet.specs.Sheets.{held_count, held_plan, held_labels, held_chart, held_sheet, fits, reads, stage_read, rank, packed}
 use Rattle.sheet.specs.Answers.{packed_as, answer_of, after}
 
 -- ---- a struct reads by the stage that counts
-pub reads-stage : (s : Sheet) → reads s ≡ held (stage_read s) s
-unfolding reads stage_read held
+pub reads-stage : (s : Sheet) → reads s ≡ held_sheet (stage_read s) s
+unfolding reads stage_read held_sheet
 reads-stage s = go (fits s)
   where
-    go : (b : Bool) → cond b (held s.stage s) file.fresh ≡ held (cond b s.stage Empty) s
+    go : (b : Bool) → cond b (held_sheet s.stage s) file.fresh ≡ held_sheet (cond b s.stage Empty) s
     go true = refl
     go false = refl
 
 module _ (s : Sheet) where
-  pub plan_early : rank (stage_read s) < 1 → plan_of (reads s) ≡ refused 13 0
-  unfolding rank held plan_of
-  plan_early h = ap plan_of (reads-stage s) ∙ go (stage_read s) h
+  pub plan_early : rank (stage_read s) < 1 → require_plan (reads s) ≡ refused 13 0
+  unfolding rank held_sheet require_plan
+  plan_early h = ap require_plan (reads-stage s) ∙ go (stage_read s) h
     where
-      go : (g : Stage) → rank g < 1 → plan_of (held g s) ≡ refused 13 0
+      go : (g : Stage) → rank g < 1 → require_plan (held_sheet g s) ≡ refused 13 0
       go Empty h = refl
       go Open h = absurd (omega arith)
       go Labelled h = absurd (omega arith)
       go Charted h = absurd (omega arith)
 
-  pub plan_there : 1 ≤ rank (stage_read s) → plan_of (reads s) ≡ accepted (held_plan s)
-  unfolding rank held plan_of
-  plan_there h = ap plan_of (reads-stage s) ∙ go (stage_read s) h
+  pub plan_there : 1 ≤ rank (stage_read s) → require_plan (reads s) ≡ accepted (held_plan s)
+  unfolding rank held_sheet require_plan
+  plan_there h = ap require_plan (reads-stage s) ∙ go (stage_read s) h
     where
-      go : (g : Stage) → 1 ≤ rank g → plan_of (held g s) ≡ accepted (held_plan s)
+      go : (g : Stage) → 1 ≤ rank g → require_plan (held_sheet g s) ≡ accepted (held_plan s)
       go Empty h = absurd (omega arith)
       go Open h = refl
       go Labelled h = refl
       go Charted h = refl
 
-  pub labels_early : rank (stage_read s) < 2 → labels_of (reads s) ≡ refused 13 0
-  unfolding rank held labels_of
-  labels_early h = ap labels_of (reads-stage s) ∙ go (stage_read s) h
+  pub labels_early : rank (stage_read s) < 2 → require_labels (reads s) ≡ refused 13 0
+  unfolding rank held_sheet require_labels
+  labels_early h = ap require_labels (reads-stage s) ∙ go (stage_read s) h
     where
-      go : (g : Stage) → rank g < 2 → labels_of (held g s) ≡ refused 13 0
+      go : (g : Stage) → rank g < 2 → require_labels (held_sheet g s) ≡ refused 13 0
       go Empty h = refl
       go Open h = refl
       go Labelled h = absurd (omega arith)
       go Charted h = absurd (omega arith)
 
-  pub labels_there : 2 ≤ rank (stage_read s) → labels_of (reads s) ≡ accepted (held_plan s, held_labels s)
-  unfolding rank held labels_of
-  labels_there h = ap labels_of (reads-stage s) ∙ go (stage_read s) h
+  pub labels_there : 2 ≤ rank (stage_read s) → require_labels (reads s) ≡ accepted (held_plan s, held_labels s)
+  unfolding rank held_sheet require_labels
+  labels_there h = ap require_labels (reads-stage s) ∙ go (stage_read s) h
     where
-      go : (g : Stage) → 2 ≤ rank g → labels_of (held g s) ≡ accepted (held_plan s, held_labels s)
+      go : (g : Stage) → 2 ≤ rank g → require_labels (held_sheet g s) ≡ accepted (held_plan s, held_labels s)
       go Empty h = absurd (omega arith)
       go Open h = absurd (omega arith)
       go Labelled h = refl
       go Charted h = refl
 
-  pub chart_early : rank (stage_read s) < 3 → chart_of (reads s) ≡ refused 13 0
-  unfolding rank held chart_of
-  chart_early h = ap chart_of (reads-stage s) ∙ go (stage_read s) h
+  pub chart_early : rank (stage_read s) < 3 → require_chart (reads s) ≡ refused 13 0
+  unfolding rank held_sheet require_chart
+  chart_early h = ap require_chart (reads-stage s) ∙ go (stage_read s) h
     where
-      go : (g : Stage) → rank g < 3 → chart_of (held g s) ≡ refused 13 0
+      go : (g : Stage) → rank g < 3 → require_chart (held_sheet g s) ≡ refused 13 0
       go Empty h = refl
       go Open h = refl
       go Labelled h = refl
       go Charted h = absurd (omega arith)
 
-  pub chart_there : 3 ≤ rank (stage_read s) → chart_of (reads s) ≡ accepted (held_plan s, held_chart s)
-  unfolding rank held chart_of
-  chart_there h = ap chart_of (reads-stage s) ∙ go (stage_read s) h
+  pub chart_there : 3 ≤ rank (stage_read s) → require_chart (reads s) ≡ accepted (held_plan s, held_chart s)
+  unfolding rank held_sheet require_chart
+  chart_there h = ap require_chart (reads-stage s) ∙ go (stage_read s) h
     where
-      go : (g : Stage) → 3 ≤ rank g → chart_of (held g s) ≡ accepted (held_plan s, held_chart s)
+      go : (g : Stage) → 3 ≤ rank g → require_chart (held_sheet g s) ≡ accepted (held_plan s, held_chart s)
       go Empty h = absurd (omega arith)
       go Open h = absurd (omega arith)
       go Labelled h = absurd (omega arith)
@@ -121,10 +121,10 @@ module _ (s : Sheet) where
 
   -- and it keeps its rules, where the sheet keeps what an opened file must keep
   pub rules_there : 1 ≤ rank (stage_read s) → judge (reads s) ≡ passed → plan_rules (held_plan s) ≡ passed
-  unfolding rank held judge
+  unfolding rank held_sheet judge
   rules_there h e = go (stage_read s) h (ap judge (sym (reads-stage s)) ∙ e)
     where
-      go : (g : Stage) → 1 ≤ rank g → judge (held g s) ≡ passed → plan_rules (held_plan s) ≡ passed
+      go : (g : Stage) → 1 ≤ rank g → judge (held_sheet g s) ≡ passed → plan_rules (held_plan s) ≡ passed
       go Empty h j = absurd (omega arith)
       go Open h j = j
       go Labelled h j = (then_accepted (plan_rules (held_plan s)) (label_rules (held_plan s) (held_labels s)) tt j).0
@@ -133,7 +133,7 @@ module _ (s : Sheet) where
           (then_accepted (plan_rules (held_plan s)) (label_rules (held_plan s) (held_labels s)) tt (then_accepted rules _ tt j).0).0
 
   -- the plan has n contexts
-  pub count_held : count (held_plan s) ≡ s.n
+  pub count_held : context_count (held_plan s) ≡ s.n
   unfolding held_plan table
   count_held = count-rows (starts_of s.sizes) s.sizes s.entries s.n
 
@@ -199,9 +199,9 @@ stage_order g h = ap (λ (b : Bool). cond b (refused 13 0) passed) (below h g) �
     turned a b = grind (arith, nat_tests)
 
 -- what the answer of a test for a stage says, whatever else it gives
-module _ (s : Sheet) (k : ℕ) {A : Type 0} (r : Result A Refusal) (q : answer_of (told r) ≡ require (leb k (rank (stage_read s))) 13 0) where
-  says : {v : Result A Refusal} → r ≡ v → answer_of (told v) ≡ require (leb k (rank (stage_read s))) 13 0
-  says e = ap (λ (w : Result A Refusal). answer_of (told w)) (sym e) ∙ q
+module _ (s : Sheet) (k : ℕ) {A : Type 0} (r : Result A Refusal) (q : answer_of (outcome_of r) ≡ require (leb k (rank (stage_read s))) 13 0) where
+  says : {v : Result A Refusal} → r ≡ v → answer_of (outcome_of v) ≡ require (leb k (rank (stage_read s))) 13 0
+  says e = ap (λ (w : Result A Refusal). answer_of (outcome_of w)) (sym e) ∙ q
 
   -- the stage is reached
   pub fitting_reached : (a : A) → r ≡ Ok a → k ≤ rank (stage_read s)
@@ -218,7 +218,7 @@ module _ (s : Sheet) (k : ℕ) {A : Type 0} (r : Result A Refusal) (q : answer_o
       go false t = leb-false k (rank (stage_read s)) t
 
   -- and the refusal is 13, whatever the call answers else
-  pub fitting_refused : {B : Type 0} → (f : Refusal) → r ≡ Err f → told {A = B} (Err f) ≡ refused 13 0
+  pub fitting_refused : {B : Type 0} → (f : Refusal) → r ≡ Err f → outcome_of {A = B} (Err f) ≡ refused 13 0
   unfolding answer_of
   fitting_refused {B} f e =
       let h = fitting_missed f e in
@@ -228,12 +228,12 @@ module _ (s : Sheet) (k : ℕ) {A : Type 0} (r : Result A Refusal) (q : answer_o
       other = refused 13 0
 
 -- so of a test that gives nothing else
-module _ (s : Sheet) (g : Stage) (r : Result (Unit {0}) Refusal) (q : told r ≡ require (leb (rank g) (rank (stage_read s))) 13 0) where
-  alone : answer_of (told r) ≡ require (leb (rank g) (rank (stage_read s))) 13 0
+module _ (s : Sheet) (g : Stage) (r : Result (Unit {0}) Refusal) (q : outcome_of r ≡ require (leb (rank g) (rank (stage_read s))) 13 0) where
+  alone : answer_of (outcome_of r) ≡ require (leb (rank g) (rank (stage_read s))) 13 0
   unfolding answer_of
   alone = go r ∙ q
     where
-      go : (v : Result (Unit {0}) Refusal) → answer_of (told v) ≡ told v
+      go : (v : Result (Unit {0}) Refusal) → answer_of (outcome_of v) ≡ outcome_of v
       go (Ok tt) = refl
       go (Err f) = refl
 
@@ -243,7 +243,7 @@ module _ (s : Sheet) (g : Stage) (r : Result (Unit {0}) Refusal) (q : told r ≡
   pub stage_missed : (f : Refusal) → r ≡ Err f → rank (stage_read s) < rank g
   stage_missed = fitting_missed s (rank g) r alone
 
-  pub stage_refused : {A : Type 0} → (f : Refusal) → r ≡ Err f → told {A = A} (Err f) ≡ refused 13 0
+  pub stage_refused : {A : Type 0} → (f : Refusal) → r ≡ Err f → outcome_of {A = A} (Err f) ≡ refused 13 0
   stage_refused = fitting_refused s (rank g) r alone
 
   -- and past EMPTY the plan fits
@@ -283,9 +283,9 @@ unfolding packed_as
 packed-at e = ap packed_as e
 
 -- The result tells the answer, and with the sheet before the call the sheet after it
-pub told-answers : (s : Sheet) (r : Result Sheet Refusal) (o : Outcome file.Sheet) → told r ≡ packed_as o → (answer_of (told r) ≡ answer_of o) × (taken s (told r) ≡ after s o)
+pub outcome_of-answers : (s : Sheet) (r : Result Sheet Refusal) (o : Outcome file.Sheet) → outcome_of r ≡ packed_as o → (answer_of (outcome_of r) ≡ answer_of o) × (taken s (outcome_of r) ≡ after s o)
 unfolding packed_as answer_of after taken
-told-answers s r o e = (ap answer_of e ∙ answers o, ap (taken s) e ∙ leaves o)
+outcome_of-answers s r o e = (ap answer_of e ∙ answers o, ap (taken s) e ∙ leaves o)
   where
     answers : (o : Outcome file.Sheet) → answer_of (packed_as o) ≡ answer_of o
     answers (accepted t) = refl

@@ -15,14 +15,14 @@ use Rattle.model.specs.Labels.{label_rules}
 use Rattle.model.specs.Chart.{Chart, chart, same_chart}
 use Rattle.model.specs.File as file
 use Rattle.model.specs.File.{decode, encode}
-use Rattle.model.specs.Calls.{plan_of, judge, open_call, write_call}
+use Rattle.model.specs.Calls.{require_plan, judge, open_call, write_call}
 use Rattle.model.proofs.Outcomes.{bind_at, then_at, same-value, then_accepted}
 use Rattle.model.proofs.PlanRules.{sound, says-entry}
 use Rattle.model.proofs.FileWrite.{PlanFits, Fits, written_read}
 use Rattle.model.proofs.FileRead.{read_fits, read-written}
 use Rattle.model.proofs.RingPart.{open_accepted}
-use Rattle.fit.specs.Fits.{fit}
-use Rattle.fit.proofs.Fits.{says-fit}
+use Rattle.plan_bounds.specs.Fits.{fit}
+use Rattle.plan_bounds.proofs.Fits.{says-fit}
 use Rattle.sheet.specs.declared.Sheet.{Sheet}
 use Rattle.sheet.specs.Sheets.{reads, packed}
 use Rattle.sheet.specs.Answers.{answer_of, after}
@@ -45,8 +45,8 @@ judged_held (file.charted p ls c) f e =
     (plan-held p f.0 r, f.1 ∙ sym (sound p r).total, record { xs_each = f.2.xs_each; ys_each = f.2.ys_each })
 
 -- ---- write, on a sheet that has a file
-pub has-plan : (t : file.Sheet) → Fits t → (p : Plan) × (plan_of t ≡ accepted p)
-unfolding plan_of
+pub has-plan : (t : file.Sheet) → Fits t → (p : Plan) × (require_plan t ≡ accepted p)
+unfolding require_plan
 has-plan file.fresh f = absurd f
 has-plan (file.opened p) f = (p, refl)
 has-plan (file.labelled p ls) f = (p, refl)
@@ -64,7 +64,7 @@ module _ (t : file.Sheet) (f : Fits t) (d : List ℕ) where
 
   write_there : write_call t d ≡ (room >> given)
   unfolding write_call
-  write_there = let (p, e) = has-plan t f in bind_at (plan_of t) p (λ (q : Plan). room >> given) e
+  write_there = let (p, e) = has-plan t f in bind_at (require_plan t) p (λ (q : Plan). room >> given) e
 
   pub write_room : length b ≤ length d → write_call t d ≡ given
   write_room h = write_there ∙ then_at room tt given (ap (λ (v : Bool). require v 16 (length b)) (le-leb (length b) (length d) h))

@@ -1,12 +1,12 @@
 -- The sheet struct and the sheet that it holds: what a struct reads as, and the struct that a sheet is packed into.
 use Rattle.std.specs.Prelude.{ℕ, List, [], map, Bool, cond, length}
-use Rattle.lists.specs.Parts.{concat}
-use Rattle.lists.specs.Spans.{stretch, padded}
+use Rattle.lists.specs.Parts.{flatten}
+use Rattle.lists.specs.Spans.{stretch, zero_padded}
 use Rattle.model.specs.Plan.{Plan}
 use Rattle.model.specs.Chart.{Chart}
 use Rattle.model.specs.File as file
 use Rattle.rings.specs.Tables.{start_of, table}
-use Rattle.fit.specs.Fits.{fit}
+use Rattle.plan_bounds.specs.Fits.{fit}
 use Rattle.sheet.specs.declared.Sheet.{Sheet}
 use Rattle.sheet.specs.declared.Stage.{Stage}
 use Rattle.sheet.specs.declared.Stage.TheVariants.{Empty, Open, Labelled, Charted}
@@ -28,11 +28,11 @@ unfoldable pub held_chart : Sheet → Chart
 held_chart s = record { w = s.w; h = s.h; xs = stretch s.xs 0 s.n; ys = stretch s.ys 0 s.n }
 
 -- the sheet that a struct holds at a stage
-unfoldable pub held : Stage → Sheet → file.Sheet
-held Empty s = file.fresh
-held Open s = file.opened (held_plan s)
-held Labelled s = file.labelled (held_plan s) (held_labels s)
-held Charted s = file.charted (held_plan s) (held_labels s) (held_chart s)
+unfoldable pub held_sheet : Stage → Sheet → file.Sheet
+held_sheet Empty s = file.fresh
+held_sheet Open s = file.opened (held_plan s)
+held_sheet Labelled s = file.labelled (held_plan s) (held_labels s)
+held_sheet Charted s = file.charted (held_plan s) (held_labels s) (held_chart s)
 
 -- the plan fits: its rings into the arrays, and each entry is a context
 unfoldable pub fits : Sheet → Bool
@@ -40,7 +40,7 @@ fits s = fit (held_plan s)
 
 -- What a struct reads as. One whose plan does not fit, which no call leaves, reads as a fresh sheet.
 unfoldable pub reads : Sheet → file.Sheet
-reads s = cond (fits s) (held s.stage s) file.fresh
+reads s = cond (fits s) (held_sheet s.stage s) file.fresh
 
 -- the stage that counts: EMPTY where the plan does not fit
 unfoldable pub stage_read : Sheet → Stage
@@ -58,13 +58,13 @@ unfoldable pub pack : Stage → List (List ℕ) → List ℕ → Chart → Sheet
 pack g rs ls c = record {
   stage = g;
   n = length rs;
-  sizes = padded 200 (map length rs);
-  entries = padded 1186 (concat rs);
-  labels = padded 1186 ls;
+  sizes = zero_padded 200 (map length rs);
+  entries = zero_padded 1186 (flatten rs);
+  labels = zero_padded 1186 ls;
   w = c.w;
   h = c.h;
-  xs = padded 200 c.xs;
-  ys = padded 200 c.ys;
+  xs = zero_padded 200 c.xs;
+  ys = zero_padded 200 c.ys;
 }
 
 -- no chart: all zero

@@ -8,15 +8,15 @@ ghost use Rattle.lists.specs.Spans.{stretch};
 ghost use Rattle.model.specs.Outcome.{passed, require};
 ghost use Rattle.model.specs.File.{fresh, labelled, charted};
 ghost use Rattle.model.specs.Calls.{judge};
-ghost use Rattle.refusal.specs.Refusals.{told};
+ghost use Rattle.refusal.specs.Refusals.{outcome_of};
 ghost use Rattle.rings.specs.Tables.{start_of, table_of};
-ghost use Rattle.charts.specs.Charts.{chart_in};
+ghost use Rattle.chart_points.specs.Charts.{chart_of_points};
 ghost use Rattle.sheet.specs.Sheets.{packed, held_count, held_plan, held_labels, held_chart, fits, reads, stage_read, rank};
 ghost use Rattle.sheet.specs.Answers.{answer_of};
 
-use charts::Points;
-use fit::Fit;
+use chart_points::Points;
 pub use making::BoundedTable;
+use plan_bounds::Fit;
 use refusal::Refusal;
 use rings::Table;
 
@@ -51,7 +51,7 @@ pub struct Judged {
 }
 
 // A fresh sheet.
-#[tactic(auto, unfolding(crate::specs::Sheets::packed, crate::specs::Sheets::pack, crate::specs::Sheets::no_chart, lists::specs::Spans::padded, lists::specs::Spans::zeros))]
+#[tactic(auto, unfolding(crate::specs::Sheets::packed, crate::specs::Sheets::pack, crate::specs::Sheets::no_chart, lists::specs::Spans::zero_padded, lists::specs::Spans::zeros))]
 pub fn fresh_sheet() -> Sheet
     ensures { result ≡ packed fresh }
 {
@@ -84,13 +84,13 @@ pub fn table_of(sheet: &Sheet) -> Table
 }
 
 // The chart in the sheet's arrays, whether one stands or not.
-#[tactic(auto, unfolding(crate::specs::Sheets::held_chart, charts::specs::Charts::chart_on))]
+#[tactic(auto, unfolding(crate::specs::Sheets::held_chart, chart_points::specs::Charts::chart_on))]
 pub fn points_of(sheet: &Sheet) -> Points
     ensures w { result.w ≡ sheet.now.w }
     ensures h { result.h ≡ sheet.now.h }
     ensures xs { result.xs.now ≡ sheet.now.xs }
     ensures ys { result.ys.now ≡ sheet.now.ys }
-    ensures chart { chart_in sheet.now.n result ≡ held_chart sheet.now }
+    ensures chart { chart_of_points sheet.now.n result ≡ held_chart sheet.now }
 {
     Points {
         w: sheet.w,
@@ -106,7 +106,7 @@ pub fn labels_of(sheet: &Sheet) -> &[u8]
     ensures front { result.now ≡ take (start_of sheet.now.sizes (min sheet.now.n 200)) sheet.now.labels }
     ensures held { fits sheet.now ≡ true → result.now ≡ held_labels sheet.now }
 {
-    let total = fit::total_of(&sheet.sizes, usize::from(sheet.n));
+    let total = plan_bounds::total_of(&sheet.sizes, usize::from(sheet.n));
     &sheet.labels[..total.min(1186)]
 }
 
@@ -149,7 +149,7 @@ impl<'a> Fitting<'a> {
         ensures h { result.h ≡ self.now.sheet.now.h }
         ensures xs { result.xs.now ≡ self.now.sheet.now.xs }
         ensures ys { result.ys.now ≡ self.now.sheet.now.ys }
-        ensures chart { chart_in self.now.sheet.now.n result ≡ held_chart self.now.sheet.now }
+        ensures chart { chart_of_points self.now.sheet.now.n result ≡ held_chart self.now.sheet.now }
     {
         points_of(self.sheet)
     }
@@ -173,13 +173,13 @@ impl<'a> Fitting<'a> {
     pub fn with_labels(&self, labels: &[u8]) -> Sheet
         ensures { result ≡ packed (labelled (held_plan self.now.sheet.now) (stretch labels.now 0 (held_count self.now.sheet.now))) }
     {
-        let total = fit::total_of(&self.sheet.sizes, usize::from(self.sheet.n));
+        let total = plan_bounds::total_of(&self.sheet.sizes, usize::from(self.sheet.n));
         self.bounded().labelled(&labels[..total.min(labels.len())])
     }
 
     // The sheet of the plan and the labels with this chart.
     pub fn charted(&self, chart: &Points) -> Sheet
-        ensures { result ≡ packed (charted (held_plan self.now.sheet.now) (held_labels self.now.sheet.now) (chart_in self.now.sheet.now.n chart.now)) }
+        ensures { result ≡ packed (charted (held_plan self.now.sheet.now) (held_labels self.now.sheet.now) (chart_of_points self.now.sheet.now.n chart.now)) }
     {
         self.bounded().charted(self.labels(), chart)
     }
@@ -190,7 +190,7 @@ impl<'a> Fitting<'a> {
 pub fn stage_of(sheet: &Sheet) -> Stage
     ensures { result ≡ stage_read sheet.now }
 {
-    if fit::is_fit(&table_of(sheet)) {
+    if plan_bounds::is_fit(&table_of(sheet)) {
         sheet.stage
     } else {
         Stage::Empty
@@ -208,7 +208,7 @@ pub fn rank_of(stage: Stage) -> usize
 // Nothing where the sheet has come as far as this stage; else the refusal of a stage too early.
 #[tactic(auto, using(crate::proofs::Reading::stage_order))]
 pub fn require_stage(sheet: &Sheet, stage: Stage) -> Result<(), Refusal>
-    ensures { told result ≡ require (leb (rank stage) (rank (stage_read sheet.now))) 13 0 }
+    ensures { outcome_of result ≡ require (leb (rank stage) (rank (stage_read sheet.now))) 13 0 }
 {
     if stage_of(sheet) < stage {
         Err(Refusal::TooEarly)
@@ -220,7 +220,7 @@ pub fn require_stage(sheet: &Sheet, stage: Stage) -> Result<(), Refusal>
 // A sheet whose plan fits, where it has come as far as this stage and past Empty; else the refusal of a stage too early.
 #[tactic(auto, using(crate::proofs::Reading::fitting_steps), unfolding(crate::specs::Answers::answer_of))]
 pub fn require_fitting(sheet: &Sheet, stage: Stage) -> Result<Fitting, Refusal>
-    ensures answer { answer_of (told result) ≡ require (leb (max (rank stage) 1) (rank (stage_read sheet.now))) 13 0 }
+    ensures answer { answer_of (outcome_of result) ≡ require (leb (max (rank stage) 1) (rank (stage_read sheet.now))) 13 0 }
     ensures lent { IfOk result (λ f. f.sheet.now ≡ sheet.now) }
 {
     require_stage(sheet, stage.max(Stage::Open))?;

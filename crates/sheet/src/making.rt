@@ -2,11 +2,11 @@
 ghost use Rattle.std.specs.Prelude.{◌≡◌, ◌≤◌, ◌++◌, length, min, take, drop};
 ghost use Rattle.model.specs.File.{fresh, opened, labelled, charted};
 ghost use Rattle.rings.specs.Tables.{start_of, table_of};
-ghost use Rattle.charts.specs.Charts.{chart_in};
+ghost use Rattle.chart_points.specs.Charts.{chart_of_points};
 ghost use Rattle.sheet.specs.Sheets.{pack, packed, no_chart};
 
 use crate::{Sheet, Stage, fresh_sheet};
-use charts::Points;
+use chart_points::Points;
 use rings::Table;
 
 // Copies the first k elements of an array, or all where it has fewer, to the front of another.
@@ -39,7 +39,7 @@ impl BoundedTable<'_> {
         copy_first(
             &mut sheet.entries,
             plan.entries,
-            fit::total_of(plan.sizes, plan.n),
+            plan_bounds::total_of(plan.sizes, plan.n),
         );
         copy_first(&mut sheet.labels, labels, labels.len().min(1186));
     }
@@ -66,7 +66,7 @@ impl BoundedTable<'_> {
 
     // The sheet of the plan with these labels and this chart; there is room for 1186 labels.
     pub fn charted(&self, labels: &[u8], chart: &Points) -> Sheet
-        ensures { result ≡ packed (charted (table_of self.now.table) (take 1186 labels.now) (chart_in self.now.table.n chart.now)) }
+        ensures { result ≡ packed (charted (table_of self.now.table) (take 1186 labels.now) (chart_of_points self.now.table.n chart.now)) }
     {
         let n = self.table.n;
         let mut sheet = fresh_sheet();

@@ -8,27 +8,27 @@ use borrow.Author.Tests.{eq-eqb}
 use Rattle.lists.specs.Ranges.{lowest}
 use Rattle.lists.proofs.Ranges.{first-none}
 use Rattle.model.specs.Outcome.{Outcome, passed, ◌>>◌, rule, require}
-use Rattle.model.specs.Plan.{Plan, count, bad_entry, bad_repeat, unreturned, entry_count, dart_count, bad_border, bad_face, plan_rules}
+use Rattle.model.specs.Plan.{Plan, context_count, bad_entry, bad_repeat, unreturned, entry_count, dart_count, bad_border, bad_face, plan_rules}
 use Rattle.model.proofs.Outcomes.{passed_then, passed-require, rule-passes}
 use Rattle.model.proofs.PlanRules as rules
 use Rattle.model.proofs.PlanRules.{Sound}
 use Rattle.rings.specs.declared.Table.{Table}
 use Rattle.rings.specs.Tables.{starts_of, start_of, table, table_of}
 use Rattle.rings.proofs.Rows.{count-rows}
-use Rattle.fit.specs.Fits.{fit}
-use Rattle.fit.proofs.Fits.{all-counted, total-is}
-use Rattle.sound.specs.Sound.{sound}
-use Rattle.sound.proofs.Sound.{four_kept, five_kept, six_kept, eight_kept, nine_kept}
-use Rattle.fit.proofs.Bounds.{fit_few}
+use Rattle.plan_bounds.specs.Fits.{fit}
+use Rattle.plan_bounds.proofs.Fits.{all-counted, total-is}
+use Rattle.plan_check.specs.Sound.{sound}
+use Rattle.plan_check.proofs.Sound.{four_kept, five_kept, six_kept, eight_kept, nine_kept}
+use Rattle.plan_bounds.proofs.Bounds.{fit_few}
 
 -- ---- what the test says
 -- a rule without a place passes
 kept-passes : (k n : ℕ) (bad : ℕ → Bool) → n ≤ lowest bad n → rule k n bad ≡ passed
 kept-passes k n bad h = (rule-passes k n bad).1 (λ u b. first-none bad 0 n (omega arith) u (omega arith) (omega arith))
 
-module _ (p : Plan) (total : entry_count p ≡ dart_count (count p)) (s : sound p ≡ true) where
+module _ (p : Plan) (total : entry_count p ≡ dart_count (context_count p)) (s : sound p ≡ true) where
   abbrev n : ℕ
-  n = count p
+  n = context_count p
 
   same : (bad : ℕ → Bool) → n ≡ lowest bad n → n ≤ lowest bad n
   same bad e = omega arith
@@ -49,7 +49,7 @@ module _ (p : Plan) (total : entry_count p ≡ dart_count (count p)) (s : sound 
 -- ---- the test as the code makes it
 module _ (t : Table) (fits : fit (table_of t) ≡ true) {k d : ℕ} (entries : k ≡ start_of t.sizes.now (min t.n 200)) (due : d ≡ dart_count t.n) (same : k ≡ d) where
   -- the count of 7
-  total : entry_count (table_of t) ≡ dart_count (count (table_of t))
+  total : entry_count (table_of t) ≡ dart_count (context_count (table_of t))
   unfolding table
   total =
       let few = fit_few t fits in

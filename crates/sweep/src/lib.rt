@@ -2,20 +2,20 @@
 #![tactic(auto)]
 
 ghost use Rattle.std.specs.Prelude.{◌≡◌, ◌≤◌, ◌*◌, true};
-ghost use Rattle.lists.specs.Spans.{padded};
+ghost use Rattle.lists.specs.Spans.{zero_padded};
 ghost use Rattle.model.specs.Outcome.{mapped, passed};
 ghost use Rattle.model.specs.Plan.{plan_rules};
 ghost use Rattle.model.specs.Sweep.{sweep};
 ghost use Rattle.model.proofs.PlanRules.{Sound};
 ghost use Rattle.rings.specs.Tables.{table_of};
-ghost use Rattle.refusal.specs.Refusals.{told};
-ghost use Rattle.labelling.specs.Labelling.{swept};
+ghost use Rattle.refusal.specs.Refusals.{outcome_of};
+ghost use Rattle.sweep_labelling.specs.Labelling.{swept};
 
-use fit::Fit;
-use labelling::Guided;
-use places::Located;
+use plan_bounds::Fit;
 use refusal::Refusal;
-use swift::Swift;
+use ring_positions::Located;
+use sweep_by_counts::CountingSweep;
+use sweep_labelling::Guided;
 
 // A plan that fits and keeps the rules 4 to 9.
 #[derive(Clone, Copy)]
@@ -29,27 +29,28 @@ fn is_ruled(fit: &Fit) -> bool
     ensures { result ≡ true → Sound (table_of fit.now.plan) }
 {
     let plan = fit.plan;
-    fit::total_of(plan.sizes, plan.n) == rings::dart_count(plan.n) && sound::is_sound(&plan)
+    plan_bounds::total_of(plan.sizes, plan.n) == rings::dart_count(plan.n)
+        && plan_check::is_sound(&plan)
 }
 
 // The labels of the sweep before the label rules are tested, by a table of positions of N cells, which has a row for each context: with few tests where the plan is known to keep the rules. The table is made first, so that it is cleared once.
 fn swept_in<const N: usize>(fit: &Fit, ruled: bool) -> Result<[u8; 1186], Refusal>
     requires sound { ruled ≡ true → Sound (table_of fit.now.plan) }
     requires room { (200 * fit.now.plan.n ≤ N) × (N ≤ 40000) }
-    ensures { told result ≡ mapped (padded 1186) (swept (table_of fit.now.plan)) }
+    ensures { outcome_of result ≡ mapped (zero_padded 1186) (swept (table_of fit.now.plan)) }
 {
     let mut places = [0u8; N];
     let plan = fit.plan;
     let starts = rings::starts_of(plan.sizes);
     let rings = plan.rings(&starts);
-    places::fill(&mut places, &rings);
+    ring_positions::fill(&mut places, &rings);
     let located = Located {
         rings,
         places: &places,
     };
     let guided = Guided { located };
     if ruled {
-        let swift = Swift { guided };
+        let swift = CountingSweep { guided };
         return swift.run();
     }
     sweep_by_definition::run(&guided)
@@ -58,7 +59,7 @@ fn swept_in<const N: usize>(fit: &Fit, ruled: bool) -> Result<[u8; 1186], Refusa
 // The same; the table is small for few contexts.
 fn swept(fit: &Fit, ruled: bool) -> Result<[u8; 1186], Refusal>
     requires { ruled ≡ true → Sound (table_of fit.now.plan) }
-    ensures { told result ≡ mapped (padded 1186) (swept (table_of fit.now.plan)) }
+    ensures { outcome_of result ≡ mapped (zero_padded 1186) (swept (table_of fit.now.plan)) }
 {
     if fit.plan.n <= rings::FEW_CONTEXTS {
         swept_in::<4000>(fit, ruled)
@@ -70,23 +71,23 @@ fn swept(fit: &Fit, ruled: bool) -> Result<[u8; 1186], Refusal>
 // The labels of the sweep, with zeros after them, once the label rules are tested: with few tests where the plan is known to keep the rules 4 to 9.
 fn tested(fit: &Fit, ruled: bool) -> Result<[u8; 1186], Refusal>
     requires { ruled ≡ true → Sound (table_of fit.now.plan) }
-    ensures { told result ≡ mapped (padded 1186) (sweep (table_of fit.now.plan)) }
+    ensures { outcome_of result ≡ mapped (zero_padded 1186) (sweep (table_of fit.now.plan)) }
 {
     let labels = swept(fit, ruled)?;
-    conditions::check(fit, &labels)?;
+    label_rules::check(fit, &labels)?;
     Ok(labels)
 }
 
 // The labels that the sweep gives for the plan, with zeros after them. It is refused where it is stuck, and at the lowest context that breaks the label rules.
 pub fn sweep_labels(fit: &Fit) -> Result<[u8; 1186], Refusal>
-    ensures { told result ≡ mapped (padded 1186) (sweep (table_of fit.now.plan)) }
+    ensures { outcome_of result ≡ mapped (zero_padded 1186) (sweep (table_of fit.now.plan)) }
 {
     tested(fit, is_ruled(fit))
 }
 
 // The same labels of a plan that is known to keep the rules 4 to 9, which are not tested again.
 pub fn sweep_ruled(ruled: &RuledFit) -> Result<[u8; 1186], Refusal>
-    ensures { told result ≡ mapped (padded 1186) (sweep (table_of ruled.now.fit.plan)) }
+    ensures { outcome_of result ≡ mapped (zero_padded 1186) (sweep (table_of ruled.now.fit.plan)) }
 {
     tested(&ruled.fit, true)
 }

@@ -5,7 +5,7 @@ use mathlib.Core.List.{List}
 use mathlib.Core.Bool.{Bool, true, false, cond, not, ◌&&◌}
 use native.Mathlib.Omega.{arith}
 use lib.ListN.{get_or}
-use Rattle.lists.specs.Tests.{any}
+use Rattle.std.specs.List.{list_any}
 use Rattle.lists.specs.Folds.{some_of, some_within}
 use Rattle.lists.specs.Spans.{stretch, span}
 use Rattle.model.specs.Plan.{Plan, adjacent}
@@ -19,7 +19,7 @@ or-not false b = refl
 module _ (p : Plan) (g : List ℕ) (e : ℕ) where
   -- the context at i lists one two or more positions further on, before e
   abbrev pub lists : ℕ → Bool
-  lists i = any (adjacent p (get_or g i 0)) (span g (i + 2) e)
+  lists i = list_any (adjacent p (get_or g i 0)) (span g (i + 2) e)
 
   -- one of the last k + 2 contexts before e does
   chords_from : (k a : ℕ) → a + suc (suc k) ≡ e → some_of lists a k ≡ not (chordless p (stretch g a (suc (suc k))))
@@ -30,7 +30,7 @@ module _ (p : Plan) (g : List ℕ) (e : ℕ) where
       let next : a + 2 ≡ suc (suc a) = omega arith in
       let left : e - (a + 2) ≡ suc k = omega arith in
       let later = chords_from k (suc a) (omega arith) in
-      (λ i. cond (any (adjacent p u) (stretch g (next i) (left i))) true (later i)) ∙ or-not (any (adjacent p u) (stretch g (suc (suc a)) (suc k))) (chordless p (stretch g (suc a) (suc (suc k))))
+      (λ i. cond (list_any (adjacent p u) (stretch g (next i) (left i))) true (later i)) ∙ or-not (list_any (adjacent p u) (stretch g (suc (suc a)) (suc k))) (chordless p (stretch g (suc a) (suc (suc k))))
 
 -- Of the first m contexts of an array one lists another that is two or more positions further on where these have a chord
 pub chorded-is : (p : Plan) (g : List ℕ) (m : ℕ) → some_within (lists p g m) 0 (m - 2) ≡ not (chordless p (stretch g 0 m))

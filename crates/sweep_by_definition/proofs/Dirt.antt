@@ -4,10 +4,11 @@ use mathlib.Core.Path.{◌≡◌, refl, ap, sym, ◌∙◌}
 use mathlib.Core.List.{List, [], ◌∷◌, ◌++◌, append_assoc, append-nil}
 use mathlib.Core.Bool.{Bool, true, false, cond, ◌||◌, or-false}
 use lib.Dec.{eqb}
-use Rattle.lists.specs.Tests.{any, member, repeats}
+use Rattle.std.specs.List.{list_any}
+use Rattle.lists.specs.Tests.{member, repeats}
 use Rattle.lists.specs.Parts.{squeeze, squeeze_after}
 use Rattle.lists.proofs.Bools.{both, no_or, or_no}
-use Rattle.lists.proofs.Tests.{any_append, repeats-right, eqb_swap}
+use Rattle.lists.proofs.Tests.{list_any-append, repeats-right, eqb_swap}
 use Rattle.model.specs.Plan.{border}
 
 -- ---- lists with no repeat
@@ -16,18 +17,18 @@ repeats-left : (l m : List ℕ) → repeats (l ++ m) ≡ false → repeats l ≡
 repeats-left [] m e = refl
 repeats-left (a ∷ l) m e =
     let (h, k) = or_no (member a (l ++ m)) (repeats (l ++ m)) e in
-    no_or (member a l) (repeats l) (or_no (member a l) (member a m) (sym (any_append (eqb a) l m) ∙ h)).0 (repeats-left l m k)
+    no_or (member a l) (repeats l) (or_no (member a l) (member a m) (sym (list_any-append (eqb a) l m) ∙ h)).0 (repeats-left l m k)
 
 -- with an entry at its end it has a repeat where the entry is in it
 repeats_end : (l : List ℕ) (c : ℕ) → repeats l ≡ false → repeats (l ++ (c ∷ [])) ≡ member c l
 repeats_end [] c e = refl
 repeats_end (a ∷ l) c e =
     let (h, k) = or_no (member a l) (repeats l) e in
-    (λ i. any_append (eqb a) l (c ∷ []) i || repeats_end l c k i) ∙ (λ i. (h i || or-false (eqb a c) i) || member c l) ∙ ap (λ (b : Bool). b || member c l) (eqb_swap a c)
+    (λ i. list_any-append (eqb a) l (c ∷ []) i || repeats_end l c k i) ∙ (λ i. (h i || or-false (eqb a c) i) || member c l) ∙ ap (λ (b : Bool). b || member c l) (eqb_swap a c)
 
 -- ---- a list that may not be put on the frontier, where these were on it
 unfoldable pub dirty : List ℕ → List ℕ → Bool
-dirty seen l = repeats l || any border l || any (λ (c : ℕ). member c seen) l
+dirty seen l = repeats l || list_any border l || list_any (λ (c : ℕ). member c seen) l
 
 module _ (seen : List ℕ) where
   -- the test of having been on the frontier
@@ -38,9 +39,9 @@ module _ (seen : List ℕ) where
   pub dirty_end : (l : List ℕ) (c : ℕ) → dirty seen l ≡ false → dirty seen (l ++ (c ∷ [])) ≡ (border c || (member c l || member c seen))
   unfolding dirty
   dirty_end l c d =
-      let (p, s) = or_no (repeats l || any border l) (any S l) d in
-      let (r, b) = or_no (repeats l) (any border l) p in
-      (λ i. repeats_end l c r i || any_append border l (c ∷ []) i || any_append S l (c ∷ []) i) ∙ (λ i. member c l || (b i || or-false (border c) i) || (s i || or-false (S c) i)) ∙ swap (member c l) (border c) (S c)
+      let (p, s) = or_no (repeats l || list_any border l) (list_any S l) d in
+      let (r, b) = or_no (repeats l) (list_any border l) p in
+      (λ i. repeats_end l c r i || list_any-append border l (c ∷ []) i || list_any-append S l (c ∷ []) i) ∙ (λ i. member c l || (b i || or-false (border c) i) || (s i || or-false (S c) i)) ∙ swap (member c l) (border c) (S c)
     where
       swap : (m b s : Bool) → (m || b || s) ≡ (b || (m || s))
       swap true true s = refl
@@ -52,10 +53,10 @@ module _ (seen : List ℕ) where
   pub clean_parts : (l m : List ℕ) → dirty seen (l ++ m) ≡ false → (dirty seen l ≡ false) × (dirty seen m ≡ false)
   unfolding dirty
   clean_parts l m d =
-      let (e, s) = or_no (repeats (l ++ m) || any border (l ++ m)) (any S (l ++ m)) d in
-      let (r, b) = or_no (repeats (l ++ m)) (any border (l ++ m)) e in
-      let (b₀, b₁) = or_no (any border l) (any border m) (sym (any_append border l m) ∙ b) in
-      let (s₀, s₁) = or_no (any S l) (any S m) (sym (any_append S l m) ∙ s) in
+      let (e, s) = or_no (repeats (l ++ m) || list_any border (l ++ m)) (list_any S (l ++ m)) d in
+      let (r, b) = or_no (repeats (l ++ m)) (list_any border (l ++ m)) e in
+      let (b₀, b₁) = or_no (list_any border l) (list_any border m) (sym (list_any-append border l m) ∙ b) in
+      let (s₀, s₁) = or_no (list_any S l) (list_any S m) (sym (list_any-append S l m) ∙ s) in
       (rw (repeats-left l m r, b₀, s₀), rw (repeats-right l m r, b₁, s₁))
 
   -- what is put after a list that may not be on the frontier does not mend it
@@ -69,12 +70,12 @@ module _ (seen : List ℕ) where
   -- a clean list has no repeat
   pub clean_once : (l : List ℕ) → dirty seen l ≡ false → repeats l ≡ false
   unfolding dirty
-  clean_once l d = (or_no (repeats l) (any border l) (or_no (repeats l || any border l) (any S l) d).0).0
+  clean_once l d = (or_no (repeats l) (list_any border l) (or_no (repeats l || list_any border l) (list_any S l) d).0).0
 
   -- no context of a clean list was on the frontier
-  pub clean_new : (l : List ℕ) → dirty seen l ≡ false → any S l ≡ false
+  pub clean_new : (l : List ℕ) → dirty seen l ≡ false → list_any S l ≡ false
   unfolding dirty
-  clean_new l d = (or_no (repeats l || any border l) (any S l) d).1
+  clean_new l d = (or_no (repeats l || list_any border l) (list_any S l) d).1
 
 -- ---- a squeezed list grows at its end
 -- its last entry is c

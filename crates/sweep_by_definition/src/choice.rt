@@ -1,33 +1,33 @@
 // The pair of positions that a step of the sweep takes: the largest j, then the largest i, that are eligible.
 ghost use Rattle.std.specs.Prelude.{◌≡◌, ℕ, suc, ◌+◌, ◌≤◌, ◌<◌, not};
-ghost use Rattle.lists.specs.Tests.{any};
+ghost use Rattle.std.specs.List.{list_any};
 ghost use Rattle.lists.specs.Spans.{stretch, span};
 ghost use Rattle.model.specs.Plan.{adjacent};
 ghost use Rattle.model.specs.Sweep.{State, chordless, choose, choices};
 ghost use Rattle.rings.specs.Tables.{plan_of};
-ghost use Rattle.sweep_by_definition.specs.Search.{found_as, Begins, Told, Best};
+ghost use Rattle.sweep_by_definition.specs.Search.{found_as, Begins, Tested, Best};
 
-use frontier::Front;
-use places::Located;
+use ring_positions::Located;
 use std::ops::Range;
+use sweep_frontier::FrontierView;
 
 // Does u list one of these positions of g?
 fn touches(located: &Located, u: usize, g: &[u16], mut positions: Range<usize>) -> bool
-    ensures { result ≡ any (adjacent (plan_of located.now.rings) u) (span g.now positions.start positions.end) }
+    ensures { result ≡ list_any (adjacent (plan_of located.now.rings) u) (span g.now positions.start positions.end) }
 {
-    positions.any(|k| located.is_adjacent(u, arrays::num(g, k)))
+    positions.any(|k| located.is_adjacent(u, arrays::number_at(g, k)))
 }
 
 // Does one of the first m contexts of g list one that is two or more positions further on?
 fn chorded(located: &Located, g: &[u16], m: usize) -> bool
     ensures { result ≡ not (chordless (plan_of located.now.rings) (stretch g.now 0 m)) }
 {
-    (0..m.saturating_sub(2)).any(|k| touches(located, arrays::num(g, k), g, k + 2..m))
+    (0..m.saturating_sub(2)).any(|k| touches(located, arrays::number_at(g, k), g, k + 2..m))
 }
 
 // Are positions k - 1 and j of a frontier of m contexts eligible? There is no answer where their list fails: it fails for every smaller k then.
-fn fits(front: &Front, m: usize, marks: &[u8; 256], k: usize, j: usize) -> Option<bool>
-    ensures { (s : State) → Begins front.now m marks.now s → (i : ℕ) → k ≡ suc i → i + 2 ≤ j → j < m → Told (plan_of front.now.located.rings) s i j result }
+fn fits(front: &FrontierView, m: usize, marks: &[u8; 256], k: usize, j: usize) -> Option<bool>
+    ensures { (s : State) → Begins front.now m marks.now s → (i : ℕ) → k ≡ suc i → i + 2 ≤ j → j < m → Tested (plan_of front.now.located.rings) s i j result }
 {
     let mut list = [0u16; 512];
     let mut on = *marks;
@@ -38,7 +38,7 @@ fn fits(front: &Front, m: usize, marks: &[u8; 256], k: usize, j: usize) -> Optio
 }
 
 // The largest i that is eligible with j.
-fn best(front: &Front, m: usize, marks: &[u8; 256], j: usize) -> Option<usize>
+fn best(front: &FrontierView, m: usize, marks: &[u8; 256], j: usize) -> Option<usize>
     ensures { (s : State) → Begins front.now m marks.now s → j < m → Best (plan_of front.now.located.rings) s j result }
 {
     for k in (1..j).rev() {
@@ -50,7 +50,7 @@ fn best(front: &Front, m: usize, marks: &[u8; 256], j: usize) -> Option<usize>
 }
 
 // The pair of positions that a step takes: of the eligible pairs of a frontier of m contexts that with the largest j, then with the largest i.
-pub(crate) fn choose(front: &Front, m: usize, marks: &[u8; 256]) -> Option<(usize, usize)>
+pub(crate) fn choose(front: &FrontierView, m: usize, marks: &[u8; 256]) -> Option<(usize, usize)>
     ensures { (s : State) → Begins front.now m marks.now s → found_as result ≡ choose (plan_of front.now.located.rings) s (choices s.frontier) }
 {
     for j in (0..m).rev() {

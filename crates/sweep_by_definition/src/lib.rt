@@ -2,27 +2,33 @@
 #![tactic(auto)]
 
 ghost use Rattle.std.specs.Prelude.{◌≡◌, ◌<◌};
-ghost use Rattle.lists.specs.Spans.{padded};
+ghost use Rattle.lists.specs.Spans.{zero_padded};
 ghost use Rattle.model.specs.Outcome.{mapped};
 ghost use Rattle.rings.specs.Tables.{plan_of};
-ghost use Rattle.refusal.specs.Refusals.{told};
-ghost use Rattle.labelling.specs.Labelling.{swept};
+ghost use Rattle.refusal.specs.Refusals.{outcome_of};
+ghost use Rattle.sweep_labelling.specs.Labelling.{swept};
 ghost use Rattle.sweep_by_definition.specs.Steps.{Takes, Running};
 
-use frontier::{Front, Line};
-use labelling::Guided;
 use refusal::Refusal;
+use sweep_frontier::{Frontier, FrontierView};
+use sweep_labelling::Guided;
 
 mod choice;
 mod list;
 
 // Takes the step of positions i and j of the frontier: puts its labels, and gives the new frontier, its list marked beside what was marked. There is none where there is no such list, or no room for it.
-fn take_step(guided: &Guided, labels: &mut [u8], line: &Line, i: usize, j: usize) -> Option<Line>
+fn take_step(
+    guided: &Guided,
+    labels: &mut [u8],
+    line: &Frontier,
+    i: usize,
+    j: usize,
+) -> Option<Frontier>
     requires i_bound { i < 512 }
     requires j_bound { j < 512 }
     ensures { Takes (plan_of guided.now.located.rings) line.now labels.old i j labels.new result }
 {
-    let front = Front {
+    let front = FrontierView {
         located: guided.located,
         f: &line.at,
     };
@@ -32,22 +38,26 @@ fn take_step(guided: &Guided, labels: &mut [u8], line: &Line, i: usize, j: usize
     guided.step_labels(labels, &line.at, &list, q, i, j);
     let mut at = [0u16; 512];
     let len = list::replaced(&mut at, &line.at, line.len, i + 1, j, &list, q).ok()?;
-    Some(Line { len, at, marks })
+    Some(Frontier { len, at, marks })
 }
 
 // The steps of the sweep from its first frontier and labels, at most n of them: the labels at the end.
-fn descend(guided: &Guided, first_labels: [u8; 1186], first: Line) -> Result<[u8; 1186], Refusal>
+fn descend(
+    guided: &Guided,
+    first_labels: [u8; 1186],
+    first: Frontier,
+) -> Result<[u8; 1186], Refusal>
     requires { Running (plan_of guided.now.located.rings) guided.now.located.rings.n first first_labels }
-    ensures { told result ≡ mapped (padded 1186) (swept (plan_of guided.now.located.rings)) }
+    ensures { outcome_of result ≡ mapped (zero_padded 1186) (swept (plan_of guided.now.located.rings)) }
 {
     let mut labels = first_labels;
     let mut line = first;
     for _ in 0..guided.located.rings.n {
-        let front = Front {
+        let front = FrontierView {
             located: guided.located,
             f: &line.at,
         };
-        if !ends::is_unfinished(&front, line.len) {
+        if !sweep_ends::is_unfinished(&front, line.len) {
             guided.finish_labels(&mut labels, &line.at, line.len);
             return Ok(labels);
         }
@@ -59,9 +69,9 @@ fn descend(guided: &Guided, first_labels: [u8; 1186], first: Line) -> Result<[u8
 
 // The labels of the sweep, before the label rules are tested.
 pub fn run(guided: &Guided) -> Result<[u8; 1186], Refusal>
-    ensures { told result ≡ mapped (padded 1186) (swept (plan_of guided.now.located.rings)) }
+    ensures { outcome_of result ≡ mapped (zero_padded 1186) (swept (plan_of guided.now.located.rings)) }
 {
-    let first = ends::first_line(&guided.located.rings).ok_or(Refusal::SweepStuck)?;
+    let first = sweep_ends::first_frontier(&guided.located.rings).ok_or(Refusal::SweepStuck)?;
     let labels = guided.first_labels(&first.at, first.len);
     descend(guided, labels, first)
 }

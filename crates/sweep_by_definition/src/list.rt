@@ -2,11 +2,11 @@
 ghost use Rattle.std.specs.Prelude.{◌≡◌, true, List, ℕ, suc, ◌+◌, ◌-◌, ◌<◌, ◌^◌, fold};
 ghost use Rattle.lists.specs.Spans.{span};
 ghost use Rattle.rings.specs.Tables.{plan_of};
-ghost use Rattle.frontier.specs.Run.{line, line_of, pushed};
-ghost use Rattle.sweep_by_definition.specs.Lists.{last_is, barred, added, below_added, listing, replaced};
+ghost use Rattle.sweep_frontier.specs.Frontiers.{frontier_of, lent_frontier, pushed};
+ghost use Rattle.sweep_by_definition.specs.Lists.{last_is, excluded, added, below_added, listing, frontier_replaced};
 
-use frontier::Front;
 use std::ops::Range;
+use sweep_frontier::FrontierView;
 
 // Is c the last of the first len contexts?
 #[tactic(auto, unfolding(crate::specs::Lists::last_is))]
@@ -17,34 +17,34 @@ fn last_is(at: &[u16], len: usize, c: u16) -> bool
 }
 
 // Is c a border context, or one that is marked: it is or was on the frontier or is on the list?
-#[tactic(auto, unfolding(crate::specs::Lists::barred))]
-fn barred(marks: &[u8], c: u16) -> bool
-    ensures { result ≡ barred marks.now c }
+#[tactic(auto, unfolding(crate::specs::Lists::excluded))]
+fn is_excluded(marks: &[u8], c: u16) -> bool
+    ensures { result ≡ excluded marks.now c }
 {
-    c < 4 || arrays::num(marks, usize::from(c)) != 0
+    c < 4 || arrays::number_at(marks, usize::from(c)) != 0
 }
 
 // Puts c at the end of a line, which may have failed: how many contexts it then has. It fails where it is full.
 #[tactic(auto, using(crate::proofs::Moves::grown_off))]
 fn grow(at: &mut [u16], line: Result<usize, usize>, c: u16) -> Result<usize, usize>
-    ensures { (marks : List ℕ) → line_of result at.new marks ≡ pushed (line_of line at.old marks) c }
+    ensures { (marks : List ℕ) → lent_frontier result at.new marks ≡ pushed (lent_frontier line at.old marks) c }
 {
     match line {
-        Ok(len) => frontier::push(at, len, c).ok_or(len),
-        Err(len) => Err(frontier::push(at, len, c).unwrap_or(len)),
+        Ok(len) => sweep_frontier::push(at, len, c).ok_or(len),
+        Err(len) => Err(sweep_frontier::push(at, len, c).unwrap_or(len)),
     }
 }
 
 // Puts c at the end of a list, which may have failed, and marks it, unless it stands there: how many contexts the list then has. It fails where c may not be on the list.
 #[tactic(auto, using(crate::proofs::Moves::push_noted), unfolding(crate::specs::Lists::added, crate::specs::Lists::failed))]
 fn add(at: &mut [u16], marks: &mut [u8], list: Result<usize, usize>, c: u16) -> Result<usize, usize>
-    ensures { line_of result at.new marks.new ≡ added (line_of list at.old marks.old) c }
+    ensures { lent_frontier result at.new marks.new ≡ added (lent_frontier list at.old marks.old) c }
 {
     let (Ok(len) | Err(len)) = list;
     if last_is(at, len, c) {
         return list;
     }
-    if barred(marks, c) {
+    if is_excluded(marks, c) {
         return Err(len);
     }
     arrays::put(marks, usize::from(c), 1);
@@ -57,10 +57,10 @@ fn add_below(
     at: &mut [u16],
     marks: &mut [u8],
     len: usize,
-    front: &Front,
+    front: &FrontierView,
     k: usize,
 ) -> Result<usize, usize>
-    ensures { line_of result at.new marks.new ≡ below_added (plan_of front.now.located.rings) front.now.f.now k (line true len at.old marks.old) }
+    ensures { lent_frontier result at.new marks.new ≡ below_added (plan_of front.now.located.rings) front.now.f.now k (frontier_of true len at.old marks.old) }
 {
     let below = front.below(k);
     let q = below.len();
@@ -76,14 +76,14 @@ fn add_below(
 
 // Puts the list of what is below these positions in the front of a lent array, each context of it marked beside those that are marked before: how many contexts it has.
 // It fails where nothing is below one of these positions or a context may not be on the list; the error is how many contexts it has then.
-#[tactic(auto, using(lists::proofs::Folds::goes_on, lists::proofs::Folds::goes_end), unfolding(crate::specs::Lists::listing))]
+#[tactic(auto, using(lists::proofs::Folds::folds_up_on, lists::proofs::Folds::folds_up_end), unfolding(crate::specs::Lists::listing))]
 pub(crate) fn listed(
     at: &mut [u16],
     marks: &mut [u8],
-    front: &Front,
+    front: &FrontierView,
     positions: Range<usize>,
 ) -> Result<usize, usize>
-    ensures { line_of result at.new marks.new ≡ listing (plan_of front.now.located.rings) front.now.f.now positions.start positions.end (line true 0 at.old marks.old) }
+    ensures { lent_frontier result at.new marks.new ≡ listing (plan_of front.now.located.rings) front.now.f.now positions.start positions.end (frontier_of true 0 at.old marks.old) }
 {
     let mut len = 0;
     for k in positions {
@@ -99,7 +99,7 @@ fn append(
     f: &[u16],
     positions: Range<usize>,
 ) -> Result<usize, usize>
-    ensures { (marks : List ℕ) → line_of result at.new marks ≡ fold pushed (line_of line at.old marks) (span f.now positions.start positions.end) }
+    ensures { (marks : List ℕ) → lent_frontier result at.new marks ≡ fold pushed (lent_frontier line at.old marks) (span f.now positions.start positions.end) }
 {
     let mut grown = line;
     for k in positions {
@@ -118,7 +118,7 @@ pub(crate) fn replaced(
     list: &[u16],
     q: usize,
 ) -> Result<usize, usize>
-    ensures { (marks : List ℕ) → line_of result at.new marks ≡ replaced (line true 0 at.old marks) f.now m a j list.now q }
+    ensures { (marks : List ℕ) → lent_frontier result at.new marks ≡ frontier_replaced (frontier_of true 0 at.old marks) f.now m a j list.now q }
 {
     let left = append(at, Ok(0), f, 0..a);
     let middle = append(at, left, list, 0..q);

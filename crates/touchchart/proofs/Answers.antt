@@ -10,22 +10,22 @@ use Rattle.std.specs.Prelude.{Option, Some, None}
 use Rattle.model.specs.Outcome.{accepted}
 use Rattle.model.specs.Scan.{Triple, scan}
 use Rattle.model.specs.File.{Sheet}
-use Rattle.model.specs.Calls.{plan_of, scan_call, same_call, ring_call}
+use Rattle.model.specs.Calls.{require_plan, scan_call, same_call, ring_call}
 use Rattle.model.proofs.Outcomes.{not-both, same-value, mapped_at, mapped_off, mapped_accepted, bind_accepted}
 use Rattle.model.proofs.Plans.{adjacent-mem}
 use Rattle.model.proofs.PlanRules.{sound}
 use Rattle.model.proofs.RingPart.{ring-accepted}
-use Rattle.fit.proofs.Fits.{fit-says}
+use Rattle.plan_bounds.proofs.Fits.{fit-says}
 use Rattle.sheet.specs.declared.Sheet as struct
 use Rattle.sheet.specs.Sheets.{held_plan, fits, reads, stage_read, rank}
 use Rattle.sheet.proofs.Reading.{plan_early, plan_there, fits_there}
 use Rattle.guarantee.proofs.Sized.{Good}
-use Rattle.exchange.specs.Exchange.{sheet_of_bytes}
-use Rattle.exchange.proofs.Small.{small_mapped, small_bind}
-use Rattle.exchange.proofs.Sizes.{scan-inside, part_short}
-use Rattle.exchange.proofs.Places.{plan-held, small-scan, small_same, small-ring}
-use Rattle.exchange.proofs.Codes.{Roomy, code_whole}
-use Rattle.exchange.proofs.Handing.{opened_good, handed_good, small_in}
+use Rattle.sheet_bytes.specs.Exchange.{sheet_of_bytes}
+use Rattle.sheet_bytes.proofs.Small.{small_mapped, small_bind}
+use Rattle.sheet_bytes.proofs.Sizes.{scan-inside, part_short}
+use Rattle.sheet_bytes.proofs.Places.{plan-held, small-scan, small_same, small-ring}
+use Rattle.sheet_bytes.proofs.Codes.{Roomy, code_whole}
+use Rattle.sheet_bytes.proofs.Handing.{opened_good, handed_good, small_in}
 use Rattle.touchchart.specs.Interface.{triple_value, scans_to, same_value, compares_to, part_value, rings_to}
 
 -- ---- scan
@@ -38,7 +38,7 @@ scan-value : (s : Sheet) (t : Option Triple) → Good s → scan_call s ≡ acce
 unfolding scan_call triple_value
 scan-value s None g e = omega arith
 scan-value s (Some (a, b, c)) g e =
-    let (p, q, f) = mapped_accepted scan (plan_of s) (Some (a, b, c)) e in
+    let (p, q, f) = mapped_accepted scan (require_plan s) (Some (a, b, c)) e in
     let h = plan-held s p g q in
     let high = h.fits.high in
     let (x, y, z) = scan-inside p (sound p h.kept).inside a b c f in
@@ -61,12 +61,12 @@ unfolding scan_call fits
 scanned_inside s a b c e = go (ltb (rank (stage_read s)) 1) refl
   where
     go : (t : Bool) → ltb (rank (stage_read s)) 1 ≡ t → (a < 200) × (b < 200) × (c < 200)
-    go true q = not-both (sym (mapped_off scan (plan_of (reads s)) 13 0 (plan_early s (ltb-true (rank (stage_read s)) 1 q))) ∙ sym e)
+    go true q = not-both (sym (mapped_off scan (require_plan (reads s)) 13 0 (plan_early s (ltb-true (rank (stage_read s)) 1 q))) ∙ sym e)
     go false q =
         let up = ltb-false (rank (stage_read s)) 1 q in
         let p = held_plan s in
         let known = fit-says p (fits_there s up) in
-        let found = same-value (sym (mapped_at scan (plan_of (reads s)) p (plan_there s up)) ∙ sym e) in
+        let found = same-value (sym (mapped_at scan (require_plan (reads s)) p (plan_there s up)) ∙ sym e) in
         let high = known.few in
         let (x, y, z) = scan-inside p (λ u v m. known.inside u v (adjacent-mem p u v m)) a b c found in
         (omega arith, omega arith, omega arith)

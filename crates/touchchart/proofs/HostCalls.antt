@@ -15,12 +15,12 @@ use Rattle.sheet.proofs.RoundTrips.{encode-opens, write_room}
 use Rattle.guarantee.proofs.Agreement.{answers}
 use Rattle.guarantee.proofs.Kept.{kept_judged}
 use Rattle.guarantee.proofs.Sized.{Good, fresh_good, leaves_fits, leaves_good}
-use Rattle.guarantee.proofs.Struct.{taken_good, told_same, left-reads}
+use Rattle.guarantee.proofs.Struct.{taken_good, answers_of_same, sheet_after-reads}
 use Rattle.guarantee.proofs.Guarantee.{guarantee}
-use Rattle.exchange.specs.Exchange.{sheet_of_bytes, bytes_back, changed_by}
-use Rattle.exchange.proofs.Sizes.{file_short}
+use Rattle.sheet_bytes.specs.Exchange.{sheet_of_bytes, bytes_back, changed_by}
+use Rattle.sheet_bytes.proofs.Sizes.{file_short}
 use Rattle.touchchart.specs.Interface.{opens_to, sweeps_to, offers_to, turns_to, charts_to}
-use Rattle.touchchart.specs.HostCalls.{HostCall, function_of, bytes_kept, bytes_after, answers_after, HaveRoom, calls_of, HostGuarantee}
+use Rattle.touchchart.specs.HostCalls.{HostCall, function_of, bytes_kept, bytes_after, answers_after, HaveRoom, calls_made, HostGuarantee}
 
 -- ---- what is handed over
 -- bytes that open hand over the sheet that open gives: none do not open
@@ -73,13 +73,13 @@ step s g c out room = go (call s c) refl
         }
 
 -- ---- the list
-bytes_run : (hs : List HostCall) → HaveRoom hs → (s : Sheet) → Good s → bytes_after (encode s) hs ≡ encode (run s (calls_of hs))
+bytes_run : (hs : List HostCall) → HaveRoom hs → (s : Sheet) → Good s → bytes_after (encode s) hs ≡ encode (run s (calls_made hs))
 unfolding bytes_after run
 bytes_run [] room s g = refl
 bytes_run (h ∷ hs) (here, later) s g =
     ap (λ (b : List ℕ). bytes_after b hs) (step s g h.makes h.out here).bytes ∙ bytes_run hs later (taken s (call s h.makes)) (taken_good s h.makes g)
 
-answers_run : (hs : List HostCall) → HaveRoom hs → (s : Sheet) → Good s → answers_after (encode s) hs ≡ answers s (calls_of hs)
+answers_run : (hs : List HostCall) → HaveRoom hs → (s : Sheet) → Good s → answers_after (encode s) hs ≡ answers s (calls_made hs)
 unfolding answers_after answers
 answers_run [] room s g = refl
 answers_run (h ∷ hs) (here, later) s g =
@@ -91,7 +91,7 @@ answers_run (h ∷ hs) (here, later) s g =
 pub host_guarantee : (hs : List HostCall) → HaveRoom hs → HostGuarantee hs
 unfolding encode
 host_guarantee hs room = record {
-  bytes = bytes_run hs room fresh fresh_good ∙ ap encode (sym (left-reads (calls_of hs)));
-  answers = answers_run hs room fresh fresh_good ∙ sym (told_same (calls_of hs) fresh fresh_good);
-  demand_3 = guarantee (calls_of hs);
+  bytes = bytes_run hs room fresh fresh_good ∙ ap encode (sym (sheet_after-reads (calls_made hs)));
+  answers = answers_run hs room fresh fresh_good ∙ sym (answers_of_same (calls_made hs) fresh fresh_good);
+  demand_3 = guarantee (calls_made hs);
 }

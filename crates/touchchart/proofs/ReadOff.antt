@@ -1,8 +1,8 @@
 -- Number and value can be read off every answer.
 use Rattle.model.specs.CallLists.{sweep-labels, offer_labels, turn_edges, draw_chart}
 use Rattle.sheet.specs.Answers.{length_of}
-use Rattle.exchange.proofs.Codes.{unpacks}
-use Rattle.exchange.proofs.Handing.{roomy_open, roomy_change}
+use Rattle.sheet_bytes.proofs.Codes.{unpacks}
+use Rattle.sheet_bytes.proofs.Handing.{roomy_open, roomy_change}
 use Rattle.touchchart.specs.Interface.{opens_to, sweeps_to, offers_to, turns_to, charts_to, scans_to, compares_to, rings_to}
 use Rattle.touchchart.specs.ReadOff.{ReadOff}
 use Rattle.touchchart.proofs.Answers.{roomy-scan, roomy-same, roomy-ring}

@@ -5,7 +5,7 @@ use Rattle.model.specs.File.{encode}
 use Rattle.model.specs.CallLists.{Call, open_file, offer_labels, sweep-labels, turn_edges, draw_chart}
 use Rattle.sheet.specs.Sheets.{reads}
 use Rattle.sheet.specs.Answers.{answer_of}
-use Rattle.guarantee.specs.Engine.{start, left, told}
+use Rattle.guarantee.specs.Engine.{fresh_sheet, sheet_after, answers_of}
 use Rattle.guarantee.specs.Guarantee.{Guarantee}
 use Rattle.touchchart.specs.Interface.{opens_to, sweeps_to, offers_to, turns_to, charts_to}
 
@@ -45,14 +45,14 @@ HaveRoom [] = Unit {0}
 HaveRoom (h ∷ hs) = (5176 ≤ length h.out) × HaveRoom hs
 
 -- the calls alone
-abbrev pub calls_of : List HostCall → List Call
-calls_of hs = map (λ (h : HostCall). h.makes) hs
+abbrev pub calls_made : List HostCall → List Call
+calls_made hs = map (λ (h : HostCall). h.makes) hs
 
 -- What a host is owed of a list of calls
 pub record HostGuarantee (hs : List HostCall) : Type 0 where
   -- The bytes are the file of the sheet that these calls leave on a fresh one.
-  pub bytes : bytes_after [] hs ≡ encode (reads (left start (calls_of hs)))
+  pub bytes : bytes_after [] hs ≡ encode (reads (sheet_after fresh_sheet (calls_made hs)))
   -- The functions answer what these calls answer.
-  pub answers : answers_after [] hs ≡ told start (calls_of hs)
+  pub answers : answers_after [] hs ≡ answers_of fresh_sheet (calls_made hs)
   -- Demand 3 holds of them.
-  pub demand_3 : Guarantee (calls_of hs)
+  pub demand_3 : Guarantee (calls_made hs)

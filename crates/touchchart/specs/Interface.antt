@@ -5,7 +5,7 @@ use Rattle.model.specs.Outcome.{Outcome, ◌>>=◌, mapped}
 use Rattle.model.specs.Scan.{Triple}
 use Rattle.model.specs.Calls.{open_call, scan_call, same_call, ring_call}
 use Rattle.model.specs.CallLists.{sweep-labels, offer_labels, turn_edges, draw_chart}
-use Rattle.exchange.specs.Exchange.{sheet_of_bytes, bytes_back, changed_by}
+use Rattle.sheet_bytes.specs.Exchange.{sheet_of_bytes, bytes_back, changed_by}
 
 -- touchchart_open: the sheet that the file holds, its bytes written into out
 unfoldable pub opens_to : List ℕ → List ℕ → Outcome (ℕ × List ℕ)

@@ -1,7 +1,7 @@
 -- Of every answer of the eight functions, number and value can be read off: no place and no value reaches 2^48.
 use Rattle.std.specs.Prelude.{ℕ, List}
 use Rattle.sheet.specs.Answers.{length_of}
-use Rattle.exchange.specs.Codes.{Unpacks}
+use Rattle.sheet_bytes.specs.Codes.{Unpacks}
 use Rattle.touchchart.specs.Interface.{opens_to, sweeps_to, offers_to, turns_to, charts_to, scans_to, compares_to, rings_to}
 
 -- Each of the eight, for every input

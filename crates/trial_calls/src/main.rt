@@ -79,18 +79,18 @@ impl fmt::Display for Kind {
 fn run_turn(sheet: Sheet, argument: &[u8]) -> Result<Sheet, Refusal> {
     let count = (argument.len().saturating_sub(1) / 2).min(4096);
     let numbers = arrays::words::<4096>(argument, 1, 2, count);
-    calls::turn(sheet, &numbers[..count], arrays::at(argument, 0))
+    sheet_updates::turn(sheet, &numbers[..count], arrays::at(argument, 0))
 }
 
 // The call of an item.
 fn run_call(sheet: Sheet, kind: Kind, argument: &[u8]) -> Result<Sheet, Refusal> {
     match kind {
         Kind::Fresh => Ok(sheet::fresh_sheet()),
-        Kind::Open => opening::open_file(argument),
-        Kind::Offer => calls::offer(sheet, argument),
-        Kind::Sweep => calls::sweep(sheet),
+        Kind::Open => sheet_open::open_file(argument),
+        Kind::Offer => sheet_updates::offer(sheet, argument),
+        Kind::Sweep => sheet_updates::sweep(sheet),
         Kind::Turn => run_turn(sheet, argument),
-        Kind::Chart => calls::chart(sheet),
+        Kind::Chart => sheet_updates::chart(sheet),
     }
 }
 
@@ -115,7 +115,7 @@ fn name_of(stage: Stage) -> &'static str {
 // Writes the sheet after a call, and the end of the line.
 fn show_sheet(sheet: &Sheet) {
     let mut space = [170u8; 8192];
-    let size = reports::write(sheet, &mut space).unwrap_or(0);
+    let size = sheet_queries::write(sheet, &mut space).unwrap_or(0);
     console::println(format_args!(
         "{:<9}n {}, {}x{}, length {size}, checksum {}",
         name_of(sheet.stage),

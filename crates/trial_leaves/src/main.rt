@@ -5,13 +5,13 @@
 // chart, and for a chart record 0 if it is that chart, else 12. A leaf that the ones before it rule out is not asked.
 #![tactic(auto)]
 
-use charts::Points;
-use fit::Fit;
-use framing::{Layout, Parts};
-use lent::LentRings;
+use chart_points::Points;
+use file_framing::{Layout, PartOffsets};
+use file_rings::FileRings;
+use file_writing::Held;
+use plan_bounds::Fit;
 use refusal::Refusal;
 use rings::{Rings, Table};
-use writing::Held;
 
 // The place that a rule refuses; this number where it is kept.
 fn place_of(rule: Result<(), Refusal>, kept: usize) -> usize {
@@ -19,7 +19,7 @@ fn place_of(rule: Result<(), Refusal>, kept: usize) -> usize {
 }
 
 // The places that rules 4, 5 and 6 give; whether all are kept.
-fn print_lent_rules(rings: &LentRings) -> bool {
+fn print_lent_rules(rings: &FileRings) -> bool {
     let n = rings.n;
     let four = file_ring_rules::rule4(rings);
     let five = file_ring_rules::rule5(rings);
@@ -29,7 +29,7 @@ fn print_lent_rules(rings: &LentRings) -> bool {
         place_of(four, n),
         place_of(five, n),
         place_of(six, n),
-        arrays::num(rings.starts, n),
+        arrays::number_at(rings.starts, n),
     ));
     four.is_ok() && five.is_ok() && six.is_ok()
 }
@@ -44,29 +44,29 @@ fn print_flat_rules(rings: &Rings) -> bool {
 
 // The smallest triple of mutual neighbours that are no inner face.
 fn print_scan(fit: &Fit) {
-    match triples::scan(fit) {
+    match scan::scan(fit) {
         None => console::print(" triangle none"),
         Some((a, b, c)) => console::print(format_args!(" triangle {a},{b},{c}")),
     };
 }
 
 // The plan alone, to be written; none where its entries are not all there.
-#[tactic(auto, using(fit::proofs::Bounds::fit_counted))]
+#[tactic(auto, using(plan_bounds::proofs::Bounds::fit_counted))]
 fn plan_alone<'a>(fit: &Fit<'a>) -> Option<Held<'a>> {
     let plan = fit.plan;
-    if plan.entries.len() < fit::total_of(plan.sizes, plan.n) {
+    if plan.entries.len() < plan_bounds::total_of(plan.sizes, plan.n) {
         return None;
     }
     Some(Held {
         fit: *fit,
-        parts: writing::Parts::Plan,
+        parts: file_writing::Parts::Plan,
     })
 }
 
 // The plan written into a buffer: how many bytes it takes, and how many of them are the file's; or how many it needs. Either number.
 fn print_whole(file: &[u8], held: &Held) -> usize {
     let mut space = io::buffer();
-    match writing::write_file(&mut space, held) {
+    match file_writing::write_file(&mut space, held) {
         Ok(size) => {
             let same = comparison::agreeing(file, &space, size);
             console::print(format_args!(" bytes {size} same {same}"));
@@ -85,7 +85,7 @@ fn print_short(refusal: Refusal) -> usize {
 
 // The plan written into so many bytes: how many it takes, or how many it needs.
 fn print_part(size: usize, held: &Held) {
-    match writing::write_file(&mut io::buffer()[..size.min(4096)], held) {
+    match file_writing::write_file(&mut io::buffer()[..size.min(4096)], held) {
         Ok(k) => {
             console::print(format_args!(" length {k}"));
         }
@@ -108,8 +108,8 @@ fn print_written(file: &[u8], fit: &Fit) {
 fn print_points(drawn: &Points, n: usize) {
     console::print(format_args!(" chart {}x{}", drawn.w, drawn.h));
     for u in 0..n {
-        let x = arrays::num(drawn.xs, u);
-        let y = arrays::num(drawn.ys, u);
+        let x = arrays::number_at(drawn.xs, u);
+        let y = arrays::number_at(drawn.ys, u);
         console::print(format_args!(" {x},{y}"));
     }
 }
@@ -122,7 +122,7 @@ fn judge_record(record: &[u8], n: usize, drawn: &Points) -> Result<(), Refusal> 
         xs: &arrays::words::<200>(record, 4, 4, 200),
         ys: &arrays::words::<200>(record, 6, 4, 200),
     };
-    if charts::same_chart(n, &found, drawn) {
+    if chart_points::same_chart(n, &found, drawn) {
         Ok(())
     } else {
         Err(Refusal::OtherChart)
@@ -140,7 +140,7 @@ fn print_record(record: &[u8], n: usize, drawn: &Points) {
 
 // The chart of the labels, and whether the body of a chart record, if the file has one, is the same.
 fn print_chart(fit: &Fit, labels: &[u8], record: Option<&[u8]>) {
-    match placement::chart_of(fit, labels) {
+    match chart_placement::chart_of(fit, labels) {
         Err(_) => {
             console::print(" chart none");
         }
@@ -155,7 +155,7 @@ fn print_chart(fit: &Fit, labels: &[u8], record: Option<&[u8]>) {
 
 // The place of the label rules, and the chart where they are kept.
 fn print_labels(fit: &Fit, labels: &[u8], record: Option<&[u8]>) {
-    let ten = conditions::check(fit, labels);
+    let ten = label_rules::check(fit, labels);
     console::print(format_args!(" 10:{}", place_of(ten, fit.plan.n)));
     if ten.is_ok() {
         print_chart(fit, labels, record);
@@ -163,7 +163,7 @@ fn print_labels(fit: &Fit, labels: &[u8], record: Option<&[u8]>) {
 }
 
 // The entries of all rings, in context order, and zeros behind them; of more than 1,186, the first 1,186.
-fn entries_of(rings: &LentRings) -> [u16; 1186] {
+fn entries_of(rings: &FileRings) -> [u16; 1186] {
     let mut entries = [0u16; 1186];
     let mut at = 0;
     for u in 0..rings.n {
@@ -200,15 +200,15 @@ impl<'a> Framed<'a> {
         if !print_flat_rules(rings) {
             return;
         }
-        let Some(fit) = fit::of(plan) else {
+        let Some(fit) = plan_bounds::of(plan) else {
             return;
         };
         print_scan(&fit);
         print_written(self.file, &fit);
         match self.layout.parts {
-            Parts::Plan => {}
-            Parts::Labels { labels } => print_labels(&fit, self.labels(labels), None),
-            Parts::Chart { labels, chart } => {
+            PartOffsets::Plan => {}
+            PartOffsets::Labels { labels } => print_labels(&fit, self.labels(labels), None),
+            PartOffsets::Chart { labels, chart } => {
                 print_labels(&fit, self.labels(labels), Some(self.record(chart)));
             }
         }
@@ -218,7 +218,7 @@ impl<'a> Framed<'a> {
     fn print_plan(&self) {
         let layout = self.layout;
         let starts = rings::starts_of(&layout.sizes);
-        let lent = LentRings {
+        let lent = FileRings {
             file: self.file,
             starts: &starts,
             sizes: &layout.sizes,
@@ -238,16 +238,16 @@ impl<'a> Framed<'a> {
 // The number of contexts, and the offsets of labels and chart.
 fn print_layout(layout: &Layout) {
     let (labels, chart) = match layout.parts {
-        Parts::Plan => (0, 0),
-        Parts::Labels { labels } => (labels, 0),
-        Parts::Chart { labels, chart } => (labels, chart),
+        PartOffsets::Plan => (0, 0),
+        PartOffsets::Labels { labels } => (labels, 0),
+        PartOffsets::Chart { labels, chart } => (labels, chart),
     };
     console::print(format_args!("n {} labels {labels} chart {chart}", layout.n,));
 }
 
 // A file: the refusal, or what stands in it.
 fn print_file(file: &[u8]) {
-    match framing::frame_file(file) {
+    match file_framing::frame_file(file) {
         Err(refusal) => {
             console::print(refusal);
         }

@@ -83,12 +83,12 @@ fn show_bytes(bytes: &[u8]) {
 
 // The sheet that a fresh one becomes when a file is opened.
 fn opened(file: &[u8]) -> Sheet {
-    opening::open_file(file).unwrap_or(sheet::fresh_sheet())
+    sheet_open::open_file(file).unwrap_or(sheet::fresh_sheet())
 }
 
 // Same.
 fn run_same(one: &Sheet, other: &Sheet) {
-    match reports::same(one, other) {
+    match sheet_queries::same(one, other) {
         Ok(true) => console::print("yes"),
         Ok(false) => console::print("no"),
         Err(refusal) => console::print(refusal),
@@ -97,7 +97,7 @@ fn run_same(one: &Sheet, other: &Sheet) {
 
 // Scan.
 fn run_scan(sheet: &Sheet) {
-    match reports::scan(sheet) {
+    match sheet_queries::scan(sheet) {
         Ok(Some((a, b, c))) => console::print(format_args!("{a},{b},{c}")),
         Ok(None) => console::print("none"),
         Err(refusal) => console::print(refusal),
@@ -106,11 +106,11 @@ fn run_scan(sheet: &Sheet) {
 
 // Ring: the answer, and the part that is handed back.
 fn run_ring(file: &[u8], context: usize) {
-    match files::ring_answer(file, context) {
+    match file_queries::ring_answer(file, context) {
         Ok(part) => console::print(format_args!("at {}, length {}", part.at, part.size)),
         Err(refusal) => console::print(refusal),
     };
-    show_bytes(files::ring(file, context));
+    show_bytes(file_queries::ring(file, context));
 }
 
 // A call that writes into a buffer of a length: the answer, and the whole buffer afterwards.
@@ -134,8 +134,8 @@ fn behind(bytes: &[u8], at: usize) -> &[u8] {
 // The call of an item.
 fn run_call(kind: Kind, number: usize, file: &[u8]) {
     match kind {
-        Kind::Write => run_write(number, |out| reports::write(&opened(file), out)),
-        Kind::OpenWrite => run_write(number, |out| files::open_write(file, out)),
+        Kind::Write => run_write(number, |out| sheet_queries::write(&opened(file), out)),
+        Kind::OpenWrite => run_write(number, |out| file_queries::open_write(file, out)),
         Kind::Ring => run_ring(file, number),
         Kind::Scan => run_scan(&opened(file)),
         Kind::Same => run_same(

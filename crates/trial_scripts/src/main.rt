@@ -12,7 +12,7 @@ fn run_script(script: &[u8]) {
     let ran = script::run_script(script);
     let sheet = ran.sheet;
     let mut space = io::large_buffer();
-    let _ = reports::write(&sheet, &mut space);
+    let _ = sheet_queries::write(&sheet, &mut space);
     console::println(format_args!(
         "script of {} ends at {}; stage {}, n {}, checksum {}",
         script.len(),

@@ -14,16 +14,16 @@ use Rattle.lists.specs.Spans.{stretch}
 use Rattle.lists.proofs.Parts.{length_pairs}
 use Rattle.lists.proofs.Spans.{length-stretch, stretch-first}
 use Rattle.model.specs.Outcome.{Outcome, accepted, refused, mapped, ◌>>◌, require, taken}
-use Rattle.model.specs.Plan.{Plan, Dart, count, entry_count}
-use Rattle.model.specs.Labels.{label_of, turned, put, breaks, label_rules}
+use Rattle.model.specs.Plan.{Plan, Dart, context_count, entry_count}
+use Rattle.model.specs.Labels.{label_of, turned, put_label, breaks, label_rules}
 use Rattle.model.specs.Turn.{bad_pair, quarters, turn_dart, turned_edges, turn}
 use Rattle.model.proofs.LabelCounts.{turns_long}
 use Rattle.model.proofs.Outcomes.{mapped_at, mapped_off}
-use Rattle.fit.specs.Fits.{fit}
-use Rattle.fit.proofs.Fits.{fit-says}
+use Rattle.plan_bounds.specs.Fits.{fit}
+use Rattle.plan_bounds.proofs.Fits.{fit-says}
 use Rattle.labels.proofs.Darts.{label_behind, put-behind, rules_behind}
-use Rattle.turn.specs.Run.{pairs_turned}
-use Rattle.turn.specs.Turned.{labels_in, put_into}
+use Rattle.turn.specs.EdgeTurns.{pairs_turned}
+use Rattle.turn.specs.Turned.{labels_in_array, put_into}
 use Rattle.turn.proofs.Named.{turn_long}
 
 -- ---- edges turned in an array that holds labels, and something behind them
@@ -32,7 +32,7 @@ module _ (p : Plan) (q : ℕ) where
   dart-behind : (d : Dart) (ls rest : List ℕ) → length ls ≡ entry_count p → turn_dart p q d (ls ++ rest) ≡ turn_dart p q d ls ++ rest
   unfolding turn_dart
   dart-behind d ls rest s =
-      ap (λ (l : ℕ). put p d.0 d.1 (turned l q) (ls ++ rest)) (label_behind p ls rest s d.0 d.1)
+      ap (λ (l : ℕ). put_label p d.0 d.1 (turned l q) (ls ++ rest)) (label_behind p ls rest s d.0 d.1)
       ∙ put-behind p ls rest s d.0 d.1 (turned (label_of p ls d.0 d.1) q)
 
   -- and so is each edge
@@ -117,7 +117,7 @@ module _ (p : Plan) (q : ℕ) (es : List Dart) (old : List ℕ) where
 module _ (p : Plan) (fits : fit p ≡ true) (labels items : List ℕ) (direction : ℕ) (full : length labels ≡ 1186) where
   -- the labels that the array holds
   abbrev Old : List ℕ
-  Old = labels_in p labels
+  Old = labels_in_array p labels
 
   -- what stands behind them
   abbrev Rest : List ℕ
@@ -174,9 +174,9 @@ module _ (p : Plan) (fits : fit p ≡ true) (labels items : List ℕ) (direction
         answered : {judged : Outcome (Unit {0})} → judged ≡ label_rules p new → turn p Old items direction ≡ (judged >> accepted New)
         unfolding label_rules
         answered ten =
-            let same : lowest (breaks p new) (count p) ≡ lowest (breaks p New) (count p) = ap (λ (l : List ℕ). lowest (breaks p l) (count p)) new_front ∙ rules_behind p New Rest new_long (count p) in
+            let same : lowest (breaks p new) (context_count p) ≡ lowest (breaks p New) (context_count p) = ap (λ (l : List ℕ). lowest (breaks p l) (context_count p)) new_front ∙ rules_behind p New Rest new_long (context_count p) in
             turn_rules p Old items direction good even (omega arith)
-            ∙ ap (λ (o : Outcome (Unit {0})). o >> accepted New) (sym (ten ∙ ap (λ (u : ℕ). require (leb (count p) u) 10 u) same))
+            ∙ ap (λ (o : Outcome (Unit {0})). o >> accepted New) (sym (ten ∙ ap (λ (u : ℕ). require (leb (context_count p) u) 10 u) same))
 
         -- 10 at the lowest context that breaks them
         pub answer_broken : {k at : ℕ} → refused k at ≡ label_rules p new → refused k at ≡ Answer

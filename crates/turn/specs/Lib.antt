@@ -1,2 +1,2 @@
 pub mod Turned
-pub mod Run
+pub mod EdgeTurns

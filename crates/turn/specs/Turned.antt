@@ -4,8 +4,8 @@ use Rattle.lists.specs.Spans.{stretch}
 use Rattle.model.specs.Plan.{Plan, entry_count}
 
 -- the labels that an array holds: one for each dart of the plan
-abbrev pub labels_in : Plan → List ℕ → List ℕ
-labels_in p array = stretch array 0 (entry_count p)
+abbrev pub labels_in_array : Plan → List ℕ → List ℕ
+labels_in_array p array = stretch array 0 (entry_count p)
 
 -- labels put into an array: behind them stands what stood there
 abbrev pub put_into : List ℕ → List ℕ → List ℕ

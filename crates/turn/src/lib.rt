@@ -6,15 +6,15 @@ ghost use Rattle.std.specs.Prelude.{◌≡◌, ◌≤◌, ◌<◌, ◌*◌, ◌%
 ghost use Rattle.lists.specs.Parts.{pairs};
 ghost use Rattle.model.specs.Outcome.{mapped};
 ghost use Rattle.model.specs.Turn.{quarters, turn};
-ghost use Rattle.refusal.specs.Refusals.{told};
+ghost use Rattle.refusal.specs.Refusals.{outcome_of};
 ghost use Rattle.rings.specs.Tables.{starts_of, plan_of, table_of};
-ghost use Rattle.fit.specs.Fits.{fit};
-ghost use Rattle.turn.specs.Turned.{labels_in, put_into};
-ghost use Rattle.turn.specs.Run.{place_of, turn_at, unturned, pairs_turned};
+ghost use Rattle.plan_bounds.specs.Fits.{fit};
+ghost use Rattle.turn.specs.Turned.{labels_in_array, put_into};
+ghost use Rattle.turn.specs.EdgeTurns.{label_position, turn_at, unturned, pairs_turned};
 
-use fit::Fit;
-use places::Located;
+use plan_bounds::Fit;
 use refusal::Refusal;
+use ring_positions::Located;
 
 // The quarters of a direction: one clockwise, three counterclockwise.
 // A number, and no enum: the pass over the edges comes before the direction is tested, and turns by whatever direction it is given.
@@ -26,7 +26,7 @@ fn quarters_of(direction: u8) -> u8
 }
 
 // The label at i turned clockwise by q quarters; nothing where i is past the last.
-#[tactic(auto, unfolding(crate::specs::Run::turn_at))]
+#[tactic(auto, unfolding(crate::specs::EdgeTurns::turn_at))]
 fn turn_at(labels: &mut [u8], i: usize, q: u8)
     ensures { labels.new ≡ turn_at q i labels.old }
 {
@@ -44,23 +44,23 @@ struct Placed<'a> {
 
 impl Placed<'_> {
     // Where the label of the dart from u to v stands, if there is a dart.
-    fn place_of(&self, u: usize, v: usize) -> Option<usize>
-        ensures { result ≡ place_of (plan_of self.now.located.rings) u v }
+    fn position_of(&self, u: usize, v: usize) -> Option<usize>
+        ensures { result ≡ label_position (plan_of self.now.located.rings) u v }
     {
         let i = self.located.index_of(u, v);
         let rings = self.located.rings;
         if i < rings.size_of(u) {
-            return Some(arrays::num(rings.starts, u) + i);
+            return Some(arrays::number_at(rings.starts, u) + i);
         }
         None
     }
 
     // Where the label of the dart from u to v stands, if it is an inner dart whose label was not turned yet.
-    #[tactic(auto, unfolding(crate::specs::Run::unturned, crate::specs::Run::bad_at))]
-    fn unturned_place(&self, old: &[u8], new: &[u8], u: usize, v: usize) -> Option<usize>
-        ensures { result ≡ unturned old.now new.now u v (place_of (plan_of self.now.located.rings) u v) }
+    #[tactic(auto, unfolding(crate::specs::EdgeTurns::unturned, crate::specs::EdgeTurns::bad_at))]
+    fn unturned_position(&self, old: &[u8], new: &[u8], u: usize, v: usize) -> Option<usize>
+        ensures { result ≡ unturned old.now new.now u v (label_position (plan_of self.now.located.rings) u v) }
     {
-        let i = self.place_of(u, v)?;
+        let i = self.position_of(u, v)?;
         if labels::both_border(u, v) {
             return None;
         }
@@ -73,7 +73,7 @@ impl Placed<'_> {
     // The labels with each named edge turned by q quarters, where every pair is an inner edge that was not named before.
     fn turn_pairs(&self, labels: [u8; 1186], items: &[u16], q: u8) -> Result<[u8; 1186], Refusal>
         requires { (q < 4) × (q % 2 ≡ 1) }
-        ensures { told result ≡ pairs_turned (plan_of self.now.located.rings) q (pairs items.now) labels }
+        ensures { outcome_of result ≡ pairs_turned (plan_of self.now.located.rings) q (pairs items.now) labels }
     {
         let (pairs, _) = items.as_chunks::<2>();
         let mut turned = labels;
@@ -81,9 +81,9 @@ impl Placed<'_> {
             let u = usize::from(pair[0]);
             let v = usize::from(pair[1]);
             let i = self
-                .unturned_place(&labels, &turned, u, v)
+                .unturned_position(&labels, &turned, u, v)
                 .ok_or(Refusal::BadPair(k))?;
-            if let Some(back) = self.place_of(v, u) {
+            if let Some(back) = self.position_of(v, u) {
                 turn_at(&mut turned, back, q);
             }
             turn_at(&mut turned, i, q);
@@ -101,13 +101,13 @@ fn turn_in<const N: usize>(
 ) -> Result<[u8; 1186], Refusal>
     requires quarters { (q < 4) × (q % 2 ≡ 1) }
     requires room { (200 * fit.now.plan.n ≤ N) × (N ≤ 40000) }
-    ensures { told result ≡ pairs_turned (table_of fit.now.plan) q (pairs items.now) labels }
+    ensures { outcome_of result ≡ pairs_turned (table_of fit.now.plan) q (pairs items.now) labels }
 {
     let mut places = [0u8; N];
     let plan = fit.plan;
     let starts = rings::starts_of(plan.sizes);
     let rings = plan.rings(&starts);
-    places::fill(&mut places, &rings);
+    ring_positions::fill(&mut places, &rings);
     let located = Located {
         rings,
         places: &places,
@@ -119,7 +119,7 @@ fn turn_in<const N: usize>(
 // The same; the table is small for few contexts.
 fn turn_edges(fit: &Fit, labels: [u8; 1186], items: &[u16], q: u8) -> Result<[u8; 1186], Refusal>
     requires { (q < 4) × (q % 2 ≡ 1) }
-    ensures { told result ≡ pairs_turned (table_of fit.now.plan) q (pairs items.now) labels }
+    ensures { outcome_of result ≡ pairs_turned (table_of fit.now.plan) q (pairs items.now) labels }
 {
     if fit.plan.n <= rings::FEW_CONTEXTS {
         turn_in::<4000>(fit, labels, items, q)
@@ -135,12 +135,12 @@ pub fn turn_labels(
     items: &[u16],
     direction: u8,
 ) -> Result<[u8; 1186], Refusal>
-    ensures { told result ≡ mapped (put_into labels) (turn (table_of fit.now.plan) (labels_in (table_of fit.now.plan) labels) items.now direction) }
+    ensures { outcome_of result ≡ mapped (put_into labels) (turn (table_of fit.now.plan) (labels_in_array (table_of fit.now.plan) labels) items.now direction) }
 {
     let turned = turn_edges(fit, labels, items, quarters_of(direction))?;
     if items.len() % 2 != 0 || 1 < direction {
         return Err(Refusal::BadPair(items.len() / 2));
     }
-    conditions::check(fit, &turned)?;
+    label_rules::check(fit, &turned)?;
     Ok(turned)
 }

@@ -1,7 +1,7 @@
 -- What the loop of words keeps.
 use Prim.Native.Nat.{ℕ, ◌+◌, ◌*◌}
 use Rattle.lists.proofs.Loops.{Fills}
-use Rattle.arrays.specs.Parts.{word_of}
+use Rattle.arrays.specs.ArrayParts.{word_of}
 use Rattle.arrays.proofs.words.Given as goal
 
 abbrev pub invariant-loop-i : goal.invariant-loop-i

@@ -1,6 +1,6 @@
 -- bad_border meets its contract.
 use Rattle.rings.specs.Tables.{plan_of}
-use Rattle.faces.proofs.FaceTests.{ring_long, border-empty, border-first, border_last, border_across}
+use Rattle.faces.proofs.FaceTests.{ring_long, border-is_empty, border-first, border_last, border_across}
 use native.Mathlib.Omega.{arith}
 use Rattle.faces.proofs.bad_border.Goals as goal
 
@@ -9,7 +9,7 @@ returns-then-k-eq0 c =
     let a = c.args in
     let p = plan_of a.rings.now in
     let long = ring_long a.rings.now.starts.now a.rings.now.sizes.now a.rings.now.entries.now a.rings.now.n a.u c.size_of-k.ensures.value in
-    border-empty p a.u _ c.requires long c.if-k-eq0.true
+    border-is_empty p a.u _ c.requires long c.if-k-eq0.true
 
 pub returns-then-neighbour_at-u : goal.returns-then-neighbour_at-u
 returns-then-neighbour_at-u c =

@@ -12,7 +12,7 @@ use Rattle.lists.specs.Tests.{member}
 use Rattle.lists.specs.Spans.{span}
 use Rattle.lists.proofs.Chains.{any_again}
 use Rattle.model.specs.Plan.{ring}
-use Rattle.lent.specs.Plans.{lent_of}
+use Rattle.file_rings.specs.Plans.{plan_of_file}
 use Rattle.rings.specs.Tables.{size_of}
 use Rattle.file_ring_rules.proofs.Whole.{whole_repeat}
 use Rattle.file_ring_rules.proofs.repeats_at.Goals as goal
@@ -21,7 +21,7 @@ pub returns : goal.returns
 returns c =
     let r = c.args.rings.now in
     let u = c.args.u in
-    let l = ring (lent_of r) u in
+    let l = ring (plan_of_file r) u in
     let e = size_of r.sizes.now r.n u in
     let test : ℕ → Bool = λ i. member (get_or l i 0) (span l (i + 1) e) in
     any_from_yields_List test _ _ c.any.result c.any.ensures.ran (YieldsList-from_range 0 c.size_of.result (e - 0) refl (let s = c.size_of.ensures.value in omega arith)) (λ x b f k. search (rules, tests))

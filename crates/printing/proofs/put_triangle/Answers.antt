@@ -1,5 +1,5 @@
 -- put_triangle meets its contract.
-use Rattle.forms.specs.Words.{letters}
+use Rattle.text_templates.specs.Digits.{letters}
 use Rattle.printing.proofs.Texts.{none_line}
 use Rattle.printing.proofs.put_triangle.Goals as goal
 

@@ -3,7 +3,7 @@ use mathlib.Core.Path.{sym, ◌∙◌}
 use mathlib.Core.Bool.{false≢true}
 use native.Mathlib.Omega.{arith}
 use borrow.Author.Tests.{ne_eqb}
-use Rattle.fit.proofs.Bounds.{fit_few}
+use Rattle.plan_bounds.proofs.Bounds.{fit_few}
 use Rattle.sweep.proofs.Ruled.{ruled-sound}
 use Rattle.sweep.proofs.is_ruled.Goals as goal
 

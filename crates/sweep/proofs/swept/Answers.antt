@@ -1,6 +1,6 @@
 -- swept meets its contract.
 use native.Mathlib.Omega.{arith}
-use Rattle.fit.proofs.Bounds.{fit_few}
+use Rattle.plan_bounds.proofs.Bounds.{fit_few}
 use Rattle.sweep.proofs.swept.Goals as goal
 
 pub swept_in-requires-else-fit-le-FEW_CONTEXTS-clause-room : goal.swept_in-requires-else-fit-le-FEW_CONTEXTS-clause-room

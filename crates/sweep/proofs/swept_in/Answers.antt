@@ -2,15 +2,15 @@
 use Prim.Native.Nat.{◌*◌, ◌≤◌, min}
 use mathlib.Core.Path.{refl, sym, ap, ◌∙◌, subst}
 use native.Mathlib.Omega.{arith}
-use Rattle.lists.specs.Spans.{padded}
+use Rattle.lists.specs.Spans.{zero_padded}
 use Rattle.model.specs.Outcome.{mapped}
 use Rattle.model.specs.Plan.{Plan}
 use Rattle.model.proofs.PlanRules.{Sound}
 use Rattle.rings.specs.Tables.{starts_of}
 use Rattle.rings.proofs.Rows.{as_table, count-rows}
-use Rattle.fit.specs.Fits.{fit}
-use Rattle.places.proofs.Notes.{finds-filled}
-use Rattle.labelling.specs.Labelling.{swept}
+use Rattle.plan_bounds.specs.Fits.{fit}
+use Rattle.ring_positions.proofs.Notes.{finds-filled}
+use Rattle.sweep_labelling.specs.Labelling.{swept}
 use Rattle.sweep.proofs.Arrays.{guided}
 use Rattle.sweep.proofs.swept_in.Goals as goal
 
@@ -54,9 +54,9 @@ invariant_of-swift g c =
 pub returns-then-ruled : goal.returns-then-ruled
 returns-then-ruled g c =
     let e = c.rings-rings.ensures in
-    c.run.ensures ∙ ap (λ (p : Plan). mapped (padded 1186) (swept p)) (as_table c.args.fit.now.plan c.rings-rings.result (e.starts ∙ c.starts_of-starts.ensures) e.sizes e.entries e.n)
+    c.run.ensures ∙ ap (λ (p : Plan). mapped (zero_padded 1186) (swept p)) (as_table c.args.fit.now.plan c.rings-rings.result (e.starts ∙ c.starts_of-starts.ensures) e.sizes e.entries e.n)
 
 pub returns : goal.returns
 returns g c =
     let e = c.rings-rings.ensures in
-    c.run-2.ensures ∙ ap (λ (p : Plan). mapped (padded 1186) (swept p)) (as_table c.args.fit.now.plan c.rings-rings.result (e.starts ∙ c.starts_of-starts.ensures) e.sizes e.entries e.n)
+    c.run-2.ensures ∙ ap (λ (p : Plan). mapped (zero_padded 1186) (swept p)) (as_table c.args.fit.now.plan c.rings-rings.result (e.starts ∙ c.starts_of-starts.ensures) e.sizes e.entries e.n)

@@ -6,7 +6,7 @@ use mathlib.Core.Bool.{not}
 use Rattle.std.proofs.Common.{None, Some, Err}
 use Rattle.std.proofs.lemmas.Result.{err_from_is_err_and}
 use Rattle.rings.specs.Tables.{plan_of}
-use Rattle.refusal.specs.Refusals.{told}
+use Rattle.refusal.specs.Refusals.{outcome_of}
 use Rattle.refusal.specs.declared.Refusal.TheVariants.{SweepStuck}
 use Rattle.sweep_by_definition.specs.Steps.{Running}
 use Rattle.sweep_by_definition.proofs.Steps.{running_done, running_stuck, found_inside, running-whole, running_on, running_out}
@@ -26,7 +26,7 @@ returns-in_err-i c =
     let none : c.choose.result ≡ None = grind arith in
     let p = err_from_is_err_and c.from_residual.result c.from_residual.ensures.1 in
     let stuck : c.in_err-i.field-0.0 ≡ SweepStuck = grind arith in
-    ap told (p.1 ∙ ap Err (p.2 ∙ stuck)) ∙ running_stuck c.args.guided.now.guide.sane c.loop.invariant c.choose.result (omega arith) c.is_unfinished.ensures (ap not c.if-not-is_unfinished.false) c.choose.ensures none
+    ap outcome_of (p.1 ∙ ap Err (p.2 ∙ stuck)) ∙ running_stuck c.args.guided.now.guide.sane c.loop.invariant c.choose.result (omega arith) c.is_unfinished.ensures (ap not c.if-not-is_unfinished.false) c.choose.ensures none
 
 pub take_step-requires-clause-i_bound : goal.take_step-requires-clause-i_bound
 take_step-requires-clause-i_bound c =

@@ -2,7 +2,7 @@
 use native.Mathlib.Omega.{arith}
 use Rattle.rings.specs.Tables.{starts_of, table, table_of}
 use Rattle.rings.proofs.Rows.{count-rows}
-use Rattle.fit.proofs.Fits.{fit-says}
+use Rattle.plan_bounds.proofs.Fits.{fit-says}
 use Rattle.turn.proofs.turn_edges.Goals as goal
 
 pub turn_in-requires-else-fit-le-FEW_CONTEXTS-clause-room : goal.turn_in-requires-else-fit-le-FEW_CONTEXTS-clause-room

@@ -5,9 +5,9 @@ use Rattle.lists.specs.Parts.{pairs}
 use Rattle.model.specs.Plan.{Plan}
 use Rattle.rings.specs.Tables.{starts_of}
 use Rattle.rings.proofs.Rows.{as_table, count-rows}
-use Rattle.fit.specs.Fits.{fit}
-use Rattle.places.proofs.Notes.{finds-filled}
-use Rattle.turn.specs.Run.{pairs_turned}
+use Rattle.plan_bounds.specs.Fits.{fit}
+use Rattle.ring_positions.proofs.Notes.{finds-filled}
+use Rattle.turn.specs.EdgeTurns.{pairs_turned}
 use Rattle.turn.proofs.turn_in.Goals as goal
 
 pub whole_as_slice-fill : goal.whole_as_slice-fill

@@ -1,8 +1,8 @@
 -- each_returned meets its contract.
 use mathlib.Core.Path.{refl, sym}
 use native.Mathlib.Omega.{arith}
-use Rattle.lent.proofs.Rings.{count-lent}
-use Rattle.places.proofs.Notes.{finds-filled}
+use Rattle.file_rings.proofs.Rings.{count-lent}
+use Rattle.ring_positions.proofs.Notes.{finds-filled}
 use Rattle.file_ring_rules.proofs.located.each_returned.Goals as goal
 
 pub whole_as_slice-fill : goal.whole_as_slice-fill

@@ -1,8 +1,8 @@
 -- fill meets its contract.
 use mathlib.Core.Path.{refl}
 use native.Mathlib.Omega.{arith}
-use Rattle.lent.proofs.Rings.{count-lent, lent-size}
-use Rattle.places.proofs.Notes.{notes_start, notes_on, notes_next, notes_end}
+use Rattle.file_rings.proofs.Rings.{count-lent, lent-size}
+use Rattle.ring_positions.proofs.Notes.{notes_start, notes_on, notes_next, notes_end}
 use Rattle.file_ring_rules.proofs.located.fill.Goals as goal
 
 pub loop-u-init : goal.loop-u-init

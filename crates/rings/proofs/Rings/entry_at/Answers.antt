@@ -12,7 +12,7 @@ unfolding neighbour
 returns-then-i-size_of c =
     let a = c.args in
     let s = c.size_of.ensures.value in
-    c.at.ensures ∙ ap (λ (k : ℕ). get_or a.self.now.entries.now (k + a.i) 0) c.num.ensures.value
+    c.at.ensures ∙ ap (λ (k : ℕ). get_or a.self.now.entries.now (k + a.i) 0) c.number_at.ensures.value
     ∙ sym (ring-at a.self.now.starts.now a.self.now.sizes.now a.self.now.entries.now a.self.now.n a.u a.i (omega arith))
 
 pub returns-else-i-size_of : goal.returns-else-i-size_of

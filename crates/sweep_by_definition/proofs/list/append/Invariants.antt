@@ -4,8 +4,8 @@ use mathlib.Core.List.{List}
 use Prim.Native.Nat.{ℕ}
 use Rattle.std.specs.Prelude.{fold}
 use Rattle.lists.specs.Spans.{span}
-use Rattle.frontier.specs.Run.{pushed, line_of}
+use Rattle.sweep_frontier.specs.Frontiers.{pushed, lent_frontier}
 use Rattle.sweep_by_definition.proofs.list.append.Given as goal
 
 abbrev pub invariant-loop-k : goal.invariant-loop-k
-invariant-loop-k l = (marks : List ℕ) → fold pushed (line_of l.initial.grown l.initial.at marks) (span l.f l.fn.positions.start l.fn.positions.end) ≡ fold pushed (line_of l.grown l.at marks) (span l.f l.k-iterator.start l.k-iterator.end)
+invariant-loop-k l = (marks : List ℕ) → fold pushed (lent_frontier l.initial.grown l.initial.at marks) (span l.f l.fn.positions.start l.fn.positions.end) ≡ fold pushed (lent_frontier l.grown l.at marks) (span l.f l.k-iterator.start l.k-iterator.end)

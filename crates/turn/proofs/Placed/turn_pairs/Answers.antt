@@ -6,10 +6,10 @@ use Rattle.std.proofs.lemmas.Result.{err_from_is_err_and}
 use Rattle.lists.proofs.Parts.{length_pairs}
 use Rattle.model.specs.Plan.{Plan}
 use Rattle.model.specs.Turn.{turn_dart}
-use Rattle.refusal.specs.Refusals.{told}
+use Rattle.refusal.specs.Refusals.{outcome_of}
 use Rattle.refusal.specs.declared.Refusal.TheVariants.{BadPair}
 use Rattle.rings.specs.Tables.{plan_of}
-use Rattle.fit.proofs.Fits.{fit-says}
+use Rattle.plan_bounds.proofs.Fits.{fit-says}
 use Rattle.turn.proofs.Named.{dart}
 use Rattle.turn.proofs.Turns.{chunk_is, turns-start, turns_long, turns_hit, turns-on, turns_end, turned-at, turned_none}
 use native.Mathlib.Omega.{arith}
@@ -29,7 +29,7 @@ returns-in_err-i c =
     let s = c.args.self.now in
     let items = c.args.items.now in
     let inv = c.loop-k.invariant in
-    let none : c.unturned_place.result ≡ None = grind arith in
+    let none : c.unturned_position.result ≡ None = grind arith in
     let pair : get_or (pairs items) c.loop-k.k (0, 0) ≡ dart c.from-u.result c.from-v.result =
     let h = c.loop-k-test.true in
     let n = c.as_chunks.ensures.front_len in
@@ -39,10 +39,10 @@ returns-in_err-i c =
     chunk_is items (length items / 2) c.loop-k.k (omega arith) (omega arith) eu ev
     in
     let room = (fit-says (plan_of r) s.fits).room in
-    let hit = turns_hit inv.1 room (omega arith) c.from-u.result c.from-v.result pair (sym (length_pairs items)) (omega arith) (sym none ∙ c.unturned_place.ensures) in
+    let hit = turns_hit inv.1 room (omega arith) c.from-u.result c.from-v.result pair (sym (length_pairs items)) (omega arith) (sym none ∙ c.unturned_position.ensures) in
     let p = err_from_is_err_and c.from_residual.result c.from_residual.ensures.1 in
     let bad : c.in_err-i.field-0.0 ≡ BadPair c.loop-k.k = grind arith in
-    ap told (p.1 ∙ ap Err (p.2 ∙ bad)) ∙ hit
+    ap outcome_of (p.1 ∙ ap Err (p.2 ∙ bad)) ∙ hit
 
 pub loop-k-preserved : goal.loop-k-preserved
 loop-k-preserved c =
@@ -53,7 +53,7 @@ loop-k-preserved c =
     let u : ℕ = c.from-u.result in
     let v : ℕ = c.from-v.result in
     let inv = c.loop-k.invariant in
-    let some : c.unturned_place.result ≡ Some c.in_ok-i.i = grind arith in
+    let some : c.unturned_position.result ≡ Some c.in_ok-i.i = grind arith in
     let pair : get_or (pairs items) c.loop-k.k (0, 0) ≡ dart c.from-u.result c.from-v.result =
     let h = c.loop-k-test.true in
     let n = c.as_chunks.ensures.front_len in
@@ -63,11 +63,11 @@ loop-k-preserved c =
     chunk_is items (length items / 2) c.loop-k.k (omega arith) (omega arith) eu ev
     in
     let room = (fit-says plan s.fits).room in
-    let back : c.match-place_of.turned ≡ turn_dart plan c.args.q (dart v u) c.loop-k.turned = elim c.match-place_of.branch [
+    let back : c.match-position_of.turned ≡ turn_dart plan c.args.q (dart v u) c.loop-k.turned = elim c.match-position_of.branch [
       | in-Some w ↦ w.turned-is ∙ w.turn_at.ensures ∙ turned-at plan v u c.args.q c.loop-k.turned w.in-Some.ensures
       | in_default w ↦ w.turned-is ∙ turned_none plan v u c.args.q c.loop-k.turned w.in_default.ensures
     ] in
-    let next = turns-on inv.1 room (omega arith) u v pair (sym (length_pairs items)) (omega arith) c.requires.1 (sym some ∙ c.unturned_place.ensures) back c.turn_at-in-loop-k.ensures in
+    let next = turns-on inv.1 room (omega arith) u v pair (sym (length_pairs items)) (omega arith) c.requires.1 (sym some ∙ c.unturned_position.ensures) back c.turn_at-in-loop-k.ensures in
     (turns_long next ∙ omega arith, next)
 
 pub returns : goal.returns

@@ -1,0 +1,139 @@
+// What a look at a sheet's plan and chart finds without the engine's calls: the areas of the inner faces, and whether three contexts enclose others.
+#![tactic(auto)]
+
+ghost use Rattle.std.specs.Prelude.{◌≡◌, [], ◌∷◌};
+ghost use Rattle.model.specs.Plan.{faces_from};
+ghost use Rattle.model.specs.Scan.{enclosing};
+ghost use Rattle.model.specs.Geometry.{area};
+ghost use Rattle.rings.specs.Tables.{plan_of};
+ghost use Rattle.chart_areas.specs.Corners.{points_only};
+ghost use Rattle.sheet.specs.Sheets.{held_plan};
+ghost use Rattle.chart_audit.specs.Surveys.{natural, with_area, with_faces, faces_on, surveyed};
+
+use chart_points::Points;
+use faces::FaceSteps;
+use rings::Rings;
+use sheet::Sheet;
+
+// The inner faces of a chart: how many there are, how many of them are positive, the least of their doubled areas, if there is one, and the sum, where a negative one counts as 0.
+#[derive(Clone, Copy)]
+pub struct Areas {
+    pub faces: usize,
+    pub positive: usize,
+    pub least: Option<usize>,
+    pub sum: usize,
+}
+
+// A plan's rings, and where the contexts stand.
+#[derive(Clone, Copy)]
+struct PlacedPlan<'a> {
+    rings: Rings<'a>,
+    points: Points<'a>,
+}
+
+// Are a, b, c neighbours of each other and no inner face, walked either way?
+#[tactic(auto, using(faces::proofs::FaceTests::enclosing_tests))]
+fn rings_enclose(rings: &Rings, a: usize, b: usize, c: usize) -> bool
+    ensures { result ≡ enclosing (plan_of rings.now) (a, b, c) }
+{
+    ring_search::is_adjacent(rings, a, c)
+        && ring_search::is_adjacent(rings, b, c)
+        && ring_search::is_adjacent(rings, a, b)
+        && !faces::is_face(rings, a, b, c)
+        && !faces::is_face(rings, a, c, b)
+}
+
+// Are a, b, c neighbours of each other on the sheet's plan and no inner face, walked either way?
+#[tactic(auto, using(crate::proofs::Counts::rings_of))]
+pub fn encloses(sheet: &Sheet, a: usize, b: usize, c: usize) -> bool
+    ensures { result ≡ enclosing (held_plan sheet.now) (a, b, c) }
+{
+    let plan = sheet::table_of(sheet);
+    let starts = rings::starts_of(plan.sizes);
+    rings_enclose(&plan.rings(&starts), a, b, c)
+}
+
+// A number, or 0 where it is negative.
+#[tactic(auto, using(crate::proofs::Counts::natural_from))]
+fn natural(area: i64) -> usize
+    ensures { result ≡ natural area }
+{
+    usize::try_from(area).unwrap_or(0)
+}
+
+impl Areas {
+    // The areas with one more face.
+    #[tactic(auto, unfolding(crate::specs::Surveys::with_area))]
+    fn with(self, area: usize) -> Areas
+        ensures { result ≡ with_area area self }
+    {
+        Areas {
+            faces: self.faces.wrapping_add(1),
+            positive: self.positive.wrapping_add(area.min(1)),
+            least: Some(self.least.unwrap_or(area).min(area)),
+            sum: self.sum.wrapping_add(area),
+        }
+    }
+}
+
+impl<'a> PlacedPlan<'a> {
+    // The doubled area of the triangle u, v, w; 0 where it is negative.
+    fn area_at(&self, u: usize, v: usize, w: usize) -> usize
+        ensures { result ≡ natural (area (points_only self.now.points.xs.now self.now.points.ys.now) (u ∷ v ∷ w ∷ [])) }
+    {
+        natural(chart_areas::area_of(&self.points, u, v, w))
+    }
+
+    // The areas with the inner face whose walk begins with the dart from u to v, where u is its lowest context.
+    #[tactic(auto, using(crate::proofs::Counts::dart))]
+    fn with_dart(&self, areas: Areas, u: usize, v: usize) -> Areas
+        ensures { result ≡ with_faces (points_only self.now.points.xs.now self.now.points.ys.now) (faces_on (plan_of self.now.rings) u v) areas }
+    {
+        if v <= u {
+            return areas;
+        }
+        let w = self.rings.third_of(u, v);
+        if w <= u {
+            return areas;
+        }
+        if faces::is_face(&self.rings, u, v, w) {
+            return areas.with(self.area_at(u, v, w));
+        }
+        areas
+    }
+
+    // The areas with the inner faces whose lowest context is u.
+    fn with_context(&self, areas: Areas, u: usize) -> Areas
+        ensures { result ≡ with_faces (points_only self.now.points.xs.now self.now.points.ys.now) (faces_from (plan_of self.now.rings) u) areas }
+    {
+        (0..self.rings.size_of(u)).fold(areas, |all, i| {
+            self.with_dart(all, u, self.rings.neighbour_at(u, i))
+        })
+    }
+    // The areas of all inner faces.
+    fn areas(&self) -> Areas
+        ensures { result ≡ surveyed (plan_of self.now.rings) (points_only self.now.points.xs.now self.now.points.ys.now) }
+    {
+        let none = Areas {
+            faces: 0,
+            positive: 0,
+            least: None,
+            sum: 0,
+        };
+        (0..self.rings.n).fold(none, |areas, u| self.with_context(areas, u))
+    }
+}
+
+// The areas of the inner faces of a sheet's chart.
+#[tactic(auto, using(crate::proofs::Counts::rings_of))]
+pub fn areas_of(sheet: &Sheet) -> Areas
+    ensures { result ≡ surveyed (held_plan sheet.now) (points_only sheet.now.xs sheet.now.ys) }
+{
+    let plan = sheet::table_of(sheet);
+    let starts = rings::starts_of(plan.sizes);
+    let drawn = PlacedPlan {
+        rings: plan.rings(&starts),
+        points: sheet::points_of(sheet),
+    };
+    drawn.areas()
+}

@@ -1,0 +1,4 @@
+pub mod Marks
+pub mod DartConstraints
+pub mod Walk
+pub mod Draw

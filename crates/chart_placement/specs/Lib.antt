@@ -1,0 +1,3 @@
+pub mod DartConstraints
+pub mod Drawing
+pub mod Marking

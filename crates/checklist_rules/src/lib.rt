@@ -1,0 +1,109 @@
+// What is right in the checklist: tests of what the engine answers, and how checks are counted. `checklist_lines` writes the lines.
+#![tactic(auto)]
+
+ghost use Rattle.std.specs.Prelude.{◌≡◌};
+ghost use Rattle.comparison.specs.Bytes as bytes;
+ghost use Rattle.checklist_rules.specs.Audit.{tallied, is_early, undrawn, triple, chart_due, answered_as_due, fills_rectangle, afresh, file_length, same_files};
+
+use chart_audit::Areas;
+use refusal::Refusal;
+use sheet::{Sheet, Stage};
+
+// How many checks there were, and how many of them were wrong.
+#[derive(Clone, Copy)]
+pub struct Tally {
+    pub checks: usize,
+    pub wrong: usize,
+}
+
+// A sheet written as a file: the buffer, and what write answers.
+#[derive(Clone, Copy)]
+pub struct Filed<'a> {
+    pub buffer: &'a [u8],
+    pub answer: Result<usize, Refusal>,
+}
+
+impl Tally {
+    // The tally with one more check.
+    pub fn with(self, right: bool) -> Tally
+        ensures { result ≡ tallied self right }
+    {
+        Tally {
+            checks: self.checks.wrapping_add(1),
+            wrong: self.wrong.wrapping_add(usize::from(!right)),
+        }
+    }
+}
+
+// Is an answer the refusal of a stage too early?
+fn is_early<A: Copy>(answer: &Result<A, Refusal>) -> bool
+    ensures { result ≡ is_early answer.now }
+{
+    answer.err() == Some(Refusal::TooEarly)
+}
+
+// Has a sheet no chart? It has no width and no height, and same is refused 13 at 0.
+pub fn is_undrawn(sheet: &Sheet, same: Result<bool, Refusal>) -> bool
+    ensures { result ≡ undrawn sheet.now same }
+{
+    sheet.w == 0 && sheet.h == 0 && is_early(&same)
+}
+
+// Are the three contexts of a scan neighbours of each other and no face, if there are any?
+pub fn is_triple(sheet: &Sheet, scan: Result<Option<(usize, usize, usize)>, Refusal>) -> bool
+    ensures { result ≡ triple sheet.now scan }
+{
+    match scan {
+        Ok(Some((a, b, c))) => chart_audit::encloses(sheet, a, b, c),
+        Ok(None) => true,
+        Err(_) => false,
+    }
+}
+
+// Has chart answered what is due where it leaves this sheet?
+pub fn is_due(charted: &Result<Sheet, Refusal>, left: &Sheet) -> bool
+    ensures { result ≡ answered_as_due charted.now (chart_due left.now) }
+{
+    match sheet::stage_of(left) {
+        Stage::Charted => charted.is_ok(),
+        Stage::Labelled => charted.err() == Some(Refusal::NoPlacement),
+        Stage::Empty | Stage::Open => is_early(charted),
+    }
+}
+
+// Are all inner faces positive, and do their areas sum to the whole?
+pub fn is_filled(areas: &Areas, whole: usize) -> bool
+    ensures { result ≡ fills_rectangle areas.now whole }
+{
+    areas.positive == areas.faces && areas.sum == whole
+}
+
+// Is a chart the same as the one drawn anew, by what same answers of the two?
+pub fn is_afresh(same: Result<bool, Refusal>) -> bool
+    ensures { result ≡ afresh same }
+{
+    same == Ok(true)
+}
+
+impl Filed<'_> {
+    // The file's length; 0 where write is refused.
+    pub fn size(&self) -> usize
+        ensures { result ≡ file_length self.now.answer }
+    {
+        self.answer.unwrap_or(0)
+    }
+
+    // How many bytes of the file are the same in another, up to the first that differs.
+    pub fn agreeing(&self, other: &Filed) -> usize
+        ensures { result ≡ bytes.agreeing self.now.buffer.now other.now.buffer.now (file_length self.now.answer) }
+    {
+        comparison::agreeing(self.buffer, other.buffer, self.size())
+    }
+
+    // Are two files as long as each other, and is every byte equal?
+    pub fn is_written_as(&self, other: &Filed) -> bool
+        ensures { result ≡ same_files self.now other.now }
+    {
+        self.size() == other.size() && self.agreeing(other) == self.size()
+    }
+}

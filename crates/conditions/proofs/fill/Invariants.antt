@@ -1,9 +1,0 @@
--- What the loop of fill keeps.
-use mathlib.Core.Path.{◌≡◌}
-use lib.ListN.{length}
-use Rattle.lists.proofs.Folds.{Goes}
-use Rattle.conditions.specs.LabelBy.{note_around}
-use Rattle.conditions.proofs.fill.Given as goal
-
-abbrev pub invariant-loop-u : goal.invariant-loop-u
-invariant-loop-u l = (length l.table ≡ length l.initial.table) × Goes (note_around l.rings l.labels) 0 l.rings.n l.initial.table l.u l.table

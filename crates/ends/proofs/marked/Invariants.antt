@@ -1,8 +1,0 @@
--- What the loops of marked keep.
-use Prim.Native.Nat.{ℕ}
-use lib.ListN.{get_or, set}
-use Rattle.lists.proofs.Folds.{Goes}
-use Rattle.ends.proofs.marked.Given as goal
-
-abbrev pub invariant-loop-k : goal.invariant-loop-k
-invariant-loop-k l = Goes (λ (i : ℕ) marks. set marks (get_or l.line.at i 0) 1) 0 l.line.len l.initial.marks l.k l.marks

@@ -1,0 +1,3 @@
+pub mod Offsets
+pub mod LayoutParts
+pub mod Layouts

@@ -1,7 +1,0 @@
--- What the loops of bare_labels keep.
-use Rattle.rings.specs.Tables.{plan_of}
-use Rattle.labelling.proofs.Unlabelled.{Filled}
-use Rattle.labelling.proofs.bare.bare_labels.Given as goal
-
-abbrev pub invariant-loop-u : goal.invariant-loop-u
-invariant-loop-u l = Filled (plan_of l.rings) l.b l.k l.u

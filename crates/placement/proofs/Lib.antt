@@ -1,4 +1,0 @@
-pub mod Marks
-pub mod Asking
-pub mod Walk
-pub mod Draw

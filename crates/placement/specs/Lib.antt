@@ -1,3 +1,0 @@
-pub mod Asking
-pub mod Drawing
-pub mod Marking

@@ -1,5 +1,0 @@
--- held_of meets its contract.
-use Rattle.reports.proofs.held_of.Goals as goal
-
-pub invariant_of-result-2-clause-few : goal.invariant_of-result-2-clause-few
-invariant_of-result-2-clause-few c = c.parts_of.ensures.few

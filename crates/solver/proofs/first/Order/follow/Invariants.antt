@@ -1,6 +1,0 @@
--- What the loop of follow keeps.
-use Rattle.solver.specs.Relaxing.{RaisedIn}
-use Rattle.solver.proofs.first.Order.follow.Given as goal
-
-abbrev pub invariant-loop : goal.invariant-loop
-invariant-loop g l = RaisedIn l.system l.at

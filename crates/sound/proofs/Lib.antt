@@ -1,2 +1,0 @@
-pub mod Doubts
-pub mod Sound

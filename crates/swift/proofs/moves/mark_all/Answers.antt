@@ -1,7 +1,0 @@
--- mark_all meets its contract.
-use native.Mathlib.Omega.{arith}
-use Rattle.swift.proofs.Counts.{marked_end}
-use Rattle.swift.proofs.moves.mark_all.Goals as goal
-
-pub returns : goal.returns
-returns c = marked_end c.loop-c.invariant (omega arith)

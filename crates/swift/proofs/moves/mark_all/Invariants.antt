@@ -1,6 +1,0 @@
--- What the loops of mark_all keep.
-use Rattle.swift.proofs.Counts.{Marked}
-use Rattle.swift.proofs.moves.mark_all.Given as goal
-
-abbrev pub invariant-loop-c : goal.invariant-loop-c
-invariant-loop-c l = Marked l.contexts l.initial.marks l.c-index l.marks
