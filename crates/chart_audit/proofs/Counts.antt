@@ -1,15 +1,7 @@
 -- Faces counted one after another: over the entries of a ring, and over all contexts.
-use Rattle.std.proofs.Common.{◌^◌, subst, ◌≡◌, ℕ, zero, suc, ◌+◌, ◌-◌, ◌<◌, ◌≤◌, Bool, true, false, cond, ◌&&◌, ltb, List, [], ◌∷◌, ◌++◌, map, length, get_or, ℤ, pos, negsuc, nat_abs, sym, refl, ap, ◌∙◌, add-one, arith, le-ltb, lt-ltb}
+use Rattle.std.proofs.Common.{◌≡◌, ℕ, zero, suc, ◌+◌, ◌-◌, ◌<◌, ◌≤◌, Bool, true, false, cond, ◌&&◌, ltb, List, [], ◌∷◌, ◌++◌, map, length, get_or, ℤ, sym, refl, ap, ◌∙◌, add-one, arith, le-ltb, lt-ltb}
 use mathlib.Core.List.{map-map}
 use denote.Param.Members.{Mut}
-use lib.Signed.{mag}
-use mir.Syntax.{w64}
-use mir.Val.{SFits, to_z, of_z}
-use mir.ValLaws.{to_z-of_z}
-use Rattle.std.specs.Prelude.{Ok, Err}
-use Rattle.std.specs.declared.result.Result.{Result}
-use Rattle.std.specs.Result.{OkIff, result_unwrap_or}
-use Rattle.std.specs.Int.{FitsUnsignedBits}
 use Rattle.std.specs.Fn.{Called}
 use Rattle.std.specs.Iterator.{Drains}
 use Rattle.std.specs.List.{FoldsTo, fold, range_with_len}
@@ -25,26 +17,15 @@ use Rattle.model.specs.Scan.{inner_face}
 use Rattle.model.specs.Chart.{Chart}
 use Rattle.model.specs.Geometry.{area}
 use Rattle.chart_audit.specs.declared.Areas.{Areas}
-use Rattle.chart_audit.specs.Surveys.{natural, no_area, with_area, with_faces, faces_on, surveyed}
+use Rattle.chart_audit.specs.Surveys.{no_area, with_area, with_faces, faces_on, surveyed}
 use Rattle.sheet.proofs.Reading.{rings-held}
 use Rattle.faces.proofs.FaceTests.{inner_third}
-
--- ---- a signed number as one without a sign, or 0
-pub natural_from : {E : Type 0} (r : Result ℕ E) (z : ℤ) → SFits w64 z → OkIff r (FitsUnsignedBits 64 (to_z w64 (of_z w64 z))) (nat_abs (to_z w64 (of_z w64 z))) → result_unwrap_or r 0 ≡ natural z
-unfolding natural
-natural_from r z h o = go r z h.sfits (subst (λ (x : ℤ). OkIff r (FitsUnsignedBits 64 x) (nat_abs x)) (to_z-of_z w64 z h) o)
-  where
-    go : {E : Type 0} (r : Result ℕ E) (z : ℤ) → mag z < 2 ^ 63 → OkIff r (FitsUnsignedBits 64 z) (nat_abs z) → result_unwrap_or r 0 ≡ natural z
-    go (Ok x) (pos k) h o = o.1
-    go (Err d) (pos k) h o = absurd (o (omega arith))
-    go (Ok x) (negsuc k) h o = absurd o.0
-    go (Err d) (negsuc k) h o = refl
 
 -- ---- faces in two parts
 counted-both : (k : Chart) (l m : List Face) (s : Areas) → with_faces k (l ++ m) s ≡ with_faces k m (with_faces k l s)
 unfolding with_faces
 counted-both k [] m s = refl
-counted-both k (f ∷ l) m s = counted-both k l m (with_area (natural (area k f)) s)
+counted-both k (f ∷ l) m s = counted-both k l m (with_area (area k f) s)
 
 -- ---- the dart from u to v
 low : (o l h : Bool) → l ≡ false → (o && l && h) ≡ false
@@ -74,12 +55,12 @@ module _ (p : Plan) (k : Chart) (u v : ℕ) (s : Areas) where
     pub no_face : {f : Bool} → f ≡ inner_face p u v w → f ≡ false → s ≡ with_faces k (faces_on p u v) s
     no_face e h = none (rw (sym (face_there e) ∙ h))
 
-    pub one_face : {f : Bool} → f ≡ inner_face p u v w → f ≡ true → u < v → u < w → {a : ℕ} → a ≡ natural (area k (u ∷ v ∷ w ∷ [])) → with_area a s ≡ with_faces k (faces_on p u v) s
+    pub one_face : {f : Bool} → f ≡ inner_face p u v w → f ≡ true → u < v → u < w → {a : ℤ} → a ≡ area k (u ∷ v ∷ w ∷ []) → with_area a s ≡ with_faces k (faces_on p u v) s
     unfolding faces_on with_faces walk
     one_face e h l m q =
         let i : on_inner_face p (u, v) ≡ true = sym (face_there e) ∙ h in
         let t : ltb u (step p (u, v)).1 ≡ true = lt-ltb u (step p (u, v)).1 (omega arith) in
-        ap (λ (x : ℕ). with_area x s) (q ∙ ap (λ (x : ℕ). natural (area k (u ∷ v ∷ x ∷ []))) third) ∙ sym (rw (i, lt-ltb u v l, t))
+        ap (λ (x : ℤ). with_area x s) (q ∙ ap (λ (x : ℕ). area k (u ∷ v ∷ x ∷ [])) third) ∙ sym (rw (i, lt-ltb u v l, t))
 
 -- ---- what `fold` gives of the numbers from 0 up to e, where the closure is a step that leaves what it captures as it is
 folds_range : {F C : Type 0} {g : Mut F (C × (ℕ × Unit {0})) C} (h : C → ℕ → C) (e : ℕ) {f : F} {init r : C}

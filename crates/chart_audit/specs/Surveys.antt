@@ -1,32 +1,33 @@
--- The doubled areas of the inner faces of a chart, counted one after another in words of 64 bits.
-use Rattle.std.specs.Prelude.{ℕ, ◌+◌, ◌%◌, ◌^◌, min, cond, ◌&&◌, List, [], ◌∷◌, ℤ, pos, negsuc, nat_lt, Some, None, unwrap_or}
+-- The doubled areas of the inner faces of a chart, counted one after another in words of 64 bits; and what sweep is to answer.
+use Rattle.std.specs.Prelude.{ℕ, ◌+◌, ◌%◌, ◌^◌, cond, ◌&&◌, List, [], ◌∷◌, ℤ, pos, nat_lt, Some, None, unwrap_or}
+use Rattle.std.specs.Int.{w64, int_min, int_wrapping_add}
+use Rattle.model.specs.Outcome.{Outcome, ◌>>=◌}
 use Rattle.model.specs.Plan.{Plan, Face, step, walk, on_inner_face, faces}
 use Rattle.model.specs.Chart.{Chart}
-use Rattle.model.specs.Geometry.{area}
+use Rattle.model.specs.Geometry.{positive, area}
+use Rattle.model.specs.Sweep.{sweep}
+use Rattle.model.specs.Calls.{require_plan}
+use Rattle.sheet.specs.declared.Sheet.{Sheet}
+use Rattle.sheet.specs.Sheets.{reads}
 use Rattle.chart_audit.specs.declared.Areas.{Areas}
-
--- a number, or 0 where it is negative
-unfoldable pub natural : ℤ → ℕ
-natural (pos k) = k
-natural (negsuc k) = 0
 
 -- no face
 unfoldable pub no_area : Areas
-no_area = record { faces = 0; positive = 0; least = None; sum = 0 }
+no_area = record { faces = 0; positive = 0; least = None; sum = pos 0 }
 
--- one more face, of this area
-unfoldable pub with_area : ℕ → Areas → Areas
+-- one more face, of this signed area
+unfoldable pub with_area : ℤ → Areas → Areas
 with_area a s = record {
   faces = (s.faces + 1) % 2 ^ 64;
-  positive = (s.positive + min a 1) % 2 ^ 64;
-  least = Some (min (unwrap_or s.least a) a);
-  sum = (s.sum + a) % 2 ^ 64;
+  positive = (s.positive + cond (positive a) 1 0) % 2 ^ 64;
+  least = Some (int_min (unwrap_or s.least a) a);
+  sum = int_wrapping_add w64 s.sum a;
 }
 
 -- more faces of a chart, one after another
 unfoldable pub with_faces : Chart → List Face → Areas → Areas
 with_faces k [] s = s
-with_faces k (f ∷ fs) s = with_faces k fs (with_area (natural (area k f)) s)
+with_faces k (f ∷ fs) s = with_faces k fs (with_area (area k f) s)
 
 -- the inner face whose walk begins with the dart from a to v, where a is its lowest context
 unfoldable pub faces_on : Plan → ℕ → ℕ → List Face
@@ -35,3 +36,7 @@ faces_on p a v = cond (on_inner_face p (a, v) && nat_lt a v && nat_lt a (step p 
 -- All inner faces of a plan and its chart
 unfoldable pub surveyed : Plan → Chart → Areas
 surveyed p k = with_faces k (faces p) no_area
+
+-- The labels that sweep is to give a sheet, or the refusal that is due
+unfoldable pub swept_due : Sheet → Outcome (List ℕ)
+swept_due s = require_plan (reads s) >>= sweep

@@ -1,27 +1,30 @@
-// What a look at a sheet's plan and chart finds without the engine's calls: the areas of the inner faces, and whether three contexts enclose others.
+// What a look at a sheet's plan and chart finds without the engine's calls: the areas of the inner faces, whether three contexts enclose others, and the labels of the sweep by its definition.
 #![tactic(auto)]
 
-ghost use Rattle.std.specs.Prelude.{◌≡◌, [], ◌∷◌};
+ghost use Rattle.std.specs.Prelude.{◌≡◌};
+ghost use Rattle.lists.specs.Spans.{zero_padded};
+ghost use Rattle.model.specs.Outcome.{mapped};
 ghost use Rattle.model.specs.Plan.{faces_from};
 ghost use Rattle.model.specs.Scan.{enclosing};
-ghost use Rattle.model.specs.Geometry.{area};
 ghost use Rattle.rings.specs.Tables.{plan_of};
 ghost use Rattle.chart_areas.specs.Corners.{points_only};
+ghost use Rattle.refusal.specs.Refusals.{outcome_of};
 ghost use Rattle.sheet.specs.Sheets.{held_plan};
-ghost use Rattle.chart_audit.specs.Surveys.{natural, with_area, with_faces, faces_on, surveyed};
+ghost use Rattle.chart_audit.specs.Surveys.{with_area, with_faces, faces_on, surveyed, swept_due};
 
 use chart_points::Points;
 use faces::FaceSteps;
+use refusal::Refusal;
 use rings::Rings;
-use sheet::Sheet;
+use sheet::{Sheet, Stage};
 
-// The inner faces of a chart: how many there are, how many of them are positive, the least of their doubled areas, if there is one, and the sum, where a negative one counts as 0.
+// The inner faces of a chart: how many there are, how many of them are positive, the least of their doubled areas, if there is one, and the sum, each with its sign.
 #[derive(Clone, Copy)]
 pub struct Areas {
     pub faces: usize,
     pub positive: usize,
-    pub least: Option<usize>,
-    pub sum: usize,
+    pub least: Option<i64>,
+    pub sum: i64,
 }
 
 // A plan's rings, and where the contexts stand.
@@ -53,23 +56,15 @@ pub fn encloses(sheet: &Sheet, a: usize, b: usize, c: usize) -> bool
     rings_enclose(&plan.rings(&starts), a, b, c)
 }
 
-// A number, or 0 where it is negative.
-#[tactic(auto, using(crate::proofs::Counts::natural_from))]
-fn natural(area: i64) -> usize
-    ensures { result ≡ natural area }
-{
-    usize::try_from(area).unwrap_or(0)
-}
-
 impl Areas {
     // The areas with one more face.
     #[tactic(auto, unfolding(crate::specs::Surveys::with_area))]
-    fn with(self, area: usize) -> Areas
+    fn with(self, area: i64) -> Areas
         ensures { result ≡ with_area area self }
     {
         Areas {
             faces: self.faces.wrapping_add(1),
-            positive: self.positive.wrapping_add(area.min(1)),
+            positive: self.positive.wrapping_add(usize::from(area > 0)),
             least: Some(self.least.unwrap_or(area).min(area)),
             sum: self.sum.wrapping_add(area),
         }
@@ -77,13 +72,6 @@ impl Areas {
 }
 
 impl<'a> PlacedPlan<'a> {
-    // The doubled area of the triangle u, v, w; 0 where it is negative.
-    fn area_at(&self, u: usize, v: usize, w: usize) -> usize
-        ensures { result ≡ natural (area (points_only self.now.points.xs.now self.now.points.ys.now) (u ∷ v ∷ w ∷ [])) }
-    {
-        natural(chart_areas::area_of(&self.points, u, v, w))
-    }
-
     // The areas with the inner face whose walk begins with the dart from u to v, where u is its lowest context.
     #[tactic(auto, using(crate::proofs::Counts::dart))]
     fn with_dart(&self, areas: Areas, u: usize, v: usize) -> Areas
@@ -97,7 +85,7 @@ impl<'a> PlacedPlan<'a> {
             return areas;
         }
         if faces::is_face(&self.rings, u, v, w) {
-            return areas.with(self.area_at(u, v, w));
+            return areas.with(chart_areas::area_of(&self.points, u, v, w));
         }
         areas
     }
@@ -110,6 +98,7 @@ impl<'a> PlacedPlan<'a> {
             self.with_dart(all, u, self.rings.neighbour_at(u, i))
         })
     }
+
     // The areas of all inner faces.
     fn areas(&self) -> Areas
         ensures { result ≡ surveyed (plan_of self.now.rings) (points_only self.now.points.xs.now self.now.points.ys.now) }
@@ -136,4 +125,13 @@ pub fn areas_of(sheet: &Sheet) -> Areas
         points: sheet::points_of(sheet),
     };
     drawn.areas()
+}
+
+// The labels that sweep is to give a sheet, found by the definition of the sweep, with zeros after them; or the refusal that is due.
+#[tactic(auto, using(crate::proofs::Sweeps::steps), unfolding(sheet::specs::Sheets::rank, sheet::specs::Answers::answer_of))]
+pub fn swept_due(sheet: &Sheet) -> Result<[u8; 1186], Refusal>
+    ensures { outcome_of result ≡ mapped (zero_padded 1186) (swept_due sheet.now) }
+{
+    let fitting = sheet::require_fitting(sheet, Stage::Open)?;
+    sweep::sweep_by_definition(&fitting.fit())
 }

@@ -4,8 +4,9 @@
 //
 //    opened   a file without a chart is not drawn yet: its width and height are 0, and same is refused 13 at 0
 //    scan     the three contexts that enclose others, if there are any, are neighbours of each other and no face
-//    drawn    sweep, then chart: CHARTED where it is drawn; LABELLED where it cannot be drawn, 11; OPEN where there are no labels, 13
-//    areas    every inner face of the chart has a positive doubled area, and they sum to 2wh
+//    drawn    sweep, then chart: CHARTED where it is drawn; LABELLED where it cannot be drawn, 11; OPEN where there are no labels, 13.
+//             The labels of sweep, or its refusal, are those that its definition, gone through step by step, gives
+//    areas    every inner face of the chart has a positive doubled area, and with their signs they sum to 2wh
 //    turned   the first edge that turns alone, 0 clockwise or 1 counterclockwise: it is not drawn yet, nothing of the chart stands
 //    afresh   drawn again it is the chart of the new labels: the same as when they are offered to the sheet that was opened
 //    written  and the two are written as the same file, byte for byte
@@ -95,6 +96,7 @@ fn check_chart(tally: Tally, sheet: &Sheet) -> Tally {
     let before = swept.unwrap_or(*sheet);
     let charted = sheet_updates::chart(before);
     let drawn = DrawnSheet {
+        opened: sheet,
         swept: &swept,
         before: &before,
         charted: &charted,

@@ -1,6 +1,8 @@
 -- The checks of each line of the checklist, counted.
-use Rattle.std.specs.Prelude.{◌*◌, Bool, true, false, cond, Option, Some, None, Ok, Err}
+use Rattle.std.specs.Prelude.{◌*◌, pos, Bool, true, false, cond, ◌&&◌, Option, Some, None, Ok, Err}
 use Rattle.std.specs.declared.result.Result.{Result}
+use Rattle.lists.specs.Spans.{zero_padded}
+use Rattle.model.specs.Outcome.{mapped}
 use Rattle.model.specs.Scan.{Triple}
 use Rattle.refusal.specs.declared.Refusal.{Refusal}
 use Rattle.refusal.specs.Refusals.{number_of, place_of}
@@ -9,9 +11,9 @@ use Rattle.sheet.specs.declared.Stage as stage
 use Rattle.sheet.specs.declared.Stage.TheVariants as Stage
 use Rattle.sheet.specs.Sheets.{held_plan, stage_read}
 use Rattle.chart_areas.specs.Corners.{points_only}
-use Rattle.chart_audit.specs.Surveys.{surveyed}
+use Rattle.chart_audit.specs.Surveys.{surveyed, swept_due}
 use Rattle.checklist_rules.specs.declared.Tally.{Tally}
-use Rattle.checklist_rules.specs.Audit.{tallied, undrawn, triple, chart_due, answered_as_due, fills_rectangle, afresh}
+use Rattle.checklist_rules.specs.Audit.{tallied, undrawn, triple, swept_as, chart_due, answered_as_due, fills_rectangle, afresh}
 use Rattle.checklist_lines.specs.declared.Shown.{Shown}
 use Rattle.checklist_lines.specs.declared.DrawnSheet.{DrawnSheet}
 use Rattle.checklist_lines.specs.declared.Turned.{Turned}
@@ -46,13 +48,13 @@ left_of (Err r) before = before
 abbrev pub left_by : DrawnSheet → Sheet
 left_by d = left_of d.charted.now d.before.now
 
--- drawn: chart has answered what is due
+-- drawn: sweep and chart have answered what is due
 abbrev pub drawn_tally : Tally → DrawnSheet → Tally
-drawn_tally t d = tallied t (answered_as_due d.charted.now (chart_due (left_by d)))
+drawn_tally t d = tallied t (swept_as d.swept.now (mapped (zero_padded 1186) (swept_due d.opened.now)) && answered_as_due d.charted.now (chart_due (left_by d)))
 
 -- areas: those of a sheet's chart
 abbrev pub areas_tally : Tally → Sheet → Tally
-areas_tally t s = tallied t (fills_rectangle (surveyed (held_plan s) (points_only s.xs s.ys)) (2 * s.w * s.h))
+areas_tally t s = tallied t (fills_rectangle (surveyed (held_plan s) (points_only s.xs s.ys)) (pos (2 * s.w * s.h)))
 
 -- a chart: drawn, and areas where the sheet is CHARTED
 abbrev pub chart_tally : Tally → DrawnSheet → Tally

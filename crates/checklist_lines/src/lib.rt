@@ -28,9 +28,10 @@ pub struct Compared<'a> {
     pub same: Result<bool, Refusal>,
 }
 
-// A sheet swept and charted, and what is seen of it: what sweep answers, the sheet before chart, and what chart answers.
+// A sheet swept and charted, and what is seen of it: the sheet that was opened, what sweep answers of it, the sheet before chart, and what chart answers.
 #[derive(Clone, Copy)]
 pub struct DrawnSheet<'a> {
+    pub opened: &'a Sheet,
     pub swept: &'a Result<Sheet, Refusal>,
     pub before: &'a Sheet,
     pub charted: &'a Result<Sheet, Refusal>,
@@ -189,12 +190,12 @@ fn show_left(left: &Sheet) {
     console::print(format_args!("  drawn: {stage} {}x{}, {meaning}", left.w, left.h));
 }
 
-// The check of the areas: every inner face is positive, and they sum to the rectangle. As the least of no faces it writes 2 to the 32, which no area reaches: a coordinate of a chart is at most 200.
+// The check of the areas: every inner face is positive, and with their signs they sum to the rectangle. As the least of no faces it writes 2 to the 32, which no area reaches: a coordinate of a chart is at most 200.
 fn check_areas(tally: Tally, sheet: &Sheet) -> Tally
     ensures { result ≡ areas_tally tally sheet.now }
 {
     let areas = chart_audit::areas_of(sheet);
-    let whole = 2 * usize::from(sheet.w) * usize::from(sheet.h);
+    let whole = 2 * i64::from(sheet.w) * i64::from(sheet.h);
     console::print(format_args!(
         "  areas: faces {}, positive {}, least {}, sum {}, 2wh {whole}",
         areas.faces,
@@ -216,7 +217,7 @@ impl<'a> DrawnSheet<'a> {
         }
     }
 
-    // The check of sweep and chart.
+    // The check of sweep and chart. Where sweep has not answered what is due, it writes that too.
     fn check(&self, tally: Tally) -> Tally
         ensures { result ≡ drawn_tally tally self.now }
     {
@@ -226,7 +227,15 @@ impl<'a> DrawnSheet<'a> {
             answer_of(self.swept),
             answer_of(self.charted),
         ));
-        judge(tally, checklist_rules::is_due(self.charted, self.left()))
+        let due = chart_audit::swept_due(self.opened);
+        let is_swept = checklist_rules::is_swept(self.swept, &due);
+        if !is_swept {
+            console::print(format_args!(", sweep due {}", answer_of(&due)));
+        }
+        judge(
+            tally,
+            is_swept && checklist_rules::is_due(self.charted, self.left()),
+        )
     }
 }
 

@@ -1,6 +1,8 @@
 -- What is right in the checklist, and how checks are counted.
-use Rattle.std.specs.Prelude.{ℕ, ◌+◌, ◌%◌, ◌^◌, Bool, true, false, cond, ◌&&◌, ◌==◌, Option, Some, None, Ok, Err}
+use Rattle.std.specs.Prelude.{ℕ, ◌+◌, ◌%◌, ◌^◌, ℤ, List, Bool, true, false, cond, ◌&&◌, ◌==◌, Option, Some, None, Ok, Err}
+use Rattle.std.specs.Ordering.{int_eq}
 use Rattle.std.specs.declared.result.Result.{Result}
+use Rattle.model.specs.Outcome.{Outcome, accepted, refused}
 use Rattle.model.specs.Scan.{Triple, enclosing}
 use Rattle.refusal.specs.declared.Refusal.{Refusal}
 use Rattle.refusal.specs.Refusals.{number_of, place_of}
@@ -32,6 +34,20 @@ triple s (Ok (Some x)) = enclosing (held_plan s) x
 triple s (Ok None) = true
 triple s (Err r) = false
 
+-- the stage is LABELLED
+abbrev pub is_labelled : stage.Stage → Bool
+is_labelled Stage.Empty = false
+is_labelled Stage.Open = false
+is_labelled Stage.Labelled = true
+is_labelled Stage.Charted = false
+
+-- sweep has answered what is due: it leaves these labels on a sheet that is LABELLED, or is refused by that number at that place
+abbrev pub swept_as : Result Sheet Refusal → Outcome (List ℕ) → Bool
+swept_as (Ok s) (accepted ls) = is_labelled (stage_read s) && agreeing s.labels ls 1186 == 1186
+swept_as (Ok s) (refused k at) = false
+swept_as (Err r) (accepted ls) = false
+swept_as (Err r) (refused k at) = number_of r == k && place_of r == at
+
 -- how chart must have been refused where it leaves a stage, if at all
 abbrev pub due_at : stage.Stage → Option Refusal
 due_at Stage.Empty = Some Refusal.TooEarly
@@ -51,8 +67,8 @@ answered_as_due (Err r) None = false
 answered_as_due (Err r) (Some q) = number_of r == number_of q && place_of r == place_of q
 
 -- all inner faces are positive, and they sum to the doubled area of the rectangle
-abbrev pub fills_rectangle : Areas → ℕ → Bool
-fills_rectangle a whole = a.positive == a.faces && a.sum == whole
+abbrev pub fills_rectangle : Areas → ℤ → Bool
+fills_rectangle a whole = a.positive == a.faces && int_eq a.sum whole
 
 -- afresh: same says yes
 abbrev pub afresh : Result Bool Refusal → Bool

@@ -2,8 +2,9 @@
 #![tactic(auto)]
 
 ghost use Rattle.std.specs.Prelude.{◌≡◌};
+ghost use Rattle.refusal.specs.Refusals.{outcome_of};
 ghost use Rattle.comparison.specs.Bytes as bytes;
-ghost use Rattle.checklist_rules.specs.Audit.{tallied, is_early, undrawn, triple, chart_due, answered_as_due, fills_rectangle, afresh, file_length, same_files};
+ghost use Rattle.checklist_rules.specs.Audit.{tallied, is_early, undrawn, triple, swept_as, chart_due, answered_as_due, fills_rectangle, afresh, file_length, same_files};
 
 use chart_audit::Areas;
 use refusal::Refusal;
@@ -60,6 +61,22 @@ pub fn is_triple(sheet: &Sheet, scan: Result<Option<(usize, usize, usize)>, Refu
     }
 }
 
+// Has sweep answered what is due: these labels, on a sheet that is LABELLED, or this refusal?
+pub fn is_swept(swept: &Result<Sheet, Refusal>, due: &Result<[u8; 1186], Refusal>) -> bool
+    ensures { result ≡ swept_as swept.now (outcome_of due.now) }
+{
+    match (swept, due) {
+        (Ok(sheet), Ok(labels)) => {
+            sheet::stage_of(sheet) == Stage::Labelled
+                && comparison::agreeing(&sheet.labels, labels, 1186) == 1186
+        }
+        (Err(came), Err(refusal)) => {
+            came.number() == refusal.number() && came.place() == refusal.place()
+        }
+        _ => false,
+    }
+}
+
 // Has chart answered what is due where it leaves this sheet?
 pub fn is_due(charted: &Result<Sheet, Refusal>, left: &Sheet) -> bool
     ensures { result ≡ answered_as_due charted.now (chart_due left.now) }
@@ -71,8 +88,8 @@ pub fn is_due(charted: &Result<Sheet, Refusal>, left: &Sheet) -> bool
     }
 }
 
-// Are all inner faces positive, and do their areas sum to the whole?
-pub fn is_filled(areas: &Areas, whole: usize) -> bool
+// Are all inner faces positive, and do their signed areas sum to the whole?
+pub fn is_filled(areas: &Areas, whole: i64) -> bool
     ensures { result ≡ fills_rectangle areas.now whole }
 {
     areas.positive == areas.faces && areas.sum == whole

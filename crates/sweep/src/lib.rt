@@ -91,3 +91,10 @@ pub fn sweep_ruled(ruled: &RuledFit) -> Result<[u8; 1186], Refusal>
 {
     tested(&ruled.fit, true)
 }
+
+// The same labels found by the definition of the sweep alone, whatever rules the plan keeps: by them what the calls give is told right or wrong.
+pub fn sweep_by_definition(fit: &Fit) -> Result<[u8; 1186], Refusal>
+    ensures { outcome_of result ≡ mapped (zero_padded 1186) (sweep (table_of fit.now.plan)) }
+{
+    tested(fit, false)
+}
