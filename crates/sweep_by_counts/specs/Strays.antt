@@ -12,7 +12,7 @@ stray marks l r w = not (eqb (get_or marks w 0) 0) && (not (eqb w l) && not (eqb
 unfoldable pub lists_stray : Plan → List ℕ → ℕ → ℕ → ℕ → Bool
 lists_stray p marks u l r = list_any (stray marks l r) (ring p u)
 
--- so has the ring of the context at k of a line, for the contexts beside it
+-- so has the ring of the context at k of a frontier, for the contexts beside it
 unfoldable pub chord_at : Plan → List ℕ → List ℕ → ℕ → Bool
 chord_at p marks f k = lists_stray p marks (get_or f k 0) (get_or f (k - 1) 0) (get_or f (suc k) 0)
 

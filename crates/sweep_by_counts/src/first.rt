@@ -22,14 +22,14 @@ fn lists_stray(rings: &Rings, marks: &[u8], u: usize, l: usize, r: usize) -> boo
     })
 }
 
-// The context after position k of a line.
+// The context after position k of a frontier.
 fn after(line: &Frontier, k: usize) -> usize
     ensures { result ≡ get_or line.now.at (suc k) 0 }
 {
     arrays::number_at(&line.at, k.saturating_add(1))
 }
 
-// Does the context at k of a line, whose contexts and no others are marked, list one that is not beside it?
+// Does the context at k of a frontier, whose contexts and no others are marked, list one that is not beside it?
 #[tactic(auto, unfolding(crate::specs::Strays::chord_at))]
 fn is_chord_end(rings: &Rings, line: &Frontier, k: usize) -> bool
     ensures { result ≡ chord_at (plan_of rings.now) line.now.marks line.now.at k }
@@ -39,7 +39,7 @@ fn is_chord_end(rings: &Rings, line: &Frontier, k: usize) -> bool
     lists_stray(rings, &line.marks, u, l, after(line, k))
 }
 
-// Has a line a chord, whose contexts and no others are marked?
+// Has a frontier a chord, whose contexts and no others are marked?
 fn is_chorded(rings: &Rings, line: &Frontier) -> bool
     ensures { result ≡ chorded (plan_of rings.now) line.now.marks line.now.at line.now.len }
 {

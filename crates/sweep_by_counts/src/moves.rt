@@ -47,7 +47,7 @@ fn mark_all(marks: &mut [u8; 256], contexts: &[u16])
     }
 }
 
-// Puts a list in place of positions a to j - 1 of a line of m contexts, with zeros behind the line: how many it then has.
+// Puts a list in place of positions a to j - 1 of a frontier of m contexts, with zeros behind the frontier: how many it then has.
 #[tactic(auto, using(crate::proofs::Splices::spliced_longer, crate::proofs::Splices::spliced_shorter))]
 fn splice(at: &mut [u16; 512], m: usize, a: usize, j: usize, list: &[u16]) -> usize
     requires order { a ≤ j }

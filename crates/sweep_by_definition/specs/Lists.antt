@@ -7,7 +7,7 @@ use Rattle.model.specs.Plan.{Plan}
 use Rattle.model.specs.Sweep.{below}
 use Rattle.sweep_frontier.specs.Frontiers.{Frontier, frontier_of, pushed}
 
--- the line, failed
+-- the frontier, failed
 unfoldable pub failed : Frontier → Frontier
 failed v = frontier_of false v.len v.at v.marks
 
@@ -19,7 +19,7 @@ last_is at len c = cond (eqb len 0) false (eqb c (get_or at (len - 1) 0))
 unfoldable pub excluded : List ℕ → ℕ → Bool
 excluded marks c = cond (ltb c 4) true (not (eqb (get_or marks c 0) 0))
 
--- the line with c marked
+-- the frontier with c marked
 unfoldable pub with_mark : Frontier → ℕ → Frontier
 with_mark v c = frontier_of v.ok v.len v.at (set v.marks c 1)
 
@@ -35,6 +35,6 @@ below_added p f k v = cond v.ok (cond (is_empty (below p f k)) (failed v) (fold 
 unfoldable pub listing : Plan → List ℕ → ℕ → ℕ → Frontier → Frontier
 listing p f a j v = through (below_added p f) a j v
 
--- the line with, at its end, the frontier f of m contexts with the list l of q in place of positions a to j − 1
+-- the new frontier with, at its end, the frontier f of m contexts with the list l of q in place of positions a to j − 1
 unfoldable pub frontier_replaced : Frontier → List ℕ → ℕ → ℕ → ℕ → List ℕ → ℕ → Frontier
 frontier_replaced v f m a j l q = fold pushed v (span f 0 a ++ span l 0 q ++ span f j m)

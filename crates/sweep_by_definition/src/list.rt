@@ -24,7 +24,7 @@ fn is_excluded(marks: &[u8], c: u16) -> bool
     c < 4 || arrays::number_at(marks, usize::from(c)) != 0
 }
 
-// Puts c at the end of a line, which may have failed: how many contexts it then has. It fails where it is full.
+// Puts c at the end of a frontier, which may have failed: how many contexts it then has. It fails where it is full.
 #[tactic(auto, using(crate::proofs::Moves::grown_off))]
 fn grow(at: &mut [u16], line: Result<usize, usize>, c: u16) -> Result<usize, usize>
     ensures { (marks : List ℕ) → lent_frontier result at.new marks ≡ pushed (lent_frontier line at.old marks) c }
@@ -92,7 +92,7 @@ pub(crate) fn listed(
     Ok(len)
 }
 
-// Puts these positions of f at the end of a line, which may have failed: how many contexts it then has. It fails where it is full.
+// Puts these positions of f at the end of a frontier, which may have failed: how many contexts it then has. It fails where it is full.
 fn append(
     at: &mut [u16],
     line: Result<usize, usize>,
@@ -108,7 +108,7 @@ fn append(
     grown
 }
 
-// Puts the frontier of m contexts, with a list of q in place of positions a to j - 1, in the front of a lent array: how many contexts it has. It fails where the line has no room for it; the error is how many contexts the line has then.
+// Puts the frontier of m contexts, with a list of q in place of positions a to j - 1, in the front of a lent array: how many contexts it has. It fails where the new one has no room for it; the error is how many contexts the frontier has then.
 pub(crate) fn replaced(
     at: &mut [u16],
     f: &[u16],

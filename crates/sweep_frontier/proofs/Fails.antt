@@ -1,4 +1,4 @@
--- Lines that fail: what is put on a line that failed leaves it so; and what the code comes to, which stops where something fails.
+-- Frontiers that fail: what is put on a frontier that failed leaves it so; and what the code comes to, which stops where something fails.
 use Prim.Native.Nat.{ℕ, zero, suc, ◌+◌, ◌-◌}
 use mathlib.Core.Path.{◌≡◌, refl, ap, sym, ◌∙◌}
 use mathlib.Core.List.{List}
@@ -11,7 +11,7 @@ use Rattle.lists.proofs.Folds.{FoldsUp, FoldsDown, folds_down_on}
 use Rattle.sweep_frontier.specs.declared.Frontier as held
 use Rattle.sweep_frontier.specs.Frontiers.{Frontier, frontier_of, whole, tried, unless_failed, pushed}
 
--- ---- a line that failed stays failed
+-- ---- a frontier that failed stays failed
 -- when a context is put at its end
 pub pushed-off : (v : Frontier) (c : ℕ) → v.ok ≡ false → (pushed v c).ok ≡ false
 unfolding pushed
@@ -33,7 +33,7 @@ module _ (step : ℕ → Frontier → Frontier) (stays : (i : ℕ) (v : Frontier
   sinks-failed {n} {k} {k'} {v} {w} inv z f = ap (λ (u : Frontier). u.ok) (folds_down_on inv z refl).same ∙ down-failed k' (step k' w) f
 
 module _ (step : ℕ → Frontier → Frontier) (keeps : (i : ℕ) (v : Frontier) → v.ok ≡ false → step i v ≡ v) where
-  -- a line that failed is kept where something is done at each of several numbers that leaves it as it is
+  -- a frontier that failed is kept where something is done at each of several numbers that leaves it as it is
   pub each-kept : (a k : ℕ) (v : Frontier) → v.ok ≡ false → each step a k v ≡ v
   unfolding each
   each-kept a zero v e = refl
@@ -54,7 +54,7 @@ module _ {r : Option ℕ} {at marks : List ℕ} {w : Frontier} where
   tried_no len e q = ap (λ (u : Frontier). u.ok) (sym e) ∙ ap is_some q
 
 -- ---- what the code keeps
--- a line that did not fail is kept
+-- a frontier that did not fail is kept
 pub unless_failed_yes : {v : held.Frontier} {w : Frontier} → whole v ≡ w → Some v ≡ unless_failed w
 unfolding unless_failed
 unless_failed_yes e = ap unless_failed e
@@ -66,11 +66,11 @@ unless_failed_no w q e = q ∙ sym (ap (λ (b : Bool). cond b (Some (record { le
 
 -- what it is of what is kept
 module _ (w : Frontier) where
-  -- the line for the code, where it did not fail
+  -- the frontier for the code, where it did not fail
   abbrev parts : held.Frontier
   parts = record { len = w.len; at = w.at; marks = w.marks }
 
-  -- a line that is kept did not fail
+  -- a frontier that is kept did not fail
   pub unless_failed_is : {v : held.Frontier} → unless_failed w ≡ Some v → w ≡ whole v
   unfolding unless_failed
   unless_failed_is {v} e = go w.ok refl e

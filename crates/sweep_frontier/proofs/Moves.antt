@@ -1,4 +1,4 @@
--- What the code of the frontier computes, step by step: rings read onward, lines that grow.
+-- What the code of the frontier computes, step by step: rings read onward, frontiers that grow.
 use Prim.Native.Nat.{ℕ, zero, suc, ◌+◌, ◌-◌, ◌≤◌, ◌<◌, min}
 use mathlib.Core.Path.{◌≡◌, refl, ap, sym, ◌∙◌}
 use mathlib.Core.List.{List, [], ◌∷◌, ◌++◌}

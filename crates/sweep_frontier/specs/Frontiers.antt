@@ -9,44 +9,44 @@ use Rattle.rings.specs.Tables.{plan_of}
 use Rattle.sweep_frontier.specs.declared.below.Below.{Below}
 use Rattle.sweep_frontier.specs.declared.Frontier as held
 
--- ---- lines
--- a line, which is not ok where it failed: its contexts, and a mark for each context that is or was on the frontier
+-- ---- frontiers
+-- a frontier, which is not ok where it failed: its contexts, and a mark for each context that is or was on the frontier
 pub record Frontier : Type 0 where
   pub ok : Bool
   pub len : ℕ
   pub at : List ℕ
   pub marks : List ℕ
 
--- a line of these parts
+-- a frontier of these parts
 abbrev pub frontier_of : Bool → ℕ → List ℕ → List ℕ → Frontier
 frontier_of ok len at marks = record { ok = ok; len = len; at = at; marks = marks }
 
--- a line of the code, which has not failed
+-- a frontier of the code, which has not failed
 abbrev pub whole : held.Frontier → Frontier
 whole v = frontier_of true v.len v.at v.marks
 
--- a line of len contexts on lent arrays after something was tried that may fail: it has as many as is told then, and len where it failed
+-- a frontier of len contexts on lent arrays after something was tried that may fail: it has as many as is told then, and len where it failed
 abbrev pub tried : Option ℕ → ℕ → List ℕ → List ℕ → Frontier
 tried r len at marks = frontier_of (is_some r) (unwrap_or r len) at marks
 
--- a line for the code; none where it failed
+-- a frontier for the code; none where it failed
 unfoldable pub unless_failed : Frontier → Option held.Frontier
 unless_failed v = cond v.ok (Some (record { len = v.len; at = v.at; marks = v.marks })) None
 
--- how many contexts a line has of which this is told, whether it failed or not
+-- how many contexts a frontier has of which this is told, whether it failed or not
 abbrev pub len_of : Result ℕ ℕ → ℕ
 len_of (Ok len) = len
 len_of (Err len) = len
 
--- the line on lent arrays of which this is told: one of so many contexts where it is Ok, and one of so many that failed where it is Err
+-- the frontier on lent arrays of which this is told: one of so many contexts where it is Ok, and one of so many that failed where it is Err
 abbrev pub lent_frontier : Result ℕ ℕ → List ℕ → List ℕ → Frontier
 lent_frontier r at marks = frontier_of (is_ok r) (len_of r) at marks
 
--- the line with x at its end; it fails where it is full
+-- the frontier with x at its end; it fails where it is full
 unfoldable pub pushed : Frontier → ℕ → Frontier
 pushed v x = cond (ltb v.len 512) (frontier_of v.ok (v.len + 1) (set v.at v.len x) v.marks) (frontier_of false v.len v.at v.marks)
 
--- a line with nothing on it, and these marks
+-- a frontier with nothing on it, and these marks
 unfoldable pub empty_frontier : List ℕ → Frontier
 empty_frontier marks = frontier_of true 0 (zeros 512) marks
 

@@ -1,4 +1,4 @@
-// The frontier of the sweep in flat arrays: the line that holds it, and what is below it.
+// The frontier of the sweep in flat arrays, and what is below it.
 #![tactic(auto)]
 
 ghost use Rattle.std.specs.Prelude.{◌≡◌, true, List, ℕ};
@@ -16,7 +16,7 @@ pub struct Frontier {
     pub marks: [u8; 256],
 }
 
-// Puts x at the end of a line of len contexts on a lent array: how many it then has. There is none where the 512 places are full.
+// Puts x at the end of a frontier of len contexts on a lent array: how many it then has. There is none where the 512 places are full.
 #[tactic(auto, unfolding(crate::specs::Frontiers::pushed))]
 pub fn push(at: &mut [u16], len: usize, x: u16) -> Option<usize>
     ensures { (marks : List ℕ) → run.tried result len at.new marks ≡ run.pushed (run.frontier_of true len at.old marks) x }
