@@ -1,6 +1,6 @@
--- One item of a script: which call it is, by the tests that the code makes, and what it leaves.
+-- One item of a script: which call it is, by the tests that the code makes, and what its answer leaves and tells.
 use Prim.Native.Nat.{ℕ, ◌+◌, ◌-◌, ◌≤◌, ◌<◌}
-use mathlib.Core.Path.{◌≡◌, refl, sym, ap}
+use mathlib.Core.Path.{◌≡◌, refl, sym}
 use mathlib.Core.List.{List}
 use mathlib.Core.Bool.{Bool, true, false, cond, ◌&&◌}
 use native.Mathlib.Omega.{arith}
@@ -8,30 +8,39 @@ use lib.ListN.{length, get_or, take, drop}
 use lib.Dec.{leb}
 use borrow.Author.Tests.{leb-true, le-leb, lt-leb, ne_eqb}
 use Rattle.lists.proofs.Bools.{and_yes}
-use Rattle.std.specs.Prelude.{Option, Some, None, Ok, Err}
-use Rattle.std.proofs.lemmas.Option.{none-some, same_Some}
-use Rattle.std.specs.Result.{result_unwrap_or}
+use Rattle.std.specs.Prelude.{Some, None, Ok, Err, is_ok}
+use Rattle.std.specs.Int.{from_bool}
+use Rattle.std.proofs.lemmas.Option.{none-some}
+use Rattle.std.specs.Result.{result_unwrap_or, result_and}
 use Rattle.std.specs.declared.result.Result.{Result}
 use Rattle.model.specs.Outcome.{Outcome, accepted, refused}
 use Rattle.model.specs.File as file
 use Rattle.model.specs.CallLists.{Call}
-use Rattle.model.proofs.Outcomes.{not-both, same-value}
+use Rattle.model.proofs.Outcomes.{not-both, same-value, same-refusal}
 use Rattle.refusal.specs.declared.Refusal.{Refusal}
 use Rattle.refusal.specs.Refusals.{outcome_of}
 use Rattle.sheet.specs.declared.Sheet.{Sheet}
-use Rattle.sheet.specs.Answers.{packed_as, after}
+use Rattle.sheet.specs.Answers.{packed_as, answer_of, after}
 use Rattle.script.specs.Scripts.{argument_size, call_of, call_at}
-use Rattle.script.specs.declared.Step.{Step}
-use Rattle.script.specs.Items.{stepped}
+use Rattle.script.specs.ScriptAnswers.{is_accepted}
 
--- ---- what a result leaves
--- what is there after a call that was answered so
-pub unwrapped : (s : Sheet) (r : Result Sheet Refusal) (o : Outcome file.Sheet) → outcome_of r ≡ packed_as o → result_unwrap_or r s ≡ after s o
-unfolding packed_as after
-unwrapped s (Ok t) (accepted u) e = same-value e
-unwrapped s (Ok t) (refused k at) e = not-both (sym e)
-unwrapped s (Err f) (accepted u) e = not-both e
-unwrapped s (Err f) (refused k at) e = refl
+-- ---- a result
+-- What the result of a call leaves on a sheet, how often it counts as accepted, and what it tells
+pub record Says (s : Sheet) (r : Result Sheet Refusal) (o : Outcome file.Sheet) : Type 0 where
+  pub leaves : result_unwrap_or r s ≡ after s o
+  pub counts : from_bool (is_ok r) ≡ cond (is_accepted (answer_of o)) 1 0
+  pub once : from_bool (is_ok r) ≤ 1
+  pub tells : outcome_of (result_and r (Ok tt)) ≡ answer_of o
+
+-- it says so where it tells what the model's call gives
+pub result_says : (s : Sheet) (r : Result Sheet Refusal) (o : Outcome file.Sheet) → outcome_of r ≡ packed_as o → Says s r o
+unfolding packed_as answer_of after
+result_says s (Ok t) (accepted u) e = record { leaves = same-value e; counts = refl; once = omega arith; tells = refl }
+result_says s (Ok t) (refused k at) e = not-both (sym e)
+result_says s (Err f) (accepted u) e = not-both e
+result_says s (Err f) (refused k at) e =
+    let (n, p) = same-refusal e in
+    record { leaves = refl; counts = refl; once = omega arith; tells = λ i. refused (n i) (p i) }
 
 -- ---- kinds
 module _ (a : List ℕ) where
@@ -39,13 +48,6 @@ module _ (a : List ℕ) where
   pub kind_other : (kind : ℕ) → (0 < kind → 5 < kind) → call_of kind a ≡ None
   unfolding call_of
   kind_other kind h = rw (ne_eqb kind 1 (λ e. omega arith), ne_eqb kind 2 (λ e. omega arith), ne_eqb kind 3 (λ e. omega arith), ne_eqb kind 4 (λ e. omega arith), ne_eqb kind 5 (λ e. omega arith))
-
--- ---- what an item leaves
--- its size
-pub step-size : (s : Sheet) (size : ℕ) (q : Option Call) (r : Step) → Some r ≡ stepped s size q → r.size ≡ size
-unfolding stepped
-step-size s size None r e = absurd (none-some _ (sym e))
-step-size s size (Some c) r e = ap (λ (t : Step). t.size) (same_Some _ _ e)
 
 -- ---- the item that the bytes begin with
 module _ (s : List ℕ) where
@@ -73,6 +75,3 @@ module _ (s : List ℕ) where
           let h' = leb-true 4 (length s) h in
           let l' = leb-true (argument_size s) (length s - 4) l in
           omega arith
-
--- for an item, step by step
-pub ruleset steps = (unwrapped, kind_other)

@@ -1,14 +1,12 @@
--- One item of a script on the sheet struct: the number of its kind, what its call answers, what it leaves, and how far the script has come.
+-- One item of a script on the sheet struct: the number of its kind, and what its call answers.
 use Rattle.std.specs.Prelude.{ℕ, ◌<◌, ◌≡◌, Option, Some, None}
 use Rattle.std.specs.Option.{option_map}
-use Rattle.std.specs.declared.result.Result.{Result}
 use Rattle.model.specs.Outcome.{Outcome}
 use Rattle.model.specs.CallLists.{Call, call}
-use Rattle.refusal.specs.declared.Refusal.{Refusal}
 use Rattle.refusal.specs.Refusals.{outcome_of}
 use Rattle.sheet.specs.declared.Sheet.{Sheet}
 use Rattle.sheet.specs.Sheets.{reads}
-use Rattle.sheet.specs.Answers.{packed_as, after}
+use Rattle.sheet.specs.Answers.{packed_as}
 use Rattle.script.specs.declared.Kind.{Kind}
 use Rattle.script.specs.declared.Step.{Step}
 
@@ -25,14 +23,10 @@ abbrev pub IsKind : ℕ → Option Kind → Type 0
 IsKind k (Some g) = k ≡ item_number g
 IsKind k None = 0 < k → 5 < k
 
--- what was answered, if there was a call
-abbrev pub ran : Option (Result Sheet Refusal) → Option (Outcome Sheet)
-ran o = option_map (λ (r : Result Sheet Refusal). outcome_of r) o
-
 -- what an item's call answers on the sheet that a struct holds; nothing where the item is malformed
 unfoldable pub item_answer : Sheet → Option Call → Option (Outcome Sheet)
 item_answer s o = option_map (λ (c : Call). packed_as (call (reads s) c)) o
 
--- what an item of a size leaves: the struct after its call, accepted or refused; nothing where the item is malformed
-unfoldable pub stepped : Sheet → ℕ → Option Call → Option Step
-stepped s size o = option_map (λ (c : Call). record { sheet = after s (call (reads s) c); size = size }) o
+-- what was answered by an item that was run
+abbrev pub step_ran : Option Step → Option (Outcome Sheet)
+step_ran o = option_map (λ (t : Step). outcome_of t.answer) o

@@ -1,3 +1,4 @@
 pub mod Scripts
 pub mod Written
+pub mod ScriptAnswers
 pub mod Items

@@ -9,20 +9,25 @@
 // An item is malformed where fewer than 4 bytes are left, where its argument reaches past the end, and where its kind is none of these or its argument not one of its kind. A script ends at its first malformed item, or else at its end. A call that is refused is run like any other: the script goes on.
 #![tactic(auto)]
 
-ghost use Rattle.std.specs.Prelude.{◌≡◌, ◌+◌, ◌*◌};
-ghost use Rattle.guarantee.specs.Engine.{fresh_sheet, sheet_after};
+ghost use Rattle.std.specs.Prelude.{◌≡◌, ◌+◌, ◌*◌, IfSome, None};
+ghost use Rattle.std.specs.List.{last_or};
+ghost use Rattle.lists.specs.Tests.{tally};
+ghost use Rattle.guarantee.specs.Engine.{fresh_sheet, sheet_after, answers_of};
 ghost use Rattle.guarantee.specs.Guarantee.{Guarantee};
 ghost use Rattle.script.specs.Scripts.{argument_size, turn_item, call_of, call_at, calls_of, end_of};
-ghost use Rattle.script.specs.Items.{item_number, IsKind, ran, item_answer, stepped};
+ghost use Rattle.script.specs.ScriptAnswers.{ran, is_accepted};
+ghost use Rattle.script.specs.Items.{item_number, IsKind, item_answer, step_ran};
 
 use refusal::Refusal;
 use sheet::Sheet;
 
-// What a script leaves: the sheet, and where the script ended: its length, or the offset of its first malformed item.
+// What a script leaves: the sheet; where the script ended: its length, or the offset of its first malformed item; how many of its calls were accepted; and what the last call answered, if there was one.
 #[derive(Drop)]
 pub struct Ran {
     pub sheet: Sheet,
     pub at: usize,
+    pub accepted: usize,
+    pub last: Option<Result<(), Refusal>>,
 }
 
 // The kinds of calls.
@@ -35,10 +40,10 @@ enum Kind {
     Chart,
 }
 
-// What one item leaves: the sheet after its call, accepted or refused, and the item's size.
+// One item that was run: what its call answered, and the item's size.
 #[derive(Clone, Copy)]
 struct Step {
-    sheet: Sheet,
+    answer: Result<Sheet, Refusal>,
     size: usize,
 }
 
@@ -92,10 +97,11 @@ fn size_of(low: u8, middle: u8, high: u8) -> usize
     usize::from_le_bytes([low, middle, high, 0, 0, 0, 0, 0])
 }
 
-// The item that the bytes begin with; nothing where it is malformed.
-#[tactic(auto, using(crate::proofs::Items::steps), unfolding(crate::specs::Scripts::call_at, crate::specs::Items::item_answer, crate::specs::Items::stepped))]
+// Runs the item that the bytes begin with; nothing where it is malformed.
+#[tactic(auto, using(crate::proofs::Items::kind_other), unfolding(crate::specs::Scripts::call_at, crate::specs::Items::item_answer))]
 fn run_item(sheet: Sheet, rest: &[u8]) -> Option<Step>
-    ensures { result ≡ stepped sheet (4 + argument_size rest.now) (call_at rest.now) }
+    ensures answer { step_ran result ≡ item_answer sheet (call_at rest.now) }
+    ensures size { IfSome result (λ t. t.size ≡ 4 + argument_size rest.now) }
 {
     let [kind, low, middle, high, ..] = *rest else {
         return None;
@@ -103,24 +109,32 @@ fn run_item(sheet: Sheet, rest: &[u8]) -> Option<Step>
     let end = 4 + size_of(low, middle, high);
     let argument = rest.get(4..end)?;
     let answer = run_call(sheet, kind_of(kind)?, argument)?;
-    Some(Step {
-        sheet: answer.unwrap_or(sheet),
-        size: end,
-    })
+    Some(Step { answer, size: end })
 }
 
-// Runs the calls of a script from a fresh sheet, refused ones included. What stands on the sheet then is what demand 3 says of this very list of calls.
+// Runs the calls of a script from a fresh sheet, refused ones included. What stands on the sheet then is what demand 3 says of this very list of calls, and the answers that are counted, and the last of them, are those that it speaks of.
 #[tactic(auto, using(crate::proofs::Walk::steps))]
 pub fn run_script(script: &[u8]) -> Ran
     ensures sheet_value { result.sheet ≡ sheet_after fresh_sheet (calls_of script.now) }
     ensures at_value { result.at ≡ end_of script.now }
+    ensures accepted_value { result.accepted ≡ tally is_accepted (answers_of fresh_sheet (calls_of script.now)) }
+    ensures last_value { ran result.last ≡ last_or None (answers_of fresh_sheet (calls_of script.now)) }
     ensures guarantee { Guarantee (calls_of script.now) }
 {
     let mut sheet = sheet::fresh_sheet();
     let mut at = 0;
+    let mut accepted = 0;
+    let mut last = None;
     while let Some(step) = run_item(sheet, &script[at..]) {
-        sheet = step.sheet;
+        sheet = step.answer.unwrap_or(sheet);
         at += step.size;
+        accepted += usize::from(step.answer.is_ok());
+        last = Some(step.answer.and(Ok(())));
     }
-    Ran { sheet, at }
+    Ran {
+        sheet,
+        at,
+        accepted,
+        last,
+    }
 }
