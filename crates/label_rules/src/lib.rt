@@ -140,15 +140,15 @@ impl Labelled<'_, '_, '_> {
     }
 }
 
-// No context breaks the label rules; or the lowest that does. The table of labels has N cells, with a row for each context; it is made first, so that it is cleared once.
+// No context breaks the label rules; or the lowest that does. The table of labels has N cells, with a row for each context.
 fn check_in<const N: usize>(fit: &Fit, labels: &[u8]) -> Result<(), Refusal>
     requires { (200 * fit.now.plan.n ≤ N) × (N ≤ 40000) }
     ensures { outcome_of result ≡ label_rules (table_of fit.now.plan) labels.now }
 {
-    let mut table = [0u8; N];
     let plan = fit.plan;
     let starts = rings::starts_of(plan.sizes);
     let rings = plan.rings(&starts);
+    let mut table = [0u8; N];
     fill(&mut table, &rings, labels);
     let labelled = Labelled {
         rings,
