@@ -39,7 +39,8 @@ answers_after sheet (h ∷ hs) =
     let o = function_of h.makes sheet h.out in
     answer_of o ∷ answers_after (bytes_kept sheet o) hs
 
--- each buffer has room for every file: TOUCHCHART_FILE_MAX bytes. One that has not may add a refusal 16, which leaves everything.
+-- Each buffer has room for every file: TOUCHCHART_FILE_MAX bytes. Of a list with a shorter one HostGuarantee says nothing.
+-- There an accepted call whose file does not fit is refused by 16 (bytes_back). Then the sheet's bytes (bytes_kept) and the buffer (buffer_after) stay.
 abbrev pub HaveRoom : List HostCall → Type 0
 HaveRoom [] = Unit {0}
 HaveRoom (h ∷ hs) = (5176 ≤ length h.out) × HaveRoom hs
@@ -50,7 +51,7 @@ calls_made hs = map (λ (h : HostCall). h.makes) hs
 
 -- What a host is owed of a list of calls
 pub record HostGuarantee (hs : List HostCall) : Type 0 where
-  -- The bytes are the file of the sheet that these calls leave on a fresh one.
+  -- The bytes are the file of the sheet that these calls leave on a fresh one, none while that is fresh.
   pub bytes : bytes_after [] hs ≡ encode (reads (sheet_after fresh_sheet (calls_made hs)))
   -- The functions answer what these calls answer.
   pub answers : answers_after [] hs ≡ answers_of fresh_sheet (calls_made hs)
