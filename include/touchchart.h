@@ -7,7 +7,7 @@
  * input included. docs/CLAIMS.md says what is proved and what is assumed. The readers at the end are plain C and tested.
  *
  * Build: `./install PREFIX` puts this header, libtouchchart.a and touchchart.pc below PREFIX (x86-64 Linux, System V calling
- * convention).
+ * convention). The shell splits what pkg-config prints, so PREFIX here is a path without spaces.
  *
  *     export PKG_CONFIG_PATH=PREFIX/lib/pkgconfig
  *     cc draw.c $(pkg-config --cflags --libs touchchart) -o draw
