@@ -220,10 +220,10 @@ same_bool false false f g = refl
 pub runs_exactly : (r : List ℕ) → four_runs r ≡ eqb (round_sum r) 4
 runs_exactly r = same_bool (four_runs r) (eqb (round_sum r) 4) (λ e. eq-eqb (round_sum r) 4 (runs_weigh r e)) (λ e. weigh_runs r (eqb-true (round_sum r) 4 e))
 
--- ---- for label in r { changes = min(changes + change_weight(last, label), 5); last = label; } changes == 4
+-- ---- for label in r { changes = min(changes + change_weight(last, label), 255); last = label; } changes == 4
 pub record Weighs (r : List ℕ) (i last weight : ℕ) : Type 0 where
-  pub few : weight ≤ 5
-  pub same : min (round_sum r) 5 ≡ min (weight + change_sum last (drop i r)) 5
+  pub few : weight ≤ 255
+  pub same : min (round_sum r) 255 ≡ min (weight + change_sum last (drop i r)) 255
 
 last_at : (a : ℕ) (l : List ℕ) → 0 < length l → last_of a l ≡ get_or l (length l - 1) a
 unfolding last_of
@@ -241,12 +241,12 @@ weighs_start {r} {last} h q =
 
 module _ {r : List ℕ} {i last weight : ℕ} (inv : Weighs r i last weight) where
   -- one label more
-  pub weighs_on : {label w weight' : ℕ} → i < length r → label ≡ get_or r i 0 → w ≡ change_weight last label → weight' ≡ min (weight + w) 5 → Weighs r (i + 1) label weight'
+  pub weighs_on : {label w weight' : ℕ} → i < length r → label ≡ get_or r i 0 → w ≡ change_weight last label → weight' ≡ min (weight + w) 255 → Weighs r (i + 1) label weight'
   unfolding change_sum
   weighs_on {label} {w} h q p e =
       let z : suc i ≡ i + 1 = omega arith in
       let cut : drop i r ≡ label ∷ drop (i + 1) r = drop-cons r i 0 h ∙ (λ j. sym q j ∷ drop (z j) r) in
-      let s = inv.same ∙ ap (λ (m : List ℕ). min (weight + change_sum last m) 5) cut in
+      let s = inv.same ∙ ap (λ (m : List ℕ). min (weight + change_sum last m) 255) cut in
       record { few = omega arith; same = omega arith }
 
   pub weighs_end : {s : List ℕ} → r ≡ s → length r ≤ i → eqb weight 4 ≡ four_runs s
@@ -254,10 +254,10 @@ module _ {r : List ℕ} {i last weight : ℕ} (inv : Weighs r i last weight) whe
   weighs_end is h =
       let gone : drop i r ≡ [] = drop_of_length-le r {i = i} h in
       let few = inv.few in
-      let s : min (round_sum r) 5 ≡ weight = inv.same ∙ ap (λ (m : List ℕ). min (weight + change_sum last m) 5) gone ∙ omega arith in
+      let s : min (round_sum r) 255 ≡ weight = inv.same ∙ ap (λ (m : List ℕ). min (weight + change_sum last m) 255) gone ∙ omega arith in
       go (eqb weight 4) refl s ∙ sym (runs_exactly r) ∙ ap four_runs is
     where
-      go : (t : Bool) → eqb weight 4 ≡ t → min (round_sum r) 5 ≡ weight → t ≡ eqb (round_sum r) 4
+      go : (t : Bool) → eqb weight 4 ≡ t → min (round_sum r) 255 ≡ weight → t ≡ eqb (round_sum r) 4
       go true e s = let z = eqb-true weight 4 e in sym (eq-eqb (round_sum r) 4 (omega arith))
       go false e s = sym (ne_eqb (round_sum r) 4 (λ z. eqb-false weight 4 e (omega arith)))
 

@@ -15,7 +15,7 @@ fn change_weight(a: u8, b: u8) -> u8
     if a == b { 0 } else { changed }
 }
 
-// Are the labels from a up to e four runs, up, right, down, left, going round? They are if their changes, the one from the last label to the first among them, weigh 4. A sum past 5 is no more than 5.
+// Are the labels from a up to e four runs, up, right, down, left, going round? They are if their changes, the one from the last label to the first among them, weigh 4. A sum past 255 is no more than 255.
 #[tactic(auto, using(crate::proofs::Rounds::runs_none, crate::proofs::Rounds::round_is, crate::proofs::Rounds::weighs_start, crate::proofs::Rounds::weighs_end))]
 pub fn four_runs(labels: &[u8], a: usize, e: usize) -> bool
     ensures { result ≡ four_runs (slice a e labels.now) }
@@ -28,7 +28,7 @@ pub fn four_runs(labels: &[u8], a: usize, e: usize) -> bool
     let mut last = round[round.len() - 1];
     let mut changes = 0u8;
     for &label in round {
-        changes = (changes + change_weight(last, label)).min(5);
+        changes = changes.saturating_add(change_weight(last, label));
         last = label;
     }
     changes == 4
