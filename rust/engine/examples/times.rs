@@ -5,7 +5,7 @@
 //!     cargo run --release --example times
 //!
 //! Both sides do the same work: they open the sheet that is handed over as bytes, make the call, and write the new sheet into a
-//! buffer that is not cleared in between. A figure is the least of many rounds, in µs, the engine's before the stroke.
+//! buffer that is not cleared in between. A figure is the least of 60 rounds, in µs, the engine's before the stroke; the rounds of the two take turns.
 
 use generate::edit::{disguise, flip, random_dart};
 use generate::families::{column, fan_behind_column, irreducible, irreducible_with_hubs, wheel};
@@ -15,18 +15,21 @@ use reference::Sheet;
 use std::hint::black_box;
 use std::time::Instant;
 
-/// The least time of a call over many rounds, in µs.
-fn least(mut call: impl FnMut() -> u64) -> f64 {
-    let round = || {
-        let start = Instant::now();
-        for _ in 0..4 {
-            black_box(call());
-        }
-        start.elapsed().as_secs_f64() * 1e6 / 4.0
-    };
-    std::iter::repeat_with(round)
-        .take(60)
-        .fold(f64::MAX, f64::min)
+/// The time of a call in one round of four, in µs; one before them is not timed.
+fn round(call: &mut impl FnMut() -> u64) -> f64 {
+    black_box(call());
+    let start = Instant::now();
+    for _ in 0..4 {
+        black_box(call());
+    }
+    start.elapsed().as_secs_f64() * 1e6 / 4.0
+}
+
+/// The least times of two calls over 60 rounds, in µs. Their rounds take turns, so that a change of the machine's clock meets both.
+fn least(mut one: impl FnMut() -> u64, mut other: impl FnMut() -> u64) -> (f64, f64) {
+    (0..60).fold((f64::MAX, f64::MAX), |(a, b), _| {
+        (a.min(round(&mut one)), b.min(round(&mut other)))
+    })
 }
 
 /// The sheet of a file, after a call, written into a buffer.
@@ -59,54 +62,54 @@ fn row(name: &str, rings: &Rings) {
     let edges = inner_edges(rings);
     let (mut one, mut two) = (vec![0; 8192], vec![0; 8192]);
     let mut cells = vec![name.to_string(), rings.len().to_string()];
-    let mut cell = |engine: f64, plain: f64| cells.push(format!("{engine:.1} / {plain:.1}"));
+    let mut cell = |(engine, plain): (f64, f64)| cells.push(format!("{engine:.1} / {plain:.1}"));
     use engine::raw::*;
     for bytes in [&plan, &labelled, &charted] {
-        cell(
-            least(|| open_into(bytes, &mut one)),
-            least(|| plain_open(bytes, &mut two)),
-        );
+        cell(least(
+            || open_into(bytes, &mut one),
+            || plain_open(bytes, &mut two),
+        ));
     }
-    cell(
-        least(|| sweep_into(&plan, &mut one)),
-        least(|| {
+    cell(least(
+        || sweep_into(&plan, &mut one),
+        || {
             plain(&plan, &mut two, |s| {
                 let _ = reference::sweep(s);
             })
-        }),
-    );
-    cell(
-        least(|| offer_into(&plan, &labels, &mut one)),
-        least(|| {
+        },
+    ));
+    cell(least(
+        || offer_into(&plan, &labels, &mut one),
+        || {
             plain(&plan, &mut two, |s| {
                 let _ = reference::offer(s, &labels);
             })
-        }),
-    );
-    cell(
-        least(|| turn_into(&labelled, &edges, 0, &mut one)),
-        least(|| {
+        },
+    ));
+    cell(least(
+        || turn_into(&labelled, &edges, 0, &mut one),
+        || {
             plain(&labelled, &mut two, |s| {
                 let _ = reference::turn(s, &edges, 0);
             })
-        }),
-    );
-    cell(
-        least(|| chart_into(&labelled, &mut one)),
-        least(|| {
+        },
+    ));
+    cell(least(
+        || chart_into(&labelled, &mut one),
+        || {
             plain(&labelled, &mut two, |s| {
                 let _ = reference::chart(s);
             })
-        }),
-    );
-    cell(
-        least(|| scan_of(&plan)),
-        least(|| reference::scan(&reference::open(&plan).expect("a plan")).is_ok() as u64),
-    );
-    cell(
-        least(|| ring_of(&plan, 4)),
-        least(|| reference::ring(&plan, 4).is_ok() as u64),
-    );
+        },
+    ));
+    cell(least(
+        || scan_of(&plan),
+        || reference::scan(&reference::open(&plan).expect("a plan")).is_ok() as u64,
+    ));
+    cell(least(
+        || ring_of(&plan, 4),
+        || reference::ring(&plan, 4).is_ok() as u64,
+    ));
     println!("| {} |", cells.join(" | "));
 }
 
