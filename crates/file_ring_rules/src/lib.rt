@@ -68,6 +68,8 @@ pub fn rule6(rings: &FileRings) -> Result<(), Refusal>
 {
     if rings.n <= rings::FEW_CONTEXTS {
         located::each_returned::<4000>(rings)
+    } else if rings.n <= rings::SOME_CONTEXTS {
+        located::each_returned::<12000>(rings)
     } else {
         located::each_returned::<40000>(rings)
     }

@@ -164,6 +164,8 @@ pub fn check(fit: &Fit, labels: &[u8]) -> Result<(), Refusal>
 {
     if fit.plan.n <= rings::FEW_CONTEXTS {
         check_in::<4000>(fit, labels)
+    } else if fit.plan.n <= rings::SOME_CONTEXTS {
+        check_in::<12000>(fit, labels)
     } else {
         check_in::<40000>(fit, labels)
     }

@@ -96,6 +96,10 @@ fn is_sound_from(rings: &Rings) -> bool
         let mut table = [0u8; 4000];
         return is_confirmed(&mut table, rings);
     }
+    if rings.n <= rings::SOME_CONTEXTS {
+        let mut table = [0u8; 12000];
+        return is_confirmed(&mut table, rings);
+    }
     let mut table = [0u8; 40000];
     is_confirmed(&mut table, rings)
 }

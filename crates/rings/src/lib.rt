@@ -20,6 +20,9 @@ pub const WEST: u16 = 3;
 // The most contexts for which a small table, of 20 rows of 200, has a row each.
 pub const FEW_CONTEXTS: usize = 20;
 
+// The most contexts for which a table of 60 rows has.
+pub const SOME_CONTEXTS: usize = 60;
+
 // A plan in flat arrays: the number of its contexts, the size of each ring, and the entries of all rings in context order.
 #[derive(Clone, Copy)]
 pub struct Table<'a> {

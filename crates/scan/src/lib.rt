@@ -128,6 +128,8 @@ pub fn scan(fit: &Fit) -> Option<(usize, usize, usize)>
 {
     if fit.plan.n <= rings::FEW_CONTEXTS {
         scan_in::<4000>(fit)
+    } else if fit.plan.n <= rings::SOME_CONTEXTS {
+        scan_in::<12000>(fit)
     } else {
         scan_in::<40000>(fit)
     }

@@ -63,6 +63,8 @@ fn swept(fit: &Fit, ruled: bool) -> Result<[u8; 1186], Refusal>
 {
     if fit.plan.n <= rings::FEW_CONTEXTS {
         swept_in::<4000>(fit, ruled)
+    } else if fit.plan.n <= rings::SOME_CONTEXTS {
+        swept_in::<12000>(fit, ruled)
     } else {
         swept_in::<40000>(fit, ruled)
     }

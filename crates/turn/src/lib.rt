@@ -123,6 +123,8 @@ fn turn_edges(fit: &Fit, labels: [u8; 1186], items: &[u16], q: u8) -> Result<[u8
 {
     if fit.plan.n <= rings::FEW_CONTEXTS {
         turn_in::<4000>(fit, labels, items, q)
+    } else if fit.plan.n <= rings::SOME_CONTEXTS {
+        turn_in::<12000>(fit, labels, items, q)
     } else {
         turn_in::<40000>(fit, labels, items, q)
     }

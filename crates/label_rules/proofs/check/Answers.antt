@@ -1,14 +1,9 @@
 -- check meets its contract.
 use native.Mathlib.Omega.{arith}
-use Rattle.rings.specs.Tables.{starts_of, table, table_of}
-use Rattle.rings.proofs.Rows.{count-rows}
-use Rattle.plan_bounds.proofs.Fits.{fit-says}
+use Rattle.plan_bounds.proofs.Bounds.{fit_few}
 use Rattle.label_rules.proofs.check.Goals as goal
 
-pub check_in-requires-else-fit-le-FEW_CONTEXTS : goal.check_in-requires-else-fit-le-FEW_CONTEXTS
-unfolding table
-check_in-requires-else-fit-le-FEW_CONTEXTS c =
-    let p = c.args.fit.now.plan in
-    let few = (fit-says (table_of p) c.args.fit.now.fits).few in
-    let size = count-rows (starts_of p.sizes.now) p.sizes.now p.entries.now p.n in
+pub check_in-requires-else-fit-le-SOME_CONTEXTS : goal.check_in-requires-else-fit-le-SOME_CONTEXTS
+check_in-requires-else-fit-le-SOME_CONTEXTS c =
+    let few = fit_few c.args.fit.now.plan c.args.fit.now.fits in
     (omega arith, omega arith)

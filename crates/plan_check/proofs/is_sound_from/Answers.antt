@@ -23,6 +23,13 @@ returns-then-rings-le-FEW_CONTEXTS c =
     let kept = sym c.is_err.ensures.value ∙ c.if-is_err.false in
     sound_by (plan_of r) size c.if-rings-gt200.false c.rule8.result c.rule8.ensures kept 4000 (omega arith) (omega arith) refl c.is_confirmed.ensures
 
+pub returns-then-rings-le-SOME_CONTEXTS : goal.returns-then-rings-le-SOME_CONTEXTS
+returns-then-rings-le-SOME_CONTEXTS c =
+    let r = c.args.rings.now in
+    let size = count-rows r.starts.now r.sizes.now r.entries.now r.n in
+    let kept = sym c.is_err.ensures.value ∙ c.if-is_err.false in
+    sound_by (plan_of r) size c.if-rings-gt200.false c.rule8.result c.rule8.ensures kept 12000 (omega arith) (omega arith) refl c.is_confirmed-then-rings-le-SOME_CONTEXTS.ensures
+
 pub returns : goal.returns
 returns c =
     let r = c.args.rings.now in
