@@ -16,11 +16,12 @@ use Rattle.model.specs.Outcome.{accepted, passed}
 use Rattle.model.specs.Plan.{Plan, context_count, adjacent, plan_rules, north, east, south, west}
 use Rattle.model.specs.Labels.{up, right, turned, label_of, label_rules}
 use Rattle.model.specs.Chart.{Chart, x, y, least_placement, slope, chart}
+use Rattle.model.specs.Placed.{Placed}
 use Rattle.model.specs.Transversal.{Transversal}
 use Rattle.model.proofs.Plans.{adjacent-from}
 use Rattle.model.proofs.PlanRules.{sound}
 use Rattle.model.proofs.LabelRules.{labels_exactly}
-use Rattle.model.proofs.Placements.{Placed, placed, is-placed, chart-is}
+use Rattle.model.proofs.Placements.{placed, is-placed, chart-is}
 
 -- ---- a strict order of contexts, as a test
 record Order : Type 0 where

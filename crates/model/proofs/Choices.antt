@@ -1,5 +1,5 @@
 -- The pair that a step of the sweep takes is the one that 01 names: of the eligible pairs that with the largest j, then with the largest i. It takes none exactly where no pair is eligible.
-use Prim.Native.Nat.{ℕ, ◌+◌, ◌-◌, ◌≤◌, ◌<◌}
+use Prim.Native.Nat.{ℕ, ◌-◌, ◌≤◌, ◌<◌}
 use mathlib.Core.Path.{◌≡◌, refl, sym, ap, ◌∙◌, subst}
 use mathlib.Core.List.Memᴰ
 use mathlib.Core.List.{List, [], ◌∷◌, map, Memᴰ}
@@ -15,22 +15,8 @@ use Rattle.lists.proofs.Falling.{Falling, falling_countdown, falling_rows}
 use Rattle.model.specs.Outcome.{Outcome, accepted, refused}
 use Rattle.model.specs.Plan.{Plan}
 use Rattle.model.specs.Sweep.{State, eligible, choices, choose}
+use Rattle.model.specs.SweepStates.{Positions, NoneEligible, Chosen}
 use Rattle.model.proofs.Outcomes.{not-both, same-value, same-refusal}
-
--- Frontier positions i and j, j at least i + 2
-pub record Positions (s : State) (i j : ℕ) : Type 0 where
-  pub apart : i + 2 ≤ j
-  pub inside : j < length s.frontier
-
--- No pair is eligible
-abbrev pub NoneEligible : Plan → State → Type 0
-NoneEligible p s = (i j : ℕ) → Positions s i j → eligible p s i j ≡ false
-
--- Of the eligible pairs i, j is that with the largest j, then with the largest i
-pub record Chosen (p : Plan) (s : State) (i j : ℕ) : Type 0 where
-  pub positions : Positions s i j
-  pub fits : eligible p s i j ≡ true
-  pub largest : (i' j' : ℕ) → Positions s i' j' → eligible p s i' j' ≡ true → (j' < j) ⊎ ((j' ≡ j) × (i' ≤ i))
 
 -- the pair d comes after the pair c, or is it
 abbrev Under : ℕ × ℕ → ℕ × ℕ → Type 0

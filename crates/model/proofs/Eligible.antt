@@ -18,7 +18,7 @@ use Rattle.lists.proofs.Ranges.{from-mem}
 use Rattle.lists.proofs.Joins.{join_mem}
 use Rattle.model.specs.Plan.{Plan, adjacent, border}
 use Rattle.model.specs.Sweep.{State, below, listed, replaced, chordless, eligible}
-use Rattle.model.proofs.Choices.{Positions}
+use Rattle.model.specs.SweepStates.{Positions}
 
 -- the entry at an index is a member
 pub get_or-mem : (l : List ℕ) (k : ℕ) → k < length l → Memᴰ (get_or l k 0) l

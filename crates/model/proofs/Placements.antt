@@ -1,5 +1,5 @@
 -- Placements read rule by rule; and the chart: it is the least placement, and it is refused exactly where no placement keeps the compass rules.
-use Prim.Native.Nat.{ℕ, ◌+◌, ◌≤◌, ◌<◌}
+use Prim.Native.Nat.{ℕ, ◌+◌, ◌≤◌}
 use mathlib.Core.Path.{◌≡◌, refl, sym, ap, ◌∙◌, subst}
 use mathlib.Core.List.Memᴰ
 use mathlib.Core.List.{List, [], ◌∷◌, ◌++◌, map, Memᴰ}
@@ -20,6 +20,7 @@ use Rattle.model.specs.Outcome.{Outcome, accepted, refused, require, ◌>>◌, �
 use Rattle.model.specs.Plan.{Plan, Dart, context_count, contexts, ring, adjacent, darts_from, darts, north, east, south, west}
 use Rattle.model.specs.Labels.{up, right, label_of}
 use Rattle.model.specs.Chart.{Chart, x, y, Constraint, constraint, meets, x_constraint, y_constraint, x_constraints, y_constraints, is_at, is_placement, AtMost, IsChart, least_numbers, tie, least_placement}
+use Rattle.model.specs.Placed.{Compass, Placed}
 use Rattle.model.proofs.Outcomes.{not-both, same-value, same-refusal, bind_accepted, bind_refused, then_accepted, require-passed}
 use Rattle.model.proofs.Plans.{adjacent-from, adjacent-mem, mem-adjacent}
 use Rattle.model.proofs.Least.{Solves, least_under, least_solves, least_11, least-none}
@@ -39,12 +40,6 @@ darts-mem p u v e =
     join_mem (darts_from p) (contexts p) u (u, v) (from-mem 0 (context_count p) u (omega arith) (omega arith)) (Memᴰ.map {B = Dart} (λ (w : ℕ). (u, w)) (adjacent-mem p u v e))
 
 -- ---- the compass rules, one dart at a time
-pub record Compass (s : ℕ) (p : Plan) (ls : List ℕ) (c : Chart) : Type 0 where
-  pub up_x : (u v : ℕ) → adjacent p u v ≡ true → label_of p ls u v ≡ up → x c u + s ≤ x c v
-  pub up_y : (u v : ℕ) → adjacent p u v ≡ true → label_of p ls u v ≡ up → y c u < y c v
-  pub right_x : (u v : ℕ) → adjacent p u v ≡ true → label_of p ls u v ≡ right → x c u < x c v
-  pub right_y : (u v : ℕ) → adjacent p u v ≡ true → label_of p ls u v ≡ right → y c v + s ≤ y c u
-
 -- a constraint that numbers meet
 abbrev Met : List ℕ → Constraint → Type 0
 Met ks e = get_or ks e.low 0 + e.gap ≤ get_or ks e.high 0
@@ -151,19 +146,6 @@ module _ (s : ℕ) (p : Plan) (ls : List ℕ) where
     compass-y k = rw y-asked (asked-all p ls (ahead 1) (behind s) (Met c.ys) (λ u v n e. let h = k.up_y u v n e in omega arith) k.right_y)
 
 -- ---- a placement, rule by rule
-pub record Placed (s : ℕ) (p : Plan) (ls : List ℕ) (c : Chart) : Type 0 where
-  pub count_x : length c.xs ≡ context_count p
-  pub count_y : length c.ys ≡ context_count p
-  pub south_x : x c south ≡ 0
-  pub south_y : y c south ≡ 0
-  pub west_x : x c west ≡ 0
-  pub west_y : y c west ≡ c.h
-  pub north_x : x c north ≡ c.w
-  pub north_y : y c north ≡ c.h
-  pub east_x : x c east ≡ c.w
-  pub east_y : y c east ≡ 0
-  pub compass : Compass s p ls c
-
 module _ (s : ℕ) (p : Plan) (ls : List ℕ) (c : Chart) where
   at-says : (u a b : ℕ) → is_at c u a b ≡ true → (x c u ≡ a) × (y c u ≡ b)
   unfolding is_at

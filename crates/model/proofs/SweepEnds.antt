@@ -19,37 +19,19 @@ use Rattle.lists.proofs.Joins.{mem_join}
 use Rattle.lists.proofs.Members.{mem-take, mem-drop, mem-reverse, mem-before, mem-squeeze, repeats-reverse}
 use Rattle.model.specs.Outcome.{Outcome, accepted, refused, passed, ◌>>=◌, ◌>>◌, rule}
 use Rattle.model.specs.Plan.{Plan, context_count, ring, onward, strictly_between, border, north, east, west, plan_rules}
+use Rattle.model.specs.Sound.{Sound}
 use Rattle.model.specs.Labels.{label_rules, breaks}
 use Rattle.model.specs.Sweep.{State, top, first_state, below, finished, finish, listed, replaced, chordless, eligible, choices, choose, advance, sweep_from, sweep}
+use Rattle.model.specs.SweepStates.{NoneEligible, Chosen, Reached, first, further, Stuck, Ends}
 use Rattle.model.proofs.Outcomes.{not-both, same-refusal, bind_refused, rule_refuses}
 use Rattle.model.proofs.Plans.{mem-adjacent}
-use Rattle.model.proofs.PlanRules.{Sound, sound, inner_ring, border_ring}
-use Rattle.model.proofs.Choices.{NoneEligible, Chosen, chosen, none_chosen, chosen_taken, none-taken}
-
--- The states that the sweep passes through
-pub data Reached (p : Plan) : State → Type 0 where
-  first : Reached p (first_state p)
-  further : (s : State) (i j : ℕ) → Reached p s → finished p s.frontier ≡ false → Chosen p s i j → Reached p (advance p s i j)
-
--- Finished: a state is reached in which every inner frontier context has South alone below
-pub record Finished (p : Plan) (s : State) : Type 0 where
-  pub reached : Reached p s
-  pub over : finished p s.frontier ≡ true
-
--- Stuck: a state is reached that is not finished, and no pair is eligible
-pub record Stuck (p : Plan) (s : State) : Type 0 where
-  pub reached : Reached p s
-  pub unfinished : finished p s.frontier ≡ false
-  pub none : NoneEligible p s
+use Rattle.model.proofs.PlanRules.{sound, inner_ring, border_ring}
+use Rattle.model.proofs.Choices.{chosen, none_chosen, chosen_taken, none-taken}
 
 -- What is seen are contexts, none twice
 pub record Sane (p : Plan) (s : State) : Type 0 where
   pub inside : (a : ℕ) → Memᴰ a s.seen → a < context_count p
   pub once : repeats s.seen ≡ false
-
--- The two ways in which the sweep ends
-abbrev pub Ends : Plan → Outcome (List ℕ) → Type 0
-Ends p o = ((s : State) × Finished p s × (o ≡ accepted (finish p s))) ⊎ ((s : State) × Stuck p s × (o ≡ refused 14 0))
 
 nonempty : (l m : List ℕ) → not (is_empty l) ≡ true → 0 < length (squeeze (l ++ m))
 nonempty [] m e = absurd (false≢true e)

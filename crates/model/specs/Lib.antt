@@ -1,9 +1,12 @@
 pub mod Outcome
 pub mod Plan
+pub mod Sound
 pub mod Labels
 pub mod Chart
+pub mod Placed
 pub mod Geometry
 pub mod Sweep
+pub mod SweepStates
 pub mod Turn
 pub mod Scan
 pub mod File

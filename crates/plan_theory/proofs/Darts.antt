@@ -10,8 +10,9 @@ use Rattle.lists.specs.Parts.{cycle}
 use Rattle.lists.proofs.Bools.{and_yes, both}
 use Rattle.lists.proofs.Once.{Once, once-apart, once_join, once-map, once-from, no_repeat_once}
 use Rattle.model.specs.Plan.{Plan, Dart, context_count, contexts, ring, adjacent, darts_from, darts, same_dart, next, step, outer, closes}
+use Rattle.model.specs.Sound.{Sound}
 use Rattle.model.proofs.Plans.{next-mem, adjacent-mem, mem-adjacent, outer-says, says-outer}
-use Rattle.model.proofs.PlanRules.{Sound, inner_ring, border_ring}
+use Rattle.model.proofs.PlanRules.{inner_ring, border_ring}
 use Rattle.plan_theory.proofs.Rings.{next_last}
 
 -- a dart, and when two are the same

@@ -14,11 +14,12 @@ use Rattle.lists.proofs.Tests.{none_of}
 use Rattle.lists.proofs.Sums.{total, total-each, total-add, tally-total}
 use Rattle.lists.proofs.Cycles.{cycle-map}
 use Rattle.model.specs.Plan.{Plan, Dart, Face, darts, faces, adjacent}
+use Rattle.model.specs.Sound.{Sound}
 use Rattle.model.specs.Chart.{Chart, x, y}
+use Rattle.model.specs.Placed.{Placed}
 use Rattle.model.specs.Geometry.{Point, positive, is_zero, corner, fan, area, areas, side, is_left, spans, on_line, on_some_line, in_rectangle, in_face}
 use Rattle.model.specs.Transversal.{Transversal}
-use Rattle.model.proofs.PlanRules.{Sound}
-use Rattle.model.proofs.Placements.{Placed, darts-mem}
+use Rattle.model.proofs.Placements.{darts-mem}
 use Rattle.geometry.specs.Points.{Position, area_plus, area_minus, strictly_left, OnSegment, crossing, inside, InBox, scaled}
 use Rattle.geometry.proofs.Signed.{Difference, Says, says_as, says-zero, says-sum, says_pos, says-area}
 use Rattle.geometry.proofs.Walks.{along, against, cancels}

@@ -18,8 +18,9 @@ use Rattle.lists.proofs.Once.{Once, once-append, once_join, once-map, once-from}
 use Rattle.lists.proofs.Sums.{tally_join}
 use Rattle.lists.proofs.Ranges.{lt-or-le}
 use Rattle.model.specs.Plan.{Plan, Dart, Face, contexts, ring, adjacent, darts_from, darts, same_dart, step, outer, closes, walk, on_inner_face, faces_from, faces}
+use Rattle.model.specs.Sound.{Sound}
 use Rattle.model.proofs.Plans.{outer-says}
-use Rattle.model.proofs.PlanRules.{Sound, border-next}
+use Rattle.model.proofs.PlanRules.{border-next}
 use Rattle.model.proofs.Placements.{mem-darts, darts-mem}
 use Rattle.geometry.proofs.Walks.{ClosedMap}
 use Rattle.plan_theory.specs.InnerFaces.{InnerFace, InnerFaces, passes}

@@ -17,10 +17,10 @@ use Rattle.lists.proofs.Places.{mem-at, get_d_any, index_at}
 use Rattle.lists.proofs.Cycles.{cycle-map}
 use Rattle.lists.proofs.Ranges.{lt-or-le}
 use Rattle.model.specs.Plan.{Plan, Dart, neighbour, entries, ring, adjacent, next, outer}
+use Rattle.model.specs.Sound.{Sound}
 use Rattle.model.specs.Labels.{unlabelled, turned, start, labels_around, label_of}
 use Rattle.model.specs.Transversal.{Transversal}
 use Rattle.model.proofs.Plans.{next-mem, adjacent-mem, mem-adjacent, adjacent-from, says-outer}
-use Rattle.model.proofs.PlanRules.{Sound}
 use Rattle.geometry.specs.Compass.{angle}
 use Rattle.plan_theory.proofs.Rings.{next-on-cycle}
 use Rattle.plan_theory.proofs.Runs.{Onward, runs-onward}

@@ -10,12 +10,13 @@ use Rattle.lists.specs.Parts.{cycle}
 use Rattle.lists.proofs.Bools.{both}
 use Rattle.lists.proofs.Cycles.{mem-cycle}
 use Rattle.model.specs.Plan.{Plan, Dart, Face, adjacent, step, outer}
+use Rattle.model.specs.Sound.{Sound}
 use Rattle.model.specs.Labels.{up, right, turned, label_of}
 use Rattle.model.specs.Chart.{Chart, x, y}
+use Rattle.model.specs.Placed.{Placed}
 use Rattle.model.specs.Transversal.{Transversal}
 use Rattle.model.proofs.Plans.{adjacent-from}
-use Rattle.model.proofs.PlanRules.{Sound, border-next}
-use Rattle.model.proofs.Placements.{Placed}
+use Rattle.model.proofs.PlanRules.{border-next}
 use Rattle.geometry.specs.Points.{Position, Left}
 use Rattle.geometry.specs.Compass.{Heads, angle, Turning}
 use Rattle.geometry.proofs.Corners.{triangle_positive}

@@ -20,11 +20,11 @@ use Rattle.lists.proofs.Concats.{map-append}
 use Rattle.lists.proofs.Counts.{count_below-le, length-count_below}
 use Rattle.model.specs.Outcome.{require, rule}
 use Rattle.model.specs.Plan.{Plan, Dart, context_count, adjacent, border, inner_edge, same_dart}
+use Rattle.model.specs.Sound.{Sound}
 use Rattle.model.specs.Labels.{label_rules, breaks}
 use Rattle.model.specs.Turn.{same_edge, reverse_dart, bad_pair, turned_edges, quarters, turn}
 use Rattle.model.proofs.Outcomes.{require-passed}
 use Rattle.model.proofs.Plans.{adjacent-from}
-use Rattle.model.proofs.PlanRules.{Sound}
 use Rattle.sheet_bytes.proofs.Small.{Small, small-accepted, small_then, small-require, first-most, small-rule}
 
 -- what stands before the first that passes does not pass

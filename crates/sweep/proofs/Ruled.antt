@@ -9,9 +9,9 @@ use Rattle.lists.specs.Ranges.{lowest}
 use Rattle.lists.proofs.Ranges.{first-none}
 use Rattle.model.specs.Outcome.{Outcome, passed, ◌>>◌, rule, require}
 use Rattle.model.specs.Plan.{Plan, context_count, bad_entry, bad_repeat, unreturned, entry_count, dart_count, bad_border, bad_face, plan_rules}
+use Rattle.model.specs.Sound.{Sound}
 use Rattle.model.proofs.Outcomes.{passed_then, passed-require, rule-passes}
 use Rattle.model.proofs.PlanRules as rules
-use Rattle.model.proofs.PlanRules.{Sound}
 use Rattle.rings.specs.declared.Table.{Table}
 use Rattle.rings.specs.Tables.{starts_of, start_of, table, table_of}
 use Rattle.rings.proofs.Rows.{count-rows}

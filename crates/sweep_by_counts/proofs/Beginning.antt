@@ -10,17 +10,18 @@ use Rattle.lists.specs.Spans.{zeros, zero_padded}
 use Rattle.lists.proofs.Spans.{length-zeros}
 use Rattle.lists.proofs.Padded.{get_or-zeros}
 use Rattle.model.specs.Plan.{Plan, context_count}
+use Rattle.model.specs.Sound.{Sound}
 use Rattle.model.specs.Sweep.{first_state, chordless, sweep_from}
-use Rattle.model.proofs.PlanRules.{Sound}
 use Rattle.model.proofs.SweepEnds.{ring-inside}
 use Rattle.sweep_frontier.specs.Frontiers.{whole}
 use Rattle.sweep_frontier.specs.Held.{HoldsFrontier}
 use Rattle.sweep_labelling.specs.Labelling.{Labelled, first_labels, swept}
 use Rattle.sweep_labelling.proofs.Frontiers.{first_labelled}
 use Rattle.sweep_theory.specs.Counter.{counted}
+use Rattle.sweep_theory.specs.Ready.{Ready}
 use Rattle.sweep_theory.proofs.FirstLine.{once_first}
 use Rattle.sweep_theory.proofs.Tells.{counted_size}
-use Rattle.sweep_theory.proofs.CountSweep.{Ready, ready_first}
+use Rattle.sweep_theory.proofs.CountSweep.{ready_first}
 use Rattle.sweep_by_counts.specs.declared.course.Course.{Course}
 use Rattle.sweep_by_counts.specs.Courses.{CountersIn, HoldsState}
 use Rattle.sweep_by_counts.specs.Strays.{chorded}

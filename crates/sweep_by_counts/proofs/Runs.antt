@@ -9,14 +9,15 @@ use lib.Seq.{length-take-le}
 use Rattle.std.specs.Prelude.{Option, Some, None}
 use Rattle.model.specs.Outcome.{Outcome, accepted, refused, mapped, ◌>>=◌}
 use Rattle.model.specs.Plan.{Plan}
+use Rattle.model.specs.Sound.{Sound}
 use Rattle.model.specs.Sweep.{State, finished, finish, below, listed, advance, sweep_from}
-use Rattle.model.proofs.PlanRules.{Sound}
-use Rattle.model.proofs.Choices.{Chosen}
+use Rattle.model.specs.SweepStates.{Chosen}
 use Rattle.sweep_labelling.specs.Labelling.{swept}
 use Rattle.lists.specs.Spans.{zero_padded}
 use Rattle.sweep_theory.specs.Quick.{landing, reach, resume}
 use Rattle.sweep_theory.specs.Counter.{pick_by, counted}
-use Rattle.sweep_theory.proofs.CountSweep.{Ready, picked, picked_chosen, picked_unfinished, picked_listed, ready_on}
+use Rattle.sweep_theory.specs.Ready.{Ready}
+use Rattle.sweep_theory.proofs.CountSweep.{picked, picked_chosen, picked_unfinished, picked_listed, ready_on}
 use Rattle.sweep_by_counts.specs.declared.course.Course.{Course}
 use Rattle.sweep_by_counts.specs.declared.pick.Found.{Found}
 use Rattle.sweep_by_counts.specs.Courses.{HoldsState}

@@ -18,9 +18,9 @@ use Rattle.lists.proofs.Folds.{some-none, some_one, some_same}
 use Rattle.lists.proofs.Padded.{get_or-zero_padded}
 use Rattle.lists.proofs.Tests.{list_any_of, of_list_any, member-mem, mem-member}
 use Rattle.model.specs.Plan.{Plan, ring, adjacent}
+use Rattle.model.specs.Sound.{Sound}
 use Rattle.model.specs.Sweep.{chordless}
 use Rattle.model.proofs.Plans.{adjacent-mem, mem-adjacent}
-use Rattle.model.proofs.PlanRules.{Sound}
 use Rattle.model.proofs.Eligible.{get_or-mem, mem-get_or, chordless-apart}
 use Rattle.sweep_theory.proofs.Eligibility.{Chord, chord_found, same_position}
 use Rattle.sweep_frontier.specs.Held.{Marks}

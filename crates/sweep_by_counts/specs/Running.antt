@@ -5,7 +5,7 @@ use Rattle.model.specs.Plan.{Plan}
 use Rattle.model.specs.Sweep.{State, finished, finish, sweep_from}
 use Rattle.sweep_labelling.specs.Labelling.{swept}
 use Rattle.sweep_theory.specs.Counter.{pick_by}
-use Rattle.sweep_theory.proofs.CountSweep.{Ready}
+use Rattle.sweep_theory.specs.Ready.{Ready}
 use Rattle.sweep_by_counts.specs.declared.course.Course.{Course}
 use Rattle.sweep_by_counts.specs.declared.pick.Found.{Found}
 use Rattle.sweep_by_counts.specs.Courses.{HoldsState}

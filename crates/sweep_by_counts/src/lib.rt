@@ -2,7 +2,7 @@
 #![tactic(auto)]
 
 ghost use Rattle.rings.specs.Tables.{plan_of};
-ghost use Rattle.model.proofs.PlanRules.{Sound};
+ghost use Rattle.model.specs.Sound.{Sound};
 
 use sweep_labelling::Guided;
 

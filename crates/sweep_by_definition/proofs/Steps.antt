@@ -11,7 +11,8 @@ use Rattle.lists.specs.Spans.{stretch, span, zero_padded}
 use Rattle.model.specs.Outcome.{Outcome, accepted, refused, mapped, ◌>>=◌}
 use Rattle.model.specs.Plan.{Plan, context_count, ring}
 use Rattle.model.specs.Sweep.{State, first_state, listed, finished, finish, eligible, choose, choices, advance, sweep_from}
-use Rattle.model.proofs.Choices.{chosen, Chosen}
+use Rattle.model.specs.SweepStates.{Chosen}
+use Rattle.model.proofs.Choices.{chosen}
 use Rattle.sweep_frontier.specs.declared.Frontier as held
 use Rattle.sweep_frontier.specs.Frontiers.{Frontier, lent_frontier, whole, empty_frontier}
 use Rattle.sweep_frontier.specs.Held.{EntriesBelow200, HoldsFrontier}

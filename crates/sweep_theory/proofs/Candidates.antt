@@ -11,9 +11,9 @@ use borrow.Author.Tests.{eqb-true, eqb-false, ltb-true, le-leb, leb-true}
 use Rattle.lists.proofs.Bools.{and_yes, yes_and, yes-not}
 use Rattle.lists.proofs.Ranges.{lt-or-le}
 use Rattle.model.specs.Plan.{Plan}
+use Rattle.model.specs.Sound.{Sound}
 use Rattle.model.specs.Sweep.{State, below, chordless, eligible}
-use Rattle.model.proofs.PlanRules.{Sound}
-use Rattle.model.proofs.Choices.{Positions}
+use Rattle.model.specs.SweepStates.{Positions}
 use Rattle.sweep_theory.specs.Quick.{single, candidate_from, candidate, open_at}
 use Rattle.sweep_theory.proofs.Frontiers.{Flat}
 use Rattle.sweep_theory.proofs.Cuts.{end_not_single, right_end_not_single, cut_eligible}

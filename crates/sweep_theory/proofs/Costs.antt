@@ -13,16 +13,17 @@ use Rattle.lists.specs.Spans.{zeros}
 use Rattle.lists.proofs.Ranges.{lt-or-le, first_found, first-none, none_first}
 use Rattle.model.specs.Outcome.{Outcome, accepted, refused}
 use Rattle.model.specs.Plan.{Plan, context_count, ring, strictly_between}
+use Rattle.model.specs.Sound.{Sound}
 use Rattle.model.specs.Sweep.{State, first_state, below, listed, chordless, advance}
-use Rattle.model.proofs.PlanRules.{Sound}
-use Rattle.model.proofs.Choices.{Chosen}
+use Rattle.model.specs.SweepStates.{Chosen}
 use Rattle.model.proofs.Eligible.{replaced-left, replaced-length}
 use Rattle.model.proofs.SweepEnds.{seen-short}
 use Rattle.sweep_theory.specs.Quick.{single, candidate, open_at, landing, reach, resume}
 use Rattle.sweep_theory.specs.Counter.{counted, local_by, pick_by}
 use Rattle.sweep_theory.specs.Cost.{test_count_below, after_pair, test_count_from, test_count}
+use Rattle.sweep_theory.specs.Ready.{Ready}
 use Rattle.sweep_theory.proofs.Lines.{at}
-use Rattle.sweep_theory.proofs.CountSweep.{Ready, ready_first, picked_chosen, ready_on}
+use Rattle.sweep_theory.proofs.CountSweep.{ready_first, picked_chosen, ready_on}
 use Rattle.sweep_theory.proofs.FirstLine.{first-frontier}
 use Rattle.sweep_theory.proofs.Eligibility.{listed_some}
 

@@ -13,19 +13,20 @@ use Rattle.lists.proofs.Tests.{list_all_of, same-eq}
 use Rattle.lists.proofs.Ranges.{from-mem}
 use Rattle.model.specs.Outcome.{Outcome, accepted, refused, ◌>>=◌}
 use Rattle.model.specs.Plan.{Plan, context_count, border, south}
+use Rattle.model.specs.Sound.{Sound}
 use Rattle.model.specs.Sweep.{State, first_state, below, listed, chordless, finished, finish, eligible, choices, choose, advance, sweep_from}
-use Rattle.model.proofs.PlanRules.{Sound}
-use Rattle.model.proofs.Choices.{Positions, Chosen, chosen, none_chosen}
+use Rattle.model.specs.SweepStates.{Positions, Chosen, first, further}
+use Rattle.model.proofs.Choices.{chosen, none_chosen}
 use Rattle.model.proofs.Eligible.{eligible_clear}
-use Rattle.model.proofs.SweepEnds.{Reached, first, further}
 use Rattle.sweep_theory.specs.Quick.{resume}
 use Rattle.sweep_theory.specs.Counter.{counted, pick_by, settled, count_from, count_sweep}
+use Rattle.sweep_theory.specs.Ready.{Ready}
 use Rattle.sweep_theory.proofs.Frontiers.{flat, first_chord, clean}
 use Rattle.sweep_theory.proofs.Candidates.{open_two}
-use Rattle.sweep_theory.proofs.Limits.{Limits, limit_on}
+use Rattle.sweep_theory.proofs.Limits.{limit_on}
 use Rattle.sweep_theory.proofs.Local.{local-listed}
-use Rattle.sweep_theory.proofs.Picks.{Picked, Said, said, Clean, pick_enough, next_clean}
-use Rattle.sweep_theory.proofs.Tells.{Tells, pick_same, tells_on, tells_first}
+use Rattle.sweep_theory.proofs.Picks.{Picked, Said, said, pick_enough, next_clean}
+use Rattle.sweep_theory.proofs.Tells.{pick_same, tells_on, tells_first}
 
 -- A STATE WITH AN ELIGIBLE PAIR IS NOT FINISHED, on any plan
 pub unfinished : (p : Plan) (s : State) (i j : ℕ) → Positions s i j → eligible p s i j ≡ true → finished p s.frontier ≡ false
@@ -42,13 +43,6 @@ unfinished p s i j o e = go (finished p s.frontier) refl
         let x : below p f (suc i) ≡ south ∷ [] = same-eq (below p f (suc i)) (south ∷ []) (list_all_of (λ (k : ℕ). same_list (below p f k) (south ∷ [])) (from 1 (length f - 2)) q (suc i) y) in
         let m : Memᴰ south (below p f (suc i)) = subst (Memᴰ south) (sym x) (Memᴰ.head refl) in
         both (border south) refl (eligible_clear p s i j o e (suc i) south (omega arith) (omega arith) m).inner
-
--- What holds of each state that the sweep comes to, with its limit and its counters
-pub record Ready (p : Plan) (limit : ℕ) (cnt : List ℕ) (s : State) : Type 0 where
-  pub reached : Reached p s
-  pub limits : Limits p s limit
-  pub clean : Clean p s limit
-  pub tells : Tells p s cnt
 
 module _ (p : Plan) (rules : Sound p) where
   pub ready_first : Ready p (cond (chordless p (first_state p).frontier) (length (first_state p).frontier) 0) (counted p (first_state p).frontier (zeros (context_count p))) (first_state p)

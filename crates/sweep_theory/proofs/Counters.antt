@@ -12,9 +12,9 @@ use Rattle.lists.proofs.Bools.{both, or_no}
 use Rattle.lists.proofs.Tests.{list_any-append, mem-member}
 use Rattle.lists.proofs.Sums.{tally-none}
 use Rattle.model.specs.Plan.{Plan, adjacent, border}
+use Rattle.model.specs.Sound.{Sound}
 use Rattle.model.specs.Sweep.{State, listed, replaced, eligible, advance}
-use Rattle.model.proofs.PlanRules.{Sound}
-use Rattle.model.proofs.Choices.{Positions}
+use Rattle.model.specs.SweepStates.{Positions}
 use Rattle.model.proofs.Eligible.{mem-get_or, below-listed}
 use Rattle.sweep_theory.specs.Local.{touching}
 use Rattle.sweep_theory.proofs.Lines.{at}

@@ -20,9 +20,9 @@ use Rattle.lists.proofs.Once.{Once, once-apart, no_repeat_once}
 use Rattle.lists.proofs.Parts.{squeeze-before}
 use Rattle.lists.proofs.Tests.{repeats-right}
 use Rattle.model.specs.Plan.{Plan, ring, adjacent, next}
+use Rattle.model.specs.Sound.{Sound}
 use Rattle.model.specs.Sweep.{State, below, listed, chordless, eligible}
-use Rattle.model.proofs.PlanRules.{Sound}
-use Rattle.model.proofs.Choices.{Positions}
+use Rattle.model.specs.SweepStates.{Positions}
 use Rattle.model.proofs.Eligible.{get_or-mem, below-listed}
 use Rattle.sweep_theory.proofs.Faces.{Fan}
 use Rattle.sweep_theory.proofs.Lines.{at, fan_at, once-below}

@@ -18,7 +18,7 @@ use Rattle.lists.proofs.Places.{index_at}
 use Rattle.lists.proofs.Once.{Once, no_repeat_once}
 use Rattle.model.specs.Plan.{Plan, adjacent, border}
 use Rattle.model.specs.Sweep.{State, below, listed, replaced, chordless, eligible}
-use Rattle.model.proofs.Choices.{Positions}
+use Rattle.model.specs.SweepStates.{Positions}
 use Rattle.model.proofs.Eligible.{get_or-mem, mem-get_or, chordless-apart, replaced-left, replaced-list, replaced-right, replaced-length, below-listed}
 use Rattle.sweep_theory.proofs.Lines.{at}
 

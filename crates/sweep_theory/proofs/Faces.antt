@@ -10,8 +10,8 @@ use borrow.Author.Tests.{eqb-true, ltb-true, lt-ltb}
 use Rattle.lists.proofs.Bools.{and_yes, both}
 use Rattle.lists.proofs.Once.{Once, no_repeat_once}
 use Rattle.model.specs.Plan.{Plan, ring, adjacent, border, onward, next, step, outer, closes}
+use Rattle.model.specs.Sound.{Sound}
 use Rattle.model.proofs.Plans.{adjacent-mem, mem-adjacent}
-use Rattle.model.proofs.PlanRules.{Sound}
 use Rattle.sweep_theory.proofs.Turns.{cut, onward_seam, Backs}
 
 -- seen from u, x and y are the next two clockwise, y first: so u and y follow each other in x's ring, and x and u in y's

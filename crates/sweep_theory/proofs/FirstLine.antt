@@ -12,9 +12,10 @@ use Rattle.lists.proofs.Bools.{and_yes, both}
 use Rattle.lists.proofs.Members.{mem-reverse, repeats-reverse}
 use Rattle.lists.proofs.Once.{Once, once-apart, no_repeat_once}
 use Rattle.model.specs.Plan.{Plan, ring, adjacent, border, next, outer, north, east, west}
+use Rattle.model.specs.Sound.{Sound}
 use Rattle.model.specs.Sweep.{top, first_state}
 use Rattle.model.proofs.Plans.{mem-adjacent}
-use Rattle.model.proofs.PlanRules.{Sound, inner_ring, border_ring}
+use Rattle.model.proofs.PlanRules.{inner_ring, border_ring}
 use Rattle.model.proofs.Eligible.{get_or-mem}
 use Rattle.sweep_theory.proofs.Turns.{Backs, turns-ring, backs_reverse}
 use Rattle.sweep_theory.proofs.Faces.{Face, face, once-ring}

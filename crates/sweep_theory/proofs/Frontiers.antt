@@ -14,11 +14,10 @@ use Rattle.lists.proofs.Ranges.{lt-or-le}
 use Rattle.lists.proofs.Tests.{mem-member}
 use Rattle.lists.proofs.Members.{mem-take, mem-drop}
 use Rattle.model.specs.Plan.{Plan, adjacent, border, north}
+use Rattle.model.specs.Sound.{Sound}
 use Rattle.model.specs.Sweep.{State, first_state, below, listed, replaced, chordless, eligible, advance}
-use Rattle.model.proofs.PlanRules.{Sound}
-use Rattle.model.proofs.Choices.{Positions, NoneEligible}
+use Rattle.model.specs.SweepStates.{Positions, NoneEligible, Reached, first, further}
 use Rattle.model.proofs.Eligible.{get_or-mem, chordless-apart, replaced-left, replaced-right, replaced-length, below-listed}
-use Rattle.model.proofs.SweepEnds.{Reached, first, further}
 use Rattle.sweep_theory.proofs.Around.{over_wide}
 use Rattle.sweep_theory.proofs.Lines.{Line, at, other_below}
 use Rattle.sweep_theory.proofs.Steps.{line_on}

@@ -2,25 +2,21 @@
 use Prim.Native.Nat.{ℕ, suc, ◌-◌, ◌≤◌, ◌<◌}
 use mathlib.Core.Path.{◌≡◌}
 use mathlib.Core.List.{List}
-use mathlib.Core.Bool.{true, false, not}
+use mathlib.Core.Bool.{false, not}
 use mathlib.Core.Logic.{◌⊎◌, inl, inr}
 use native.Mathlib.Omega.{arith}
 use lib.ListN.{length}
 use borrow.Author.Tests.{not-true}
 use Rattle.lists.proofs.Ranges.{lt-or-le, first_found}
 use Rattle.model.specs.Plan.{Plan}
-use Rattle.model.specs.Sweep.{State, listed, finished, eligible, advance}
-use Rattle.model.proofs.PlanRules.{Sound}
-use Rattle.model.proofs.Choices.{Positions, Chosen}
+use Rattle.model.specs.Sound.{Sound}
+use Rattle.model.specs.Sweep.{State, listed, finished, advance}
+use Rattle.model.specs.SweepStates.{Chosen, Reached}
 use Rattle.model.proofs.Eligible.{replaced-length}
-use Rattle.model.proofs.SweepEnds.{Reached}
 use Rattle.sweep_theory.specs.Quick.{single, landing, reach, resume}
+use Rattle.sweep_theory.specs.Ready.{Limits}
 use Rattle.sweep_theory.proofs.Resumes.{passes_single}
 use Rattle.sweep_theory.proofs.Candidates.{single_not}
-
--- No pair is eligible with j at the limit or larger
-abbrev pub Limits : Plan → State → ℕ → Type 0
-Limits p s limit = (i j : ℕ) → Positions s i j → eligible p s i j ≡ true → j < limit
 
 module _ (p : Plan) (rules : Sound p) (s : State) (r : Reached p s) (u : finished p s.frontier ≡ false) (i j : ℕ) (c : Chosen p s i j) where
   -- the next frontier

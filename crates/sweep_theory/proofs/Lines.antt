@@ -11,9 +11,9 @@ use Rattle.lists.specs.Parts.{index_of}
 use Rattle.lists.proofs.Members.{mem-take, mem-drop, mem-reverse, mem-before}
 use Rattle.lists.proofs.Once.{Once}
 use Rattle.model.specs.Plan.{Plan, ring, adjacent, border, onward, strictly_between}
+use Rattle.model.specs.Sound.{Sound}
 use Rattle.model.specs.Sweep.{below}
 use Rattle.model.proofs.Plans.{adjacent-mem, mem-adjacent}
-use Rattle.model.proofs.PlanRules.{Sound}
 use Rattle.sweep_theory.proofs.Turns.{Backs, strictly_between_backs, once-reverse, once-strictly_between}
 use Rattle.sweep_theory.proofs.Faces.{Fan, fan, once-ring}
 use Rattle.sweep_theory.proofs.Around.{Over, other_side}

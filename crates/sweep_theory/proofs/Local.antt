@@ -16,9 +16,9 @@ use Rattle.lists.proofs.Ranges.{lt-or-le}
 use Rattle.lists.proofs.Tests.{list_all_of, of_list_all, member-mem}
 use Rattle.lists.proofs.Once.{Once}
 use Rattle.model.specs.Plan.{Plan, adjacent, border}
+use Rattle.model.specs.Sound.{Sound}
 use Rattle.model.specs.Sweep.{State, below, listed, chordless, eligible}
-use Rattle.model.proofs.PlanRules.{Sound}
-use Rattle.model.proofs.Choices.{Positions}
+use Rattle.model.specs.SweepStates.{Positions}
 use Rattle.model.proofs.Eligible.{get_or-mem}
 use Rattle.sweep_theory.specs.Quick.{candidate}
 use Rattle.sweep_theory.specs.Local.{touching, low_due, high_due, positions_due, fair, good, local}

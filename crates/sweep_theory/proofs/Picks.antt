@@ -10,16 +10,16 @@ use Rattle.lists.proofs.Bools.{both, and_yes}
 use Rattle.lists.proofs.Ranges.{lt-or-le}
 use Rattle.model.specs.Outcome.{Outcome, accepted, refused}
 use Rattle.model.specs.Plan.{Plan}
+use Rattle.model.specs.Sound.{Sound}
 use Rattle.model.specs.Sweep.{State, chordless, eligible, choices, choose, advance}
-use Rattle.model.proofs.PlanRules.{Sound}
-use Rattle.model.proofs.Choices.{Positions, NoneEligible, Chosen, chosen_taken, none-taken}
-use Rattle.model.proofs.SweepEnds.{Reached}
+use Rattle.model.specs.SweepStates.{Positions, NoneEligible, Chosen, Reached}
+use Rattle.model.proofs.Choices.{chosen_taken, none-taken}
 use Rattle.sweep_theory.specs.Quick.{candidate, open_at}
 use Rattle.sweep_theory.specs.Local.{local, pick}
+use Rattle.sweep_theory.specs.Ready.{Limits, Clean}
 use Rattle.sweep_theory.proofs.Frontiers.{flat, clean}
 use Rattle.sweep_theory.proofs.Eligibility.{no_chord}
 use Rattle.sweep_theory.proofs.Candidates.{candidate-below, candidate_largest, candidate-eligible, open_right, open_two}
-use Rattle.sweep_theory.proofs.Limits.{Limits}
 use Rattle.sweep_theory.proofs.Local.{local_is}
 
 -- ---- what is picked
@@ -65,10 +65,6 @@ module _ (p : Plan) (s : State) where
           let (a, b) = and_yes (open_at p f n) (local p s n) e in
           record { below_n = omega arith; opened = a; passes = b; left = refl; none = λ j x y o. absurd (omega arith) }
       go false e h = more (pick p s n) (λ o. sym (ap (λ (t : Bool). t && local p s n) o) ∙ e) h
-
--- A state whose frontier has no chord, or from which nothing is tried
-abbrev pub Clean : Plan → State → ℕ → Type 0
-Clean p s limit = 0 < limit → chordless p s.frontier ≡ true
 
 -- ---- one step
 module _ (p : Plan) (rules : Sound p) (s : State) (r : Reached p s) (limit : ℕ) (lim : Limits p s limit) (c : Clean p s limit) where

@@ -15,11 +15,10 @@ use Rattle.lists.proofs.Bools.{both, or_no}
 use Rattle.lists.proofs.Ranges.{lt-or-le}
 use Rattle.lists.proofs.Tests.{list_any-append, mem-member}
 use Rattle.model.specs.Plan.{Plan, ring, adjacent, strictly_between}
+use Rattle.model.specs.Sound.{Sound}
 use Rattle.model.specs.Sweep.{State, finished, below, listed, replaced, eligible, advance}
-use Rattle.model.proofs.PlanRules.{Sound}
-use Rattle.model.proofs.Choices.{Positions, Chosen}
+use Rattle.model.specs.SweepStates.{Positions, Chosen, Reached, further}
 use Rattle.model.proofs.Eligible.{replaced-left, replaced-right, replaced-length, below-listed}
-use Rattle.model.proofs.SweepEnds.{Reached, further}
 use Rattle.sweep_theory.specs.Quick.{landing}
 use Rattle.sweep_theory.proofs.Lines.{at}
 use Rattle.sweep_theory.proofs.Strips.{raw}

@@ -10,8 +10,8 @@ use borrow.Author.Tests.{eq-eqb, ne_eqb}
 use Rattle.lists.specs.Parts.{squeeze, squeeze_after}
 use Rattle.lists.proofs.Once.{Once}
 use Rattle.model.specs.Plan.{Plan}
+use Rattle.model.specs.Sound.{Sound}
 use Rattle.model.specs.Sweep.{below, listed}
-use Rattle.model.proofs.PlanRules.{Sound}
 use Rattle.sweep_theory.proofs.Faces.{Fan}
 use Rattle.sweep_theory.proofs.Lines.{Line, at, fan_at, once-below}
 use Rattle.sweep_theory.proofs.Strips.{raw}

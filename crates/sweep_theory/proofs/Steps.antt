@@ -10,8 +10,8 @@ use lib.Seq.{get_or-append_seam}
 use Rattle.lists.specs.Tests.{is_empty}
 use Rattle.lists.proofs.Ranges.{lt-or-le}
 use Rattle.model.specs.Plan.{Plan, ring, adjacent, border, next}
+use Rattle.model.specs.Sound.{Sound}
 use Rattle.model.specs.Sweep.{below, listed, replaced}
-use Rattle.model.proofs.PlanRules.{Sound}
 use Rattle.model.proofs.Eligible.{get_or-mem, replaced-left, replaced-list, replaced-right, replaced-length}
 use Rattle.sweep_theory.proofs.Around.{Over, one, more, over_join}
 use Rattle.sweep_theory.proofs.Lines.{Line, at}

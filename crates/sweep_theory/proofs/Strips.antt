@@ -12,8 +12,8 @@ use Rattle.lists.specs.Ranges.{from}
 use Rattle.lists.specs.Parts.{flatten, squeeze, squeeze_after}
 use Rattle.lists.proofs.Bools.{both}
 use Rattle.model.specs.Plan.{Plan, ring, adjacent, next}
+use Rattle.model.specs.Sound.{Sound}
 use Rattle.model.specs.Sweep.{below, listed}
-use Rattle.model.proofs.PlanRules.{Sound}
 use Rattle.sweep_theory.proofs.Faces.{Face, Fan}
 use Rattle.sweep_theory.proofs.Around.{Over, one, over_join}
 use Rattle.sweep_theory.proofs.Lines.{Line, at, fan_at}

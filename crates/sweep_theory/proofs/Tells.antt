@@ -19,13 +19,13 @@ use Rattle.lists.proofs.Sums.{tally-none}
 use Rattle.lists.proofs.Once.{Once}
 use Rattle.model.specs.Outcome.{accepted}
 use Rattle.model.specs.Plan.{Plan, context_count, ring, adjacent, border}
+use Rattle.model.specs.Sound.{Sound}
 use Rattle.model.specs.Sweep.{State, first_state, below, listed, chordless, advance}
-use Rattle.model.proofs.PlanRules.{Sound}
-use Rattle.model.proofs.Choices.{Chosen}
-use Rattle.model.proofs.SweepEnds.{Reached}
+use Rattle.model.specs.SweepStates.{Chosen, Reached}
 use Rattle.sweep_theory.specs.Quick.{candidate, open_at}
 use Rattle.sweep_theory.specs.Local.{touching, positions_due, fair, good, local, pick}
 use Rattle.sweep_theory.specs.Counter.{raised, counted, fair_by, good_by, local_by, pick_by}
+use Rattle.sweep_theory.specs.Ready.{Tells}
 use Rattle.sweep_theory.proofs.Faces.{once-ring}
 use Rattle.sweep_theory.proofs.Lines.{at, below_near}
 use Rattle.sweep_theory.proofs.Frontiers.{flat}
@@ -80,11 +80,6 @@ counted_size p (e ∷ l) cnt = counted_size p l (raised (ring p e) cnt) ∙ rais
 pub all_same : (f g : ℕ → Bool) (l : List ℕ) → ((c : ℕ) → Memᴰ c l → f c ≡ g c) → list_all f l ≡ list_all g l
 all_same f g [] h = refl
 all_same f g (c ∷ l) h = λ i. h c (Memᴰ.head refl) i && all_same f g l (λ d m. h d (Memᴰ.tail m)) i
-
--- The counters tell what touches each context that never was on the frontier
-pub record Tells (p : Plan) (s : State) (cnt : List ℕ) : Type 0 where
-  pub size : length cnt ≡ context_count p
-  pub tells : (c : ℕ) → c < context_count p → border c ≡ false → member c s.seen ≡ false → get_or cnt c 0 ≡ touching p s.frontier c
 
 module _ (p : Plan) (rules : Sound p) where
   pub counted_at : (l cnt : List ℕ) (c : ℕ) → c < length cnt → get_or (counted p l cnt) c 0 ≡ get_or cnt c 0 + touching p l c

@@ -2,3 +2,4 @@ pub mod Quick
 pub mod Local
 pub mod Counter
 pub mod Cost
+pub mod Ready

@@ -5,7 +5,7 @@ use native.Mathlib.Omega.{arith}
 use Rattle.lists.specs.Spans.{zero_padded}
 use Rattle.model.specs.Outcome.{mapped}
 use Rattle.model.specs.Plan.{Plan}
-use Rattle.model.proofs.PlanRules.{Sound}
+use Rattle.model.specs.Sound.{Sound}
 use Rattle.rings.specs.Tables.{starts_of}
 use Rattle.rings.proofs.Rows.{as_table, count-rows}
 use Rattle.plan_bounds.specs.Fits.{fit}
