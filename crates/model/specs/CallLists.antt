@@ -37,13 +37,13 @@ pub data Ledger : Type 0 where
   plan_only : Plan → Ledger
   both : Plan → List ℕ → Ledger
 
--- without a plan the stage counts as EMPTY, with a plan and no labels as OPEN, else as LABELLED
+-- the ledger's plan, or 13: without a plan the stage counts as EMPTY, with a plan and no labels as OPEN, else as LABELLED
 unfoldable pub ledger_plan : Ledger → Outcome Plan
 ledger_plan neither = refused 13 0
 ledger_plan (plan_only p) = accepted p
 ledger_plan (both p ls) = accepted p
 
--- the ledger's plan and labels
+-- the ledger's plan and labels, or 13
 unfoldable pub ledger_labels : Ledger → Outcome (Plan × List ℕ)
 ledger_labels neither = refused 13 0
 ledger_labels (plan_only p) = refused 13 0
@@ -76,7 +76,7 @@ enter g draw_chart = do
   chart p ls
   accepted g
 
--- chart and refused calls enter nothing
+-- the ledger after a list of calls; chart and refused calls enter nothing
 unfoldable pub ledger : Ledger → List Call → Ledger
 ledger g [] = g
 ledger g (c ∷ cs) = ledger (taken g (enter g c)) cs

@@ -62,7 +62,7 @@ offered p ls = do
   label_rules p ls
   accepted ls
 
--- offer, sweep and turn (LABELLED afterwards, the chart dropped)
+-- offer takes labels (LABELLED afterwards, the chart dropped, as after sweep and turn)
 unfoldable pub offer_call : Sheet → List ℕ → Outcome Sheet
 offer_call s ls = do
   p ← require_plan s

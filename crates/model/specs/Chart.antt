@@ -1,5 +1,5 @@
 -- Placement and chart: the compass rules, and the least placement that keeps them.
--- Standard terms: a placement is a straight-line grid drawing; the compass rules are difference constraints, and the chart is their least solution.
+-- Standard terms: a chart is a straight-line grid drawing; the compass rules are difference constraints, and the chart is their least solution.
 use Rattle.std.specs.Prelude.{ℕ, zero, suc, ◌+◌, ◌*◌, ◌≤◌, ◌<◌, max, ◌≡◌, List, [], ◌∷◌, ◌++◌, map, Bool, true, cond, ◌&&◌, length, get_or, set, replicate, eqb, leb}
 use Rattle.std.specs.List.{list_all}
 use Rattle.lists.specs.Tests.{same_list}
@@ -37,7 +37,7 @@ meets ks d = leb (get_or ks d.low 0 + d.gap) (get_or ks d.high 0)
 abbrev pub constraint : ℕ → ℕ → ℕ → Constraint
 constraint u v g = record { low = u; high = v; gap = g }
 
--- The compass rules, with the slope s that a line must at least have (0: it may be upright or level).
+-- The compass rules, with a number s that says how far a line must at least lean (0: it may be upright or level).
 -- Along an up dart from u to v, x does not fall (rises by s) and y rises; along a right dart x rises and y does not rise (falls by s).
 -- what a dart with label l asks of x
 unfoldable pub x_constraint : ℕ → ℕ → Dart → List Constraint
@@ -66,14 +66,14 @@ is_placement s p ls c =
     && is_at c south 0 0 && is_at c west 0 c.h && is_at c north c.w c.h && is_at c east c.w 0
     && list_all (meets c.xs) (x_constraints s p ls) && list_all (meets c.ys) (y_constraints s p ls)
 
--- The chart is, among the placements, the one in which every x, every y, w and h is least
+-- Every number of c is at most that of d: w, h, and x and y of each of n contexts
 pub record AtMost (n : ℕ) (c d : Chart) : Type 0 where
   pub w_least : c.w ≤ d.w
   pub h_least : c.h ≤ d.h
   pub x_least : (u : ℕ) → u < n → x c u ≤ x d u
   pub y_least : (u : ℕ) → u < n → y c u ≤ y d u
 
--- c is a placement, and every number of it is at most that of every placement
+-- The chart is, among the placements that keep the compass rules, the one in which every x, every y, w and h is least
 pub record IsChart (s : ℕ) (p : Plan) (ls : List ℕ) (c : Chart) : Type 0 where
   pub keeps : is_placement s p ls c ≡ true
   pub least : (d : Chart) → is_placement s p ls d ≡ true → AtMost (context_count p) c d
@@ -108,7 +108,7 @@ least_placement s p ls = do
   let c : Chart = record { w = get_or xs north 0; h = get_or ys north 0; xs = xs; ys = ys } in
       require (is_placement s p ls c) 11 0 >> accepted c
 
--- The slope that a chart's lines must at least have
+-- How far a chart's lines must at least lean: they may be upright or level
 unfoldable pub slope : ℕ
 slope = 0
 

@@ -14,12 +14,12 @@ pub data Sheet : Type 0 where
   labelled : Plan → List ℕ → Sheet
   charted : Plan → List ℕ → Chart → Sheet
 
--- A place in a file: its offset, and the bytes from there on
+-- How far a file is read: the offset, and the bytes from there on
 pub record Cursor : Type 0 where
   pub at : ℕ
   pub rest : List ℕ
 
--- a record's body, and the place behind the record
+-- a record's body, and how far the file is read with it
 abbrev pub Framed : Type 0
 Framed = List ℕ × Cursor
 
@@ -103,7 +103,7 @@ decode b = do
   parts ← frame_rest (optional p) d
   accepted (sheet_of p parts)
 
--- a record written
+-- a record written: length, kind, body
 unfoldable pub entry : ℕ → List ℕ → List ℕ
 entry kind body = bytes ((2 + length body) ∷ kind ∷ []) ++ body
 

@@ -44,7 +44,7 @@ pub record Point : Type 0 where
   pub q : ℕ
   pub d : ℕ
 
--- doubled area of the triangle from a to b to the point, after multiplying by d
+-- doubled area of the triangle that a dart's ends make with the point, after multiplying by d
 unfoldable pub side : Chart → Point → Dart → ℤ
 side k t e =
     let ax = x k e.0 * t.d in

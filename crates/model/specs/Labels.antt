@@ -47,7 +47,7 @@ label_of p ls u v = get_or (labels_around p ls u) (index_of v (ring p u)) unlabe
 abbrev pub turned : ℕ → ℕ → ℕ
 turned l quarters = (l + quarters) % 4
 
--- 4 stands between border contexts, and only there; elsewhere a dart and its reverse differ by two quarters
+-- the dart from u to v breaks this: 4 stands between border contexts, and only there; elsewhere a dart and its reverse differ by two quarters
 unfoldable pub bad_dart : Plan → List ℕ → ℕ → ℕ → Bool
 bad_dart p ls u v =
     let l = label_of p ls u v in

@@ -1,5 +1,5 @@
 -- Contexts, rings, faces: the plan, and the plan rules 4 to 9.
--- Standard terms: a plan is a rotation system on a graph. A context is a vertex, a contact an edge, a ring the clockwise rotation at a vertex, a dart a directed edge, a face an orbit of the face step.
+-- Standard terms: a plan that keeps 4, 5 and 6 is a rotation system of a simple graph. A context is a vertex, a contact an edge, a ring the clockwise rotation at a vertex, a dart a directed edge, a face an orbit of the face step.
 use Rattle.std.specs.Prelude.{ℕ, suc, ◌+◌, ◌-◌, ◌*◌, ◌%◌, List, [], ◌∷◌, ◌++◌, map, Bool, cond, not, ◌&&◌, ◌||◌, length, get_or, take, drop, eqb, ltb, leb}
 use Rattle.std.specs.List.{list_any}
 use Rattle.lists.specs.Tests.{member, repeats}
@@ -71,7 +71,7 @@ darts p = flatten (map (darts_from p) (contexts p))
 abbrev pub same_dart : Dart → Dart → Bool
 same_dart d e = eqb d.0 e.0 && eqb d.1 e.1
 
--- a ring read clockwise from the entry after a, round to the entry before a
+-- a ring read clockwise from the entry after a, round to the entry before a; all of it, if a is not in it
 unfoldable pub onward : ℕ → List ℕ → List ℕ
 onward a r = drop (suc (index_of a r)) r ++ take (index_of a r) r
 
@@ -111,15 +111,15 @@ unreturned p u = list_any (λ (v : ℕ). not (adjacent p v u)) (ring p u)
 unfoldable pub entry_count : Plan → ℕ
 entry_count p = length (flatten p.rings)
 
--- how many entries a plan of n contexts has
+-- how many entries a plan of n contexts must have
 abbrev pub dart_count : ℕ → ℕ
 dart_count n = 6 * n - 14
 
--- how many labels a plan takes: one for each of its darts
+-- how many labels a plan takes: one for each of its darts, if it keeps 7
 abbrev pub labels_due : Plan → ℕ
 labels_due p = dart_count (context_count p)
 
--- 8: a border ring begins with the next border context and ends with the one before; the one across is no neighbour
+-- 8: a border ring does not begin with the next border context or does not end with the one before, or it lists the one across
 unfoldable pub bad_border : Plan → ℕ → Bool
 bad_border p u =
     let r = ring p u in
@@ -143,7 +143,7 @@ plan_rules p = do
 abbrev pub Face : Type 0
 Face = List ℕ
 
--- the walk that begins with a dart
+-- the walk of three darts that begins with this one
 unfoldable pub walk : Plan → Dart → Face
 walk p d = d.0 ∷ d.1 ∷ (step p d).1 ∷ []
 

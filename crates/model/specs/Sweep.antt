@@ -38,7 +38,7 @@ first_state p =
     let f = west ∷ top p ++ (east ∷ []) in
     record { frontier = f; seen = f; labels = label_edges p up (all_pairs (top p) (north ∷ [])) (bare_labels p) }
 
--- Below a frontier context: the entries strictly between its right and its left frontier neighbour, clockwise, read in reverse
+-- Below the context at position k of a frontier: the entries of its ring strictly between its right and its left frontier neighbour, clockwise, read in reverse
 unfoldable pub below : Plan → List ℕ → ℕ → List ℕ
 below p f k = reverse (strictly_between (get_or f (suc k) 0) (get_or f (k - 1) 0) (ring p (get_or f k 0)))
 

@@ -38,7 +38,7 @@ ring_d k = map (λ (j : ℕ). 5 + (k + j) % 7) (1 ∷ 3 ∷ 2 ∷ 6 ∷ 4 ∷ 5 
 abbrev pub D : Plan
 D = record { rings = rings_a ++ map ring_d ks }
 
--- A's labels, then the torus labelled 0,0,1,2,2,3
+-- labels of A, then the torus labelled 0,0,1,2,2,3
 abbrev pub labels_d : List ℕ → List ℕ
 labels_d ls = ls ++ flatten (map (λ (k : ℕ). 0 ∷ 0 ∷ 1 ∷ 2 ∷ 2 ∷ 3 ∷ []) ks)
 

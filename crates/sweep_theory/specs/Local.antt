@@ -7,7 +7,7 @@ use Rattle.model.specs.Plan.{Plan, adjacent, border}
 use Rattle.model.specs.Sweep.{State, below, chordless}
 use Rattle.sweep_theory.specs.Quick.{candidate, open_at}
 
--- how many contexts of a line touch c
+-- how many contexts of a frontier touch c
 unfoldable pub touching : Plan → List ℕ → ℕ → ℕ
 touching p f c = tally (λ (u : ℕ). adjacent p u c) f
 
