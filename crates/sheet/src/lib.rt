@@ -131,7 +131,10 @@ impl<'a> Fitting<'a> {
     // The sheet's plan, as one that fits.
     #[tactic(auto, unfolding(crate::specs::Sheets::fits))]
     pub fn fit(&self) -> Fit<'a>
-        ensures { table_of result.plan ≡ held_plan self.now.sheet.now }
+        ensures sizes { result.plan.sizes.now ≡ self.now.sheet.now.sizes }
+        ensures entries { result.plan.entries.now ≡ self.now.sheet.now.entries }
+        ensures n { result.plan.n ≡ self.now.sheet.now.n }
+        ensures plan { table_of result.plan ≡ held_plan self.now.sheet.now }
     {
         Fit { plan: self.plan() }
     }

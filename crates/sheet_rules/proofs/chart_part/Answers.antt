@@ -7,11 +7,11 @@ returns-then-same_chart c =
     let s = c.args.fitting.now.sheet.now in
     let d = c.in_ok-drawn in
     let k = c.points-2.ensures in
-    compared s d.drawn c.points.result c.points-2.result d.ensures c.fit.ensures c.labels.ensures c.from-n.ensures c.points.ensures.chart (k.w, k.h, k.xs, k.ys) c.if-same_chart.ensures
+    compared s d.drawn c.points.result c.points-2.result d.ensures c.fit.ensures.plan c.labels.ensures c.from-n.ensures c.points.ensures.chart (k.w, k.h, k.xs, k.ys) c.if-same_chart.ensures
 
 pub returns-else-same_chart : goal.returns-else-same_chart
 returns-else-same_chart c =
     let s = c.args.fitting.now.sheet.now in
     let d = c.in_ok-drawn in
     let k = c.points-2.ensures in
-    compared s d.drawn c.points.result c.points-2.result d.ensures c.fit.ensures c.labels.ensures c.from-n.ensures c.points.ensures.chart (k.w, k.h, k.xs, k.ys) c.if-same_chart.ensures
+    compared s d.drawn c.points.result c.points-2.result d.ensures c.fit.ensures.plan c.labels.ensures c.from-n.ensures c.points.ensures.chart (k.w, k.h, k.xs, k.ys) c.if-same_chart.ensures

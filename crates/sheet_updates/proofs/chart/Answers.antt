@@ -12,4 +12,4 @@ returns c =
     let d = c.in_ok-drawn in
     let k = c.points.ensures in
     let reached = fitting_reached s 2 c.require_fitting.result c.require_fitting.ensures.answer p.fitting p.was in
-    chart-call-stored s c.points.result c.charted.ensures p.ensures.lent (k.w, k.h, k.xs, k.ys) d.ensures reached c.fit.ensures c.labels.ensures
+    chart-call-stored s c.points.result c.charted.ensures p.ensures.lent (k.w, k.h, k.xs, k.ys) d.ensures reached c.fit.ensures.plan c.labels.ensures

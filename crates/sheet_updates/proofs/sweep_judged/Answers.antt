@@ -11,4 +11,4 @@ invariant_of-ruled c =
     let s = c.args.judged.sheet in
     let p = c.in_ok-fitting in
     let reached = fitting_reached s 1 c.require_fitting.result c.require_fitting.ensures.answer p.fitting p.was in
-    record { kept = ap plan_rules (c.fit.ensures ∙ ap held_plan p.ensures.lent) ∙ rules_there s reached c.args.judged.kept }
+    record { kept = ap plan_rules (c.fit.ensures.plan ∙ ap held_plan p.ensures.lent) ∙ rules_there s reached c.args.judged.kept }
