@@ -58,10 +58,6 @@ module _ (starts sizes es : List ℕ) (n : ℕ) (same : starts ≡ starts_of siz
   unfolding table
   is-table = ap (λ (l : List ℕ). rows l sizes es n) same
 
-  -- where u's labels begin, by the sizes alone
-  pub start-table : (u : ℕ) → u ≤ n → start (table sizes es n) u ≡ start_of sizes u
-  start-table u h = ap (λ (p : Plan). start p u) (sym is-table) ∙ start-rows u h
-
   -- only a context has a ring
   within : (u i : ℕ) → i < size_of sizes n u → u < n
   within u i h = go (ltb u n) refl
