@@ -9,12 +9,12 @@ ghost use Rattle.ring_positions.specs.Positions.{positions_filled, Finds};
 use file_rings::FileRings;
 use refusal::Refusal;
 
-// Rings in a lent file, with a table in which the place of each of their entries stands.
+// Rings in a lent file, with a table in which the position of each of their entries stands.
 #[derive(Clone, Copy)]
 struct Located<'a> {
     rings: FileRings<'a>,
-    places: &'a [u8],
-    ghost own: { Finds places.now (plan_of_file rings) },
+    positions: &'a [u8],
+    ghost own: { Finds positions.now (plan_of_file rings) },
 }
 
 impl Located<'_> {
@@ -23,7 +23,7 @@ impl Located<'_> {
         ensures { result ≡ adjacent (plan_of_file self.now.rings) u v }
     {
         match rings::cell(u, v) {
-            Some(at) => arrays::number_at(self.places, at) != 0,
+            Some(at) => arrays::number_at(self.positions, at) != 0,
             None => self.rings.is_from(u, v, 0),
         }
     }
@@ -53,11 +53,11 @@ pub fn each_returned<const N: usize>(rings: &FileRings) -> Result<(), Refusal>
     requires { (200 * min rings.now.n 200 ≤ N) × (N ≤ 40000) }
     ensures { outcome_of result ≡ rule 6 rings.now.n (unreturned (plan_of_file rings.now)) }
 {
-    let mut places = [0u8; N];
-    fill(&mut places, rings);
+    let mut positions = [0u8; N];
+    fill(&mut positions, rings);
     let located = Located {
         rings: *rings,
-        places: &places,
+        positions: &positions,
     };
     refusal::none_of(rings.n, |u| located.unreturned(u), Refusal::OneSidedEntry)
 }

@@ -27,23 +27,23 @@ use Rattle.ring_positions.specs.Positions.{position, cell_at, has_cell, position
 
 -- ---- the table cell by cell
 -- the table's length
-pub length_places : (p : Plan) → length (positions_of p) ≡ 40000
+pub length_positions : (p : Plan) → length (positions_of p) ≡ 40000
 unfolding positions_of
-length_places p = length-map-from (λ (k : ℕ). position (k % 200) (ring p (k / 200))) 0 40000
+length_positions p = length-map-from (λ (k : ℕ). position (k % 200) (ring p (k / 200))) 0 40000
 
 -- what stands at a number below 40000
-places_at : (p : Plan) (k : ℕ) → k < 40000 → get_or (positions_of p) k 0 ≡ position (k % 200) (ring p (k / 200))
+positions_at : (p : Plan) (k : ℕ) → k < 40000 → get_or (positions_of p) k 0 ≡ position (k % 200) (ring p (k / 200))
 unfolding positions_of
-places_at p k h = get_or-map-from (λ (k : ℕ). position (k % 200) (ring p (k / 200))) 0 40000 k 0 h ∙ (let z : 0 + k ≡ k = omega arith in λ i. position (z i % 200) (ring p (z i / 200)))
+positions_at p k h = get_or-map-from (λ (k : ℕ). position (k % 200) (ring p (k / 200))) 0 40000 k 0 h ∙ (let z : 0 + k ≡ k = omega arith in λ i. position (z i % 200) (ring p (z i / 200)))
 
 -- the cell of an entry of a ring
-pub places_cell : (p : Plan) (u v : ℕ) → u < 200 → v < 200 → get_or (positions_of p) (cell_at u v) 0 ≡ position v (ring p u)
-places_cell p u v h k =
+pub positions_cell : (p : Plan) (u v : ℕ) → u < 200 → v < 200 → get_or (positions_of p) (cell_at u v) 0 ≡ position v (ring p u)
+positions_cell p u v h k =
     let d : (200 * u + v) / 200 ≡ u = omega arith in
     let m : (200 * u + v) % 200 ≡ v = omega arith in
-    places_at p (cell_at u v) (omega arith) ∙ (λ i. position (m i) (ring p (d i)))
+    positions_at p (cell_at u v) (omega arith) ∙ (λ i. position (m i) (ring p (d i)))
 
--- ---- the place of an entry in a list with one more at its end
+-- ---- the position of an entry in a list with one more at its end
 -- an entry that is there keeps its index
 index_kept : (v : ℕ) (l m : List ℕ) → member v l ≡ true → index_of v (l ++ m) ≡ index_of v l
 index_kept v [] m e = absurd (false≢true e)
@@ -59,7 +59,7 @@ index_new v [] e = rw (eq-eqb v v refl)
 index_new v (a ∷ l) e = let (x, y) = or_no (eqb v a) (member v l) e in rw x (ap suc (index_new v l y))
 
 module _ (v : ℕ) (l : List ℕ) where
-  -- an entry that is not there has place 0
+  -- an entry that is not there has position 0
   pub position_absent : member v l ≡ false → position v l ≡ 0
   unfolding position
   position_absent e = rw e
@@ -69,17 +69,17 @@ module _ (v : ℕ) (l : List ℕ) where
   unfolding position
   position-present e = rw e
 
-  -- an entry that is there keeps its place
+  -- an entry that is there keeps its position
   position_kept : (m : List ℕ) → member v l ≡ true → position v (l ++ m) ≡ position v l
   unfolding position
   position_kept m e = rw (list_any-append (eqb v) l m, e) (ap suc (index_kept v l m e))
 
-  -- one that was not there has the place behind the list
+  -- one that was not there has the position behind the list
   position_new : member v l ≡ false → position v (l ++ (v ∷ [])) ≡ suc (length l)
   unfolding position
   position_new e = rw (list_any-append (eqb v) l (v ∷ []), e, eq-eqb v v refl) (ap suc (index_new v l e))
 
-  -- every other entry keeps its place
+  -- every other entry keeps its position
   position_other : (w : ℕ) → (v ≡ w → ⊥) → position v (l ++ (w ∷ [])) ≡ position v l
   unfolding position
   position_other w h = go (member v l) refl
@@ -158,7 +158,7 @@ over_zero x = go (eqb x 0) refl
     go true e = over_none 0 (eqb-true x 0 e) ∙ sym (eqb-true x 0 e)
     go false e = over-some 0 (eqb-false x 0 e)
 
--- nor to the place of an entry where there are none
+-- nor to the position of an entry where there are none
 over_bare : (x v : ℕ) → over x (position v []) ≡ x
 over_bare x v = ap (over x) (position_absent v [] refl) ∙ over_zero x
 
@@ -286,10 +286,10 @@ module _ {p : Plan} {t₀ : List ℕ} {u i : ℕ} {t : List ℕ} (inv : Notes p 
           let a : k / 200 < 200 = omega arith in
           let b : k % 200 < 200 = omega arith in
           let here = by_ring (k / 200) (k % 200) a b (omega arith) (ltb (k / 200) u) (eqb (k / 200) u) refl refl in
-          ap (λ (j : ℕ). get_or t j 0) (sym s) ∙ here ∙ ap (λ (j : ℕ). over (get_or t₀ j 0) (position (k % 200) (ring p (k / 200)))) s ∙ ap (over (get_or t₀ k 0)) (sym (places_at p k m))
+          ap (λ (j : ℕ). get_or t j 0) (sym s) ∙ here ∙ ap (λ (j : ℕ). over (get_or t₀ j 0) (position (k % 200) (ring p (k / 200)))) s ∙ ap (over (get_or t₀ k 0)) (sym (positions_at p k m))
       each-cell k h false e =
           let m = ltb-false k 40000 e in
-          let l = length_places p in
+          let l = length_positions p in
           inv.beyond k m ∙ sym (ap (over (get_or t₀ k 0)) (sym (past (positions_of p) k (omega arith))) ∙ over_zero (get_or t₀ k 0))
 
 -- A table that was all 0 finds the entries once it is filled, where it has a row for each context, or 200 rows
@@ -309,7 +309,7 @@ finds-filled p {k = k} {old} {t} size room none is u v h l = ap (λ (t : List �
         get_or-map-from fresh 0 (length old) (cell_at u v) 0 (omega (arith, long))
         ∙ ap fresh (let z : 0 + cell_at u v ≡ cell_at u v = omega arith in z)
         ∙ over_none (get_or (positions_of p) (cell_at u v) 0) (ap (λ (s : List ℕ). get_or s (cell_at u v) 0) none ∙ get_or-zeros k (cell_at u v))
-        ∙ places_cell p u v h l
+        ∙ positions_cell p u v h l
     go false e =
         let m = ltb-false (cell_at u v) k e in
         sym (past (map fresh (from 0 (length old))) (cell_at u v) (omega (arith, length-map-from fresh 0 (length old), long))) ∙ sym (bare p u v (omega arith))

@@ -9,7 +9,7 @@ use Rattle.model.specs.Plan.{Plan, ring}
 unfoldable pub position : ℕ → List ℕ → ℕ
 position v r = cond (member v r) (suc (index_of v r)) 0
 
--- where the place of v in u's ring stands in the table
+-- the cell of the table in which the position of v in u's ring stands
 abbrev pub cell_at : ℕ → ℕ → ℕ
 cell_at u v = 200 * u + v
 
@@ -33,6 +33,6 @@ over x y = cond (eqb x 0) y x
 unfoldable pub positions_filled : Plan → List ℕ → List ℕ
 positions_filled p t = map (λ (k : ℕ). over (get_or t k 0) (get_or (positions_of p) k 0)) (from 0 (length t))
 
--- The law of a table: in the cell of a ring below 200 and an entry below 200 the entry's place stands; past its end a table reads 0
+-- The law of a table: in the cell of a ring below 200 and an entry below 200 the entry's position stands; past its end a table reads 0
 abbrev pub Finds : List ℕ → Plan → Type 0
 Finds t p = (u v : ℕ) → u < 200 → v < 200 → get_or t (cell_at u v) 0 ≡ position v (ring p u)

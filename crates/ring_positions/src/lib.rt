@@ -9,12 +9,12 @@ ghost use Rattle.ring_positions.specs.Positions.{noted, positions_filled, Finds}
 
 use rings::Rings;
 
-// Rings with a table in which the place of each of their entries stands.
+// Rings with a table in which the position of each of their entries stands.
 #[derive(Clone, Copy)]
 pub struct Located<'a> {
     pub rings: Rings<'a>,
-    pub places: &'a [u8],
-    pub ghost own: { Finds places.now (plan_of rings) },
+    pub positions: &'a [u8],
+    pub ghost own: { Finds positions.now (plan_of rings) },
 }
 
 // A number noted for the entry v of u's ring, where none is noted yet; rings and entries from 200 on are passed over.
@@ -61,7 +61,7 @@ impl Located<'_> {
         let Some(cell) = rings::cell(u, v) else {
             return ring_search::index_of(&self.rings, u, v);
         };
-        let Some(i) = arrays::number_at(self.places, cell).checked_sub(1) else {
+        let Some(i) = arrays::number_at(self.positions, cell).checked_sub(1) else {
             return self.rings.size_of(u);
         };
         i
@@ -72,7 +72,7 @@ impl Located<'_> {
         ensures { result ≡ adjacent (plan_of self.now.rings) u v }
     {
         match rings::cell(u, v) {
-            Some(at) => arrays::number_at(self.places, at) != 0,
+            Some(at) => arrays::number_at(self.positions, at) != 0,
             None => ring_search::is_adjacent(&self.rings, u, v),
         }
     }

@@ -115,11 +115,11 @@ fn scan_in<const N: usize>(fit: &Fit) -> Option<(usize, usize, usize)>
     let starts = rings::starts_of(plan.sizes);
     let rings = plan.rings(&starts);
     ring_successors::fill(&mut table, &rings);
-    let followed = WithSuccessors {
+    let with_successors = WithSuccessors {
         rings,
         table: &table,
     };
-    followed.scan()
+    with_successors.scan()
 }
 
 // The smallest triple a < b < c, by a, then b, then c, of mutual neighbours that are no inner face. A small plan has a small table.

@@ -39,19 +39,19 @@ fn swept_in<const N: usize>(fit: &Fit, ruled: bool) -> Result<[u8; 1186], Refusa
     requires room { (200 * fit.now.plan.n ≤ N) × (N ≤ 40000) }
     ensures { outcome_of result ≡ mapped (zero_padded 1186) (swept (table_of fit.now.plan)) }
 {
-    let mut places = [0u8; N];
+    let mut positions = [0u8; N];
     let plan = fit.plan;
     let starts = rings::starts_of(plan.sizes);
     let rings = plan.rings(&starts);
-    ring_positions::fill(&mut places, &rings);
+    ring_positions::fill(&mut positions, &rings);
     let located = Located {
         rings,
-        places: &places,
+        positions: &positions,
     };
     let guided = Guided { located };
     if ruled {
-        let swift = CountingSweep { guided };
-        return swift.run();
+        let counting = CountingSweep { guided };
+        return counting.run();
     }
     sweep_by_definition::run(&guided)
 }

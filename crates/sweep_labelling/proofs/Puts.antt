@@ -1,4 +1,4 @@
--- A label put where the starts of the rings and the place of an entry say is put where the model has it.
+-- A label put where the starts of the rings and the position of an entry say is put where the model has it.
 use Prim.Native.Nat.{ℕ, ◌+◌, ◌-◌}
 use mathlib.Core.Path.{◌≡◌, refl, sym, ap, ◌∙◌}
 use mathlib.Core.List.{List}

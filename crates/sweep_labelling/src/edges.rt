@@ -18,7 +18,7 @@ impl Guided<'_> {
         let Some(cell) = rings::cell(u, v) else {
             return;
         };
-        if let Some(i) = arrays::number_at(self.located.places, cell).checked_sub(1) {
+        if let Some(i) = arrays::number_at(self.located.positions, cell).checked_sub(1) {
             arrays::put(
                 labels,
                 arrays::number_at(self.located.rings.starts, u) + i,

@@ -38,7 +38,7 @@ chunk_is (a ∷ []) (suc m) k h w e f = absurd (omega arith)
 chunk_is (a ∷ b ∷ l) (suc m) zero h w e f = λ i. dart (sym e i) (sym f i)
 chunk_is (a ∷ b ∷ l) (suc m) (suc k) h w e f = chunk_is l m k (omega arith) (omega arith) e f
 
--- ---- the place of a dart's label in an array
+-- ---- the position of a dart's label in an array
 module _ (r : Rings) (fits : fit (plan_of r) ≡ true) (same : r.starts.now ≡ starts_of r.sizes.now) where
   small : r.n ≤ 200
   small =
@@ -64,9 +64,9 @@ module _ (r : Rings) (fits : fit (plan_of r) ≡ true) (same : r.starts.now ≡ 
     unfolding label_position
     position_missing h = sym (rw (dart_test r.starts.now r.sizes.now r.entries.now r.n same small u v from-s at size ∙ le-ltb i k h)) ∙ by-sizes
 
--- ---- a dart turned at its place
+-- ---- a dart turned at its position
 module _ (p : Plan) (u v : ℕ) where
-  -- a place that was found is that of a dart
+  -- a position that was found is that of a dart
   position_is : {i : ℕ} → Some i ≡ label_position p u v → (adjacent p u v ≡ true) × (i ≡ Place p u v)
   unfolding label_position
   position_is {i} e = go (adjacent p u v) refl e
@@ -84,7 +84,7 @@ module _ (p : Plan) (u v : ℕ) where
       go true d e = absurd (cc)
       go false d e = d
 
-  -- the label at the place is the dart's
+  -- the label at the position is the dart's
   pub turned-at : (q : ℕ) (ls : List ℕ) {i : ℕ} → Some i ≡ label_position p u v → turn_at q i ls ≡ turn_dart p q (dart u v) ls
   unfolding turn_at turn_dart
   turned-at q ls {i} e =
@@ -98,7 +98,7 @@ module _ (p : Plan) (u v : ℕ) where
   unfolding turn_dart
   turned_none q ls e = sym (put_nowhere p u v (position_none e) ls (turned (label_of p ls u v) q))
 
--- ---- for k in 0..m { find the place of pair k, or return k; turn the edge; }
+-- ---- for k in 0..m { find the position of pair k, or return k; turn the edge; }
 pub record Turns (p : Plan) (q : ℕ) (es : List Dart) (old : List ℕ) (k : ℕ) (new : List ℕ) : Type 0 where
   pub looks : FindsLowest (bad_pair p es) (length es) k
   pub same : new ≡ turned_edges p q (take k es) old
@@ -129,7 +129,7 @@ module _ {p : Plan} {q : ℕ} {es : List Dart} {old : List ℕ} {k : ℕ} {new :
       ∙ sym (ap (λ (t : Bool). require t 15 (lowest (bad_pair p es) (length es)) >> accepted (turned_edges p q es old)) (le-leb (length es) (lowest (bad_pair p es) (length es)) (omega arith)))
 
   module _ (room : entry_count p ≤ 1186) (full : length old ≡ 1186) (u v : ℕ) (pair : get_or es k (0, 0) ≡ dart u v) where
-    -- the place that the code finds, by the model's test
+    -- the position that the code finds, by the model's test
     judged : unturned old new u v (label_position p u v) ≡ cond (bad_pair p es k) None (label_position p u v)
     unfolding bad_pair inner_edge bad_at label_position unturned
     judged = go (adjacent p u v) refl ∙ ap (λ (e : Dart). cond (not (inner_edge p e.0 e.1) || list_any (same_edge e) (take k es)) None (cond (adjacent p u v) (Some (start p u + index_of v (ring p u))) None)) (sym pair)

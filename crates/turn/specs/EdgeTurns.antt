@@ -1,4 +1,4 @@
--- The turn as the engine runs it, on arrays: each definition is one function of src/.
+-- The turn as the engine runs it, on arrays: what the functions of src/ compute.
 use Rattle.std.specs.Prelude.{ℕ, ◌+◌, List, Bool, cond, not, ◌&&◌, ◌||◌, Option, Some, None, length, get_or, set, eqb}
 use Rattle.lists.specs.Parts.{index_of}
 use Rattle.model.specs.Outcome.{Outcome, accepted, ◌>>◌, rule}
@@ -10,15 +10,15 @@ use Rattle.model.specs.Turn.{bad_pair, turned_edges}
 unfoldable pub label_position : Plan → ℕ → ℕ → Option ℕ
 label_position p u v = cond (adjacent p u v) (Some (start p u + index_of v (ring p u))) None
 
--- the label at a place turned; past the last label there is nothing to turn
+-- the label at a position turned; past the last label there is nothing to turn
 unfoldable pub turn_at : ℕ → ℕ → List ℕ → List ℕ
 turn_at q i ls = set ls i (turned (get_or ls i unlabelled) q)
 
--- the dart from u to v, whose label stands at a place, is no inner dart, or its label has changed
+-- the dart from u to v, whose label stands at a position, is no inner dart, or its label has changed
 unfoldable pub bad_at : List ℕ → List ℕ → ℕ → ℕ → ℕ → Bool
 bad_at old new i u v = border u && border v || not (eqb (get_or new i unlabelled) (get_or old i unlabelled))
 
--- the place of a dart's label, if there is a dart and it is not bad
+-- the position of a dart's label, if there is a dart and it is not bad
 unfoldable pub unturned : List ℕ → List ℕ → ℕ → ℕ → Option ℕ → Option ℕ
 unturned old new u v None = None
 unturned old new u v (Some i) = cond (bad_at old new i u v) None (Some i)

@@ -103,14 +103,14 @@ fn turn_in<const N: usize>(
     requires room { (200 * fit.now.plan.n ≤ N) × (N ≤ 40000) }
     ensures { outcome_of result ≡ pairs_turned (table_of fit.now.plan) q (pairs items.now) labels }
 {
-    let mut places = [0u8; N];
+    let mut positions = [0u8; N];
     let plan = fit.plan;
     let starts = rings::starts_of(plan.sizes);
     let rings = plan.rings(&starts);
-    ring_positions::fill(&mut places, &rings);
+    ring_positions::fill(&mut positions, &rings);
     let located = Located {
         rings,
-        places: &places,
+        positions: &positions,
     };
     let placed = Placed { located };
     placed.turn_pairs(labels, items, q)

@@ -10,8 +10,8 @@ use Rattle.plan_bounds.specs.Fits.{fit}
 use Rattle.ring_successors.proofs.Shorter.{successors_shorter}
 use Rattle.scan.proofs.scan_in.Goals as goal
 
-pub invariant_of-followed : goal.invariant_of-followed
-invariant_of-followed g c =
+pub invariant_of-with_successors : goal.invariant_of-with_successors
+invariant_of-with_successors g c =
     let f = c.args.fit.now in
     let r = c.rings-rings.result in
     let e = c.rings-rings.ensures in

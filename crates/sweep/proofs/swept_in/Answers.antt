@@ -46,8 +46,8 @@ invariant_of-guided-2 g c =
     let (guide, room) = guided r (starts ∙ ap starts_of (sym e.sizes)) (ap fit (as_table f.plan r starts e.sizes e.entries e.n) ∙ f.fits) in
     record { guide = guide; room = room }
 
-pub invariant_of-swift : goal.invariant_of-swift
-invariant_of-swift g c =
+pub invariant_of-counting : goal.invariant_of-counting
+invariant_of-counting g c =
     let e = c.rings-rings.ensures in
     record { sound = subst Sound (sym (as_table c.args.fit.now.plan c.rings-rings.result (e.starts ∙ c.starts_of-starts.ensures) e.sizes e.entries e.n)) (c.requires.sound c.if-ruled.true) }
 
