@@ -14,7 +14,7 @@ use Rattle.model.specs.Plan.{Plan}
 use Rattle.model.specs.Sweep.{State, listed, replaced, advance}
 use Rattle.sweep_frontier.specs.Held.{EntriesBelow200, HoldsList, Marks, HoldsFrontier}
 use Rattle.sweep_frontier.specs.Frontiers.{frontier_of, whole}
-use Rattle.sweep_frontier.proofs.Lines.{marks-same}
+use Rattle.sweep_frontier.proofs.Holding.{marks-same}
 use Rattle.sweep_by_definition.proofs.Dirt.{clean_once, clean_new}
 use Rattle.sweep_by_definition.proofs.Pairs.{news-fit, gathered, next-front}
 use Rattle.sweep_labelling.specs.Labelling.{step_labels, Labelled}
@@ -27,25 +27,25 @@ use Rattle.sweep_theory.proofs.Tells.{counted_size}
 
 module _ {p : Plan} (sane : EntriesBelow200 p) {s : State} {cnt l : List ℕ} {v : Course} {i j : ℕ} (t : Steps p s cnt v l i j) where
   -- there is room for the list
-  pub step_room : length l + v.line.len ≤ 455
+  pub step_room : length l + v.frontier.len ≤ 455
   step_room =
       let front = t.holds.front in
-      let g = gathered p sane s (whole v.line) front i j t.apart t.inside t.fits in
+      let g = gathered p sane s (whole v.frontier) front i j t.apart t.inside t.fits in
       let k = listed p s.frontier i j in
-      let fit = news-fit p sane s (whole v.line) front k (clean_once s.seen k g.clean) (clean_new s.seen k g.clean) g.small in
+      let fit = news-fit p sane s (whole v.frontier) front k (clean_once s.seen k g.clean) (clean_new s.seen k g.clean) g.small in
       let size = front.rep.len in
       let same = ap length t.list in
       omega arith
 
   -- the arrays after the step
-  module _ {len : ℕ} {at marks : List ℕ} (put : Spliced v.line.at at v.line.len (i + 1) j l len) (mark : (q : ℕ → Bool) → Marks v.line.marks q → Marks marks (λ (c : ℕ). member c l || q c)) where
-    -- the line
+  module _ {len : ℕ} {at marks : List ℕ} (put : Spliced v.frontier.at at v.frontier.len (i + 1) j l len) (mark : (q : ℕ → Bool) → Marks v.frontier.marks q → Marks marks (λ (c : ℕ). member c l || q c)) where
+    -- the frontier
     new_rep : HoldsList (frontier_of true len at marks) (advance p s i j).frontier
     unfolding advance replaced
     new_rep =
         let r = t.holds.front.rep in
         let e : i + 1 ≡ suc i = omega arith in
-        let n = next-front p sane s (whole v.line) t.holds.front i j t.apart t.inside t.fits in
+        let n = next-front p sane s (whole v.frontier) t.holds.front i j t.apart t.inside t.fits in
         record {
           ok = refl;
           len = put.size s.frontier r.at (sym r.len) ∙ (λ d. length (take (e d) s.frontier ++ t.list d ++ drop j s.frontier));
@@ -62,12 +62,12 @@ module _ {p : Plan} (sane : EntriesBelow200 p) {s : State} {cnt l : List ℕ} {v
 
     new_front : HoldsFrontier (advance p s i j) (frontier_of true len at marks)
     new_front =
-        let n = next-front p sane s (whole v.line) t.holds.front i j t.apart t.inside t.fits in
+        let n = next-front p sane s (whole v.frontier) t.holds.front i j t.apart t.inside t.fits in
         record { rep = new_rep; marks = new_marks; small = n.small; news = n.news; olds = n.olds; parts = n.parts; once = n.once; few = n.few; room = n.room }
 
     -- THE COURSE HOLDS THE STATE AFTER THE STEP
-    pub advance_holds : {counts labels : List ℕ} → ((c : List ℕ) → CountersIn v.counts c → CountersIn counts (counted p l c)) → labels ≡ step_labels p v.line.at l (length l) i j v.labels
-        → HoldsState p (advance p s i j) (counted p l cnt) (record { line = record { len = len; at = at; marks = marks }; counts = counts; labels = labels })
+    pub advance_holds : {counts labels : List ℕ} → ((c : List ℕ) → CountersIn v.counts c → CountersIn counts (counted p l c)) → labels ≡ step_labels p v.frontier.at l (length l) i j v.labels
+        → HoldsState p (advance p s i j) (counted p l cnt) (record { frontier = record { len = len; at = at; marks = marks }; counts = counts; labels = labels })
     advance_holds {counts} {labels} count e =
         let h = t.holds in
         record {

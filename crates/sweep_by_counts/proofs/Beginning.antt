@@ -46,7 +46,8 @@ module _ {p : Plan} (rules : Sound p) where
   abbrev f : List ℕ
   f = (first_state p).frontier
 
-  module _ (few : context_count p ≤ 200) {v : Course} (front : HoldsFrontier (first_state p) (whole v.line)) (labels : v.labels ≡ first_labels p v.line.at v.line.len) (counts : CountersIn v.counts (counted p f (zeros (context_count p)))) where
+  module _ (few : context_count p ≤ 200) {v : Course} (front : HoldsFrontier (first_state p) (whole v.frontier)) (labels : v.labels ≡ first_labels p v.frontier.at v.frontier.len)
+      (counts : CountersIn v.counts (counted p f (zeros (context_count p)))) where
     holds_first : HoldsState p (first_state p) (counted p f (zeros (context_count p))) v
     holds_first =
         record {
@@ -58,10 +59,10 @@ module _ {p : Plan} (rules : Sound p) where
         }
 
     -- before the first step
-    pub running_first : {n limit : ℕ} {b : Bool} → n ≡ context_count p → b ≡ chorded p v.line.marks v.line.at v.line.len → limit ≡ cond b 0 v.line.len → RunningBelow p n limit v
+    pub running_first : {n limit : ℕ} {b : Bool} → n ≡ context_count p → b ≡ chorded p v.frontier.marks v.frontier.at v.frontier.len → limit ≡ cond b 0 v.frontier.len → RunningBelow p n limit v
     unfolding swept first_state
     running_first {n} {limit} {b} size told is =
-        let chord : b ≡ not (chordless p f) = told ∙ chorded_is p rules f v.line.marks (once_first p rules) (λ u a m. let x = ring-inside p rules u a m in omega arith) front.marks front.rep.at front.rep.len in
+        let chord : b ≡ not (chordless p f) = told ∙ chorded_is p rules f v.frontier.marks (once_first p rules) (λ u a m. let x = ring-inside p rules u a m in omega arith) front.marks front.rep.at front.rep.len in
         let low : limit ≡ cond (chordless p f) (length f) 0 = is ∙ (λ i. cond (chord i) 0 (front.rep.len i)) ∙ turn (chordless p f) in
         record {
           state = first_state p;

@@ -15,7 +15,7 @@ use Rattle.lists.proofs.Tests.{list_any-append}
 use Rattle.lists.proofs.Ranges.{lt-or-le}
 use Rattle.model.specs.Plan.{Plan, ring}
 use Rattle.sweep_frontier.specs.Held.{Marks}
-use Rattle.sweep_frontier.proofs.Lines.{marks-same, marks-set}
+use Rattle.sweep_frontier.proofs.Holding.{marks-same, marks-set}
 use Rattle.sweep_theory.specs.Counter.{raised, counted}
 use Rattle.sweep_by_counts.specs.Courses.{CountersIn}
 

@@ -92,7 +92,7 @@ module _ {p : Plan} (rules : Sound p) where
     own-list = picked_listed p rules t.limit cs st t.running.ready (i, j) t.picked
 
     -- where it stands
-    pub take_inside : (i + 2 ≤ j) × (j < length st.frontier) × (length st.frontier ≤ 512) × (v.line.len ≡ length st.frontier)
+    pub take_inside : (i + 2 ≤ j) × (j < length st.frontier) × (length st.frontier ≤ 512) × (v.frontier.len ≡ length st.frontier)
     take_inside = (chosen.positions.apart, chosen.positions.inside, t.running.holds.front.rep.short, t.running.holds.front.rep.len)
 
     -- the arrays can take it

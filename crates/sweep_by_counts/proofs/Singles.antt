@@ -117,7 +117,7 @@ module _ {p : Plan} {f : List ℕ} {k m t : ℕ} (inv : Rises p f k m t) where
       let y : max k m ≡ t = omega arith in
       y ∙ sym (inv.same ∙ ap (first_from (λ (i : ℕ). not (single p f i)) t) z)
 
--- ---- on a line that holds the frontier
+-- ---- on an array that holds the frontier
 module _ (p : Plan) {v : Frontier} {f : List ℕ} (r : HoldsList v f) where
   -- a position with one context alone below
   pub single_held : (k : ℕ) → single p v.at k ≡ single p f k

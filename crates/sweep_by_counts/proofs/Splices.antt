@@ -1,4 +1,4 @@
--- A list put into a line in place of a part of it: what the array holds after the rest of the line is moved, the list is copied there, and zeros are put behind.
+-- A list put into a frontier in place of a part of it: what the array holds after the rest of the frontier is moved, the list is copied there, and zeros are put behind.
 use Prim.Native.Nat.{ℕ, ◌+◌, ◌-◌, ◌≤◌, ◌<◌}
 use mathlib.Core.Path.{◌≡◌, refl, sym, ap, ◌∙◌}
 use mathlib.Core.List.{List, ◌++◌, append_assoc}
@@ -43,7 +43,7 @@ module _ (f x : List ℕ) (k : ℕ) (size : k ≡ length x) where
       ∙ ap (λ (t : List ℕ). x ++ (zeros n ++ t)) (drop-drop n k (zero_padded 512 f) ∙ ap (λ (t : ℕ). drop t (zero_padded 512 f)) past ∙ drop_at f (zeros (512 - length f)) (length f) refl)
       ∙ ap (x ++◌) (zeros-append n (512 - length f) ∙ ap zeros fill)
 
--- ---- the rest of the array copied to place b
+-- ---- the rest of the array copied to position b
 module _ (xs s : List ℕ) (b n : ℕ) (h : b ≤ length xs) where
   -- what stands before it stays
   moved_front : (a : ℕ) → a ≤ b → take a (paste xs b s n) ≡ take a xs
@@ -56,18 +56,18 @@ module _ (xs s : List ℕ) (b n : ℕ) (h : b ≤ length xs) where
   moved_back : drop b (paste xs b s n) ≡ take n s ++ drop (b + n) xs
   moved_back = ap (drop b) (append_assoc (take b xs) (take n s) (drop (b + n) xs)) ∙ drop_at (take b xs) (take n s ++ drop (b + n) xs) b (length-take-le b xs h)
 
--- ---- a list put in place of positions a to j − 1 of a line of m contexts
+-- ---- a list put in place of positions a to j − 1 of a frontier of m contexts
 module _ (l : List ℕ) (m a j : ℕ) (order : a ≤ j) (inside : j ≤ m) (short : m ≤ 512) (room : a + length l + (m - j) ≤ 512) where
-  -- how many contexts the line has then
+  -- how many contexts the frontier has then
   abbrev len : ℕ
   len = a + length l + (m - j)
 
   module _ (f : List ℕ) (long : length f ≡ m) where
-    -- the array that holds the line
+    -- the array that holds the frontier
     abbrev held : List ℕ
     held = zero_padded 512 f
 
-    -- the line with the list
+    -- the frontier with the list
     abbrev new : List ℕ
     new = take a f ++ l ++ drop j f
 
@@ -79,7 +79,7 @@ module _ (l : List ℕ) (m a j : ℕ) (order : a ≤ j) (inside : j ≤ m) (shor
         let w = length-drop j f in
         omega arith
 
-    -- what is moved is the rest of the line
+    -- what is moved is the rest of the frontier
     rest : take (m - j) (drop j held) ≡ drop j f
     unfolding zero_padded
     rest = ap (take (m - j)) (drop-append-le j f (zeros (512 - length f)) (omega arith)) ∙ take_at (drop j f) (zeros (512 - length f)) (m - j) (let w = length-drop j f in omega arith)
@@ -90,7 +90,7 @@ module _ (l : List ℕ) (m a j : ℕ) (order : a ≤ j) (inside : j ≤ m) (shor
     front = take-append-le a f (zeros (512 - length f)) (omega arith)
 
     module _ {one l' : List ℕ} {k : ℕ} (moved : one ≡ paste held (a + length l) (drop j held) (m - j)) (is : l' ≡ l) (size : k ≡ length l) where
-      -- after the list is put there the line stands in the array, and behind it what stood there before
+      -- after the list is put there the frontier stands in the array, and behind it what stood there before
       behind : put_mid a k one l' ≡ new ++ drop len held
       behind =
           let b : ℕ = a + length l in
@@ -104,7 +104,7 @@ module _ (l : List ℕ) (m a j : ℕ) (order : a ≤ j) (inside : j ≤ m) (shor
           ∙ sym (append_assoc (take a f) l (drop j f ++ drop len held))
           ∙ sym (append_assoc (take a f ++ l) (drop j f) (drop len held))
 
-      -- where the line is no shorter
+      -- where the frontier is no shorter
       longer : m ≤ len → put_mid a k one l' ≡ zero_padded 512 new
       longer h = behind ∙ zeros_stay f new len new_size (omega arith)
 
@@ -119,7 +119,7 @@ module _ (l : List ℕ) (m a j : ℕ) (order : a ≤ j) (inside : j ≤ m) (shor
     moved_of : (f : List ℕ) → old ≡ zero_padded 512 f → one ≡ paste (zero_padded 512 f) (a + length l) (drop j (zero_padded 512 f)) (m - j)
     moved_of f e = moved ∙ (λ i. paste (e i) (a + length l) (drop j (e i)) (m - j))
 
-    -- where the line is no shorter
+    -- where the frontier is no shorter
     pub spliced_longer : m ≤ len → Spliced old (put_mid a k one l') m a j l len
     spliced_longer h = record { at = λ f e long. longer f long (moved_of f e) is size h; size = λ f e long. new_size f long }
 

@@ -26,9 +26,9 @@ use Rattle.sweep_theory.proofs.Eligibility.{Chord, chord_found, same_position}
 use Rattle.sweep_frontier.specs.Held.{Marks}
 use Rattle.sweep_by_counts.specs.Strays.{stray, lists_stray, chord_at, chorded}
 
--- marks that tell what is on a line
+-- marks that tell what is on a frontier
 module _ (p : Plan) (rules : Sound p) (f marks : List ℕ) (once : Once f) (small : (u a : ℕ) → Memᴰ a (ring p u) → a < 256) (on : Marks marks (λ (c : ℕ). member c f)) where
-  -- a context of the ring is one of the line exactly where it is marked
+  -- a context of the ring is one of the frontier exactly where it is marked
   marked : (u w : ℕ) → Memᴰ w (ring p u) → not (eqb (get_or marks w 0) 0) ≡ member w f
   marked u w m = ap not (on.mark w (small u w m)) ∙ not-not (member w f)
 

@@ -89,7 +89,7 @@ module _ {p : Plan} {s : State} {cnt : List ℕ} {v : Course} (h : HoldsState p 
       λ t. not (border c) && (h.front.marks.mark c (omega arith) t && counter t)
 
   -- THE TEST of what is below the position before j with j's candidate
-  pub good_held : (j : ℕ) → j < 512 → good_on v p (candidate p v.line.at j) j (below p v.line.at (j - 1)) ≡ local_by cnt p s j
+  pub good_held : (j : ℕ) → j < 512 → good_on v p (candidate p v.frontier.at j) j (below p v.frontier.at (j - 1)) ≡ local_by cnt p s j
   unfolding good_on good_by local_by
   good_held j k =
       let f = s.frontier in
@@ -101,17 +101,17 @@ module _ {p : Plan} {s : State} {cnt : List ℕ} {v : Course} (h : HoldsState p 
 
 -- THE TEST AS THE CODE MAKES IT: what is below the position before j is put on a list, and that list is tested
 module _ (r : Rings) {s : State} {cnt : List ℕ} {v : Course} (h : HoldsState (plan_of r) s cnt v) where
-  pub judged : (j : ℕ) (old : List ℕ) {i q : ℕ} {b : Below} {list : List ℕ} {t : Bool} → j < 512 → i ≡ candidate (plan_of r) v.line.at j → b ≡ below_of r v.line.at (j - 1) → q ≡ depth_of b
+  pub judged : (j : ℕ) (old : List ℕ) {i q : ℕ} {b : Below} {list : List ℕ} {t : Bool} → j < 512 → i ≡ candidate (plan_of r) v.frontier.at j → b ≡ below_of r v.frontier.at (j - 1) → q ≡ depth_of b
       → list ≡ reverse (take (depth_of b) (entries_read b)) ++ drop (depth_of b) old → t ≡ good_on v (plan_of r) i j (take q list) → t ≡ local_by cnt (plan_of r) s j
   judged j old {b = b} x i is long put told =
-      let listed = put_below r v.line.at (j - 1) is (drop (depth_of b) old) long put in
+      let listed = put_below r v.frontier.at (j - 1) is (drop (depth_of b) old) long put in
       told ∙ (λ t. good_on v (plan_of r) (i t) j (listed t)) ∙ good_held h j x
 
-  module _ (k : ℕ) {q : ℕ} {b : Below} (is : b ≡ below_of r v.line.at k) (long : q ≡ depth_of b) where
+  module _ (k : ℕ) {q : ℕ} {b : Below} (is : b ≡ below_of r v.frontier.at k) (long : q ≡ depth_of b) where
     -- the list is what is below in the state
     pub put_held : (old : List ℕ) {list : List ℕ} → list ≡ reverse (take (depth_of b) (entries_read b)) ++ drop (depth_of b) old → take q list ≡ below (plan_of r) s.frontier k
-    put_held old put = put_below r v.line.at k is (drop (depth_of b) old) long put ∙ ap (λ (f : List ℕ). below (plan_of r) f k) h.front.rep.at ∙ below-zero_padded (plan_of r) s.frontier k
+    put_held old put = put_below r v.frontier.at k is (drop (depth_of b) old) long put ∙ ap (λ (f : List ℕ). below (plan_of r) f k) h.front.rep.at ∙ below-zero_padded (plan_of r) s.frontier k
 
     -- one context alone is below
     pub alone_held : q ≡ 1 → single (plan_of r) s.frontier k ≡ true
-    alone_held one = sym (single_told r v.line.at k is (sym (eq-eqb (depth_of b) 1 (sym long ∙ one))) ∙ single_held (plan_of r) h.front.rep k)
+    alone_held one = sym (single_told r v.frontier.at k is (sym (eq-eqb (depth_of b) 1 (sym long ∙ one))) ∙ single_held (plan_of r) h.front.rep k)

@@ -16,7 +16,7 @@ pub record CountersIn (counts cnt : List ℕ) : Type 0 where
 
 -- the course holds the state s with the counters cnt, one for each context; every ring entry is a context
 pub record HoldsState (p : Plan) (s : State) (cnt : List ℕ) (v : Course) : Type 0 where
-  pub front : HoldsFrontier s (whole v.line)
+  pub front : HoldsFrontier s (whole v.frontier)
   pub counts : CountersIn v.counts cnt
   pub all : length cnt ≡ context_count p
   pub inside : (u a : ℕ) → Memᴰ a (ring p u) → a < context_count p

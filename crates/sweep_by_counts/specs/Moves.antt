@@ -19,7 +19,7 @@ pub record Steps (p : Plan) (s : State) (cnt : List ℕ) (v : Course) (l : List 
 pub record Moved (p : Plan) (old new : Course) (l : List ℕ) (i j : ℕ) : Type 0 where
   pub so : (s : State) (cnt : List ℕ) → Steps p s cnt old l i j → HoldsState p (advance p s i j) (counted p l cnt) new
 
--- l in place of positions a to j − 1 of a frontier of m contexts: what the array held then stands in it, with zeros behind
+-- the array old holds a frontier of m contexts; new holds the same with l in place of positions a to j − 1, and that has len contexts
 pub record Spliced (old new : List ℕ) (m a j : ℕ) (l : List ℕ) (len : ℕ) : Type 0 where
   pub at : (f : List ℕ) → old ≡ zero_padded 512 f → length f ≡ m → new ≡ zero_padded 512 (take a f ++ l ++ drop j f)
   pub size : (f : List ℕ) → old ≡ zero_padded 512 f → length f ≡ m → len ≡ length (take a f ++ l ++ drop j f)

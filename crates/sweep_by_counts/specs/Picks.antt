@@ -11,7 +11,7 @@ use Rattle.sweep_by_counts.specs.declared.pick.Found.{Found}
 
 -- c may be on the list l of i and j, by the marks and the counters of a course
 unfoldable pub fair_on : Course → ℕ → ℕ → List ℕ → ℕ → Bool
-fair_on v i j l c = not (border c) && (eqb (get_or v.line.marks c 0) 0 && eqb (get_or v.counts c 0) (positions_due i j l c))
+fair_on v i j l c = not (border c) && (eqb (get_or v.frontier.marks c 0) 0 && eqb (get_or v.counts c 0) (positions_due i j l c))
 
 -- l may be the list of i and j, by the same
 unfoldable pub good_on : Course → Plan → ℕ → ℕ → List ℕ → Bool

@@ -1,4 +1,4 @@
-// The sweep of a plan that keeps the rules, with few tests: for each context it counts how many contexts of the frontier touch it, and by these counts one test at a position says whether a step can be taken there.
+// The sweep of a plan that keeps the rules, with few tests: for each context it counts how many contexts that are or were on the frontier touch it, and by these counts one test at a position says whether a step can be taken there.
 #![tactic(auto)]
 
 ghost use Rattle.rings.specs.Tables.{plan_of};

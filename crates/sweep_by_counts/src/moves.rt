@@ -66,13 +66,20 @@ fn splice(at: &mut [u16; 512], m: usize, a: usize, j: usize, list: &[u16]) -> us
     len
 }
 
-// Takes the step of positions i and j of the frontier: this list in their place, marked and counted, with its labels.
+// Takes the step of positions i and j of the frontier: this list in place of the positions between them, marked and counted, with its labels.
 pub(crate) fn advance(guided: &Guided, course: &mut Course, list: &[u16], i: usize, j: usize)
     requires { (s : State) × (cnt : List ℕ) × Steps (plan_of guided.now.located.rings) s cnt course.old list.now i j }
     ensures { Moved (plan_of guided.now.located.rings) course.old course.new list.now i j }
 {
-    guided.step_labels(&mut course.labels, &course.line.at, list, list.len(), i, j);
-    course.line.len = splice(&mut course.line.at, course.line.len, i + 1, j, list);
-    mark_all(&mut course.line.marks, list);
+    guided.step_labels(
+        &mut course.labels,
+        &course.frontier.at,
+        list,
+        list.len(),
+        i,
+        j,
+    );
+    course.frontier.len = splice(&mut course.frontier.at, course.frontier.len, i + 1, j, list);
+    mark_all(&mut course.frontier.marks, list);
     raise_all(&mut course.counts, &guided.located.rings, list);
 }

@@ -67,12 +67,12 @@ impl<'a> View<'a> {
     // What is below position k of the frontier.
     #[inline(always)]
     pub(crate) fn below(&self, k: usize) -> Below<'a>
-        ensures value { result ≡ below_of self.now.located.rings self.now.course.now.line.at k }
+        ensures value { result ≡ below_of self.now.located.rings self.now.course.now.frontier.at k }
         ensures x_bound { result.x < 2 ^ 8 }
     {
         let front = FrontierView {
             located: self.located,
-            f: &self.course.line.at,
+            f: &self.course.frontier.at,
         };
         front.below(k)
     }
@@ -81,7 +81,7 @@ impl<'a> View<'a> {
     #[tactic(auto, using(crate::proofs::Singles::single_told))]
     #[inline(always)]
     fn is_single(&self, k: usize) -> bool
-        ensures { result ≡ single (plan_of self.now.located.rings) self.now.course.now.line.at k }
+        ensures { result ≡ single (plan_of self.now.located.rings) self.now.course.now.frontier.at k }
     {
         self.below(k).is_one()
     }
@@ -89,7 +89,7 @@ impl<'a> View<'a> {
     // The only i that may be eligible with j and be the largest: the highest position up to j - 2 that has not one context below, or else 0.
     #[tactic(auto, using(crate::proofs::Singles::falls_hit, crate::proofs::Singles::falls_on, crate::proofs::Singles::falls_end), unfolding(sweep_theory::specs::Quick::candidate))]
     fn candidate(&self, j: usize) -> usize
-        ensures value { result ≡ candidate (plan_of self.now.located.rings) self.now.course.now.line.at j }
+        ensures value { result ≡ candidate (plan_of self.now.located.rings) self.now.course.now.frontier.at j }
         ensures upper_bound { result ≤ j - 2 }
     {
         for k in (1..j.saturating_sub(1)).rev() {
@@ -102,18 +102,18 @@ impl<'a> View<'a> {
 
     // May position j be eligible: is it two or more, and East's position or one that has not one context below?
     fn is_open(&self, j: usize) -> bool
-        ensures { (f : List ℕ) → HoldsList (whole self.now.course.now.line) f → result ≡ open_at (plan_of self.now.located.rings) f j }
+        ensures { (f : List ℕ) → HoldsList (whole self.now.course.now.frontier) f → result ≡ open_at (plan_of self.now.located.rings) f j }
     {
         if j < 2 {
             return false;
         }
-        if j >= self.course.line.len.saturating_sub(1) {
+        if j >= self.course.frontier.len.saturating_sub(1) {
             return true;
         }
         !self.is_single(j)
     }
 
-    // May c be on the list of i and j: is it no border context and not marked, and do as many contexts of the frontier touch it as must?
+    // May c be on the list of i and j: is it no border context and not marked, and do as many contexts that came to the frontier touch it as must touch one of that list?
     #[tactic(auto, unfolding(crate::specs::Picks::fair_on))]
     fn is_fair(&self, i: usize, j: usize, list: &[u16], c: u16) -> bool
         requires { j < 2 ^ 16 }
@@ -121,7 +121,7 @@ impl<'a> View<'a> {
     {
         let at = usize::from(c);
         c >= 4
-            && arrays::number_at(&self.course.line.marks, at) == 0
+            && arrays::number_at(&self.course.frontier.marks, at) == 0
             && arrays::number_at(&self.course.counts, at) == due(i, j, list, c)
     }
 
@@ -173,7 +173,7 @@ impl<'a> View<'a> {
         ensures pair { (s : State) (cnt : List ℕ) → HoldsState (plan_of self.now.located.rings) s cnt self.now.course.now → picked_as result ≡ pick_by cnt (plan_of self.now.located.rings) s (min limit (length s.frontier)) }
         ensures list { (s : State) (cnt : List ℕ) → HoldsState (plan_of self.now.located.rings) s cnt self.now.course.now → Listed (plan_of self.now.located.rings) s.frontier list.new result }
     {
-        let mut j = limit.min(self.course.line.len).min(512);
+        let mut j = limit.min(self.course.frontier.len).min(512);
         while j > 1 {
             j -= 1;
             if self.is_open(j) {
@@ -195,7 +195,7 @@ impl<'a> View<'a> {
         requires { k < 2 ^ 16 }
         ensures { (s : State) (cnt : List ℕ) → HoldsState (plan_of self.now.located.rings) s cnt self.now.course.now → result ≡ suc (suc (reach (plan_of self.now.located.rings) s.frontier k)) }
     {
-        let m = self.course.line.len.min(512);
+        let m = self.course.frontier.len.min(512);
         for t in k..m {
             if !self.is_single(t) {
                 return t + 2;

@@ -24,14 +24,14 @@ impl CountingSweep<'_> {
     {
         let front = FrontierView {
             located: self.guided.located,
-            f: &last.line.at,
+            f: &last.frontier.at,
         };
-        if sweep_ends::is_unfinished(&front, last.line.len) {
+        if sweep_ends::is_unfinished(&front, last.frontier.len) {
             return Err(Refusal::SweepStuck);
         }
         let mut labels = last.labels;
         self.guided
-            .finish_labels(&mut labels, &last.line.at, last.line.len);
+            .finish_labels(&mut labels, &last.frontier.at, last.frontier.len);
         Ok(labels)
     }
 

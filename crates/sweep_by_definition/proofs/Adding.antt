@@ -18,10 +18,10 @@ use Rattle.sweep_frontier.specs.Frontiers.{Frontier, frontier_of, pushed}
 use Rattle.sweep_by_definition.specs.Lists.{failed, last_is, excluded, with_mark, added}
 use Rattle.sweep_by_definition.proofs.Dirt.{dirty, dirty-left, dirty_end, clean_once, ends_in, joined, squeeze_end, squeeze-more}
 use Rattle.sweep_frontier.proofs.Fails.{pushed-off}
-use Rattle.sweep_frontier.proofs.Lines.{marks-same, marks-set, no_longer, push_rep, pushed-marks, small-append}
+use Rattle.sweep_frontier.proofs.Holding.{marks-same, marks-set, no_longer, push_rep, pushed-marks, small-append}
 
 -- ---- one entry added
--- the last entry of a list by its place
+-- the last entry of a list by its position
 ends_get_or : (l : List ℕ) (c : ℕ) → cond (eqb (length l) 0) false (eqb c (get_or l (length l - 1) 0)) ≡ ends_in l c
 unfolding ends_in
 ends_get_or [] c = refl

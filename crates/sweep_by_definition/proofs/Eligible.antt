@@ -19,7 +19,7 @@ use Rattle.model.specs.Plan.{Plan}
 use Rattle.model.specs.Sweep.{State, below, listed, replaced, chordless, eligible}
 use Rattle.sweep_frontier.specs.Held.{EntriesBelow200, HoldsFrontier}
 use Rattle.sweep_frontier.specs.Frontiers.{Frontier, lent_frontier, empty_frontier}
-use Rattle.sweep_frontier.proofs.Lines.{stretch-all}
+use Rattle.sweep_frontier.proofs.Holding.{stretch-all}
 use Rattle.sweep_by_definition.specs.Lists as run
 use Rattle.sweep_by_definition.specs.Lists.{listing}
 use Rattle.sweep_by_definition.proofs.Dirt.{dirty, clean_parts}
@@ -48,7 +48,7 @@ module _ (p : Plan) (seen f : List ℕ) (j : ℕ) where
   allowed_later zero a {i} z h e = let y : a ≡ i = omega arith in ap (λ (n : ℕ). allowed p seen f n j) (sym y) ∙ e
   allowed_later (suc k) a z h e = allowed_later k (suc a) (omega arith) h (allowed_next a (omega arith) e)
 
--- ---- a pair of positions, whose list is put on a new line
+-- ---- a pair of positions, whose list is put on a new frontier
 module _ {p : Plan} {s : State} {v : Frontier} (sane : EntriesBelow200 p) (fr : HoldsFrontier s v) (i j : ℕ) (two : i + 2 ≤ j) (inside : j < v.len) where
   -- the frontier
   abbrev f : List ℕ

@@ -23,7 +23,7 @@ use Rattle.sweep_by_definition.proofs.Moves.{below-off}
 use Rattle.sweep_by_definition.proofs.Dirt.{dirty}
 use Rattle.sweep_by_definition.proofs.Adding.{Good, dirty-more, all_come}
 
--- where a test passes the line is a list, gathered whole, and where it does not pass the line failed
+-- where the test passes v is the list l, gathered whole, and where it does not pass v failed
 abbrev pub Whole : List ℕ → Frontier → List ℕ → Bool → Type 0
 Whole seen v l t = (Good seen v l × (t ≡ true)) ⊎ ((v.ok ≡ false) × (t ≡ false))
 

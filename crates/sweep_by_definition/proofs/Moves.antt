@@ -1,4 +1,4 @@
--- What the code computes, step by step: lists and lines.
+-- What the code computes, step by step: lists and frontiers.
 use Prim.Native.Nat.{ℕ, zero, suc, ◌+◌, ◌-◌, ◌≤◌, ◌<◌}
 use mathlib.Core.Path.{◌≡◌, refl, ap, sym, subst, ◌∙◌}
 use native.Mathlib.Omega.{arith}
@@ -64,16 +64,17 @@ module _ (r : Rings) (f : List ℕ) (k : ℕ) (v : Frontier) (on : v.ok ≡ true
   pub back_below : (q ≡ 0 → ⊥) → each_down (λ i w. added w (get_or (entries_read b) i 0)) q v ≡ below_added (plan_of r) f k v
   back_below some = sym (rw (ne_eqb q 0 some)) ∙ told
 
--- a line that failed grows as one does that had not
+-- a frontier that failed grows as one does that had not
 pub grown_off : (len : ℕ) (at marks : List ℕ) (c : ℕ) {w : Frontier} → w ≡ pushed (frontier_of true len at marks) c → frontier_of false w.len w.at w.marks ≡ pushed (frontier_of false len at marks) c
 unfolding pushed
 grown_off len at marks c e = ap (λ (w : Frontier). frontier_of false w.len w.at w.marks) e ∙ go (ltb len 512)
   where
-    go : (t : Bool) → (let w : Frontier = cond t (frontier_of true (len + 1) (set at len c) marks) (frontier_of false len at marks) in frontier_of false w.len w.at w.marks) ≡ cond t (frontier_of false (len + 1) (set at len c) marks) (frontier_of false len at marks)
+    go : (t : Bool) → (let w : Frontier = cond t (frontier_of true (len + 1) (set at len c) marks) (frontier_of false len at marks) in frontier_of false w.len w.at w.marks)
+        ≡ cond t (frontier_of false (len + 1) (set at len c) marks) (frontier_of false len at marks)
     go true = refl
     go false = refl
 
--- a context marked before it is put at the end of a line, or after
+-- a context marked before it is put at the end of a frontier, or after
 pub push_noted : (v : Frontier) (c : ℕ) → with_mark (pushed v c) c ≡ pushed (frontier_of v.ok v.len v.at (set v.marks c 1)) c
 unfolding with_mark pushed
 push_noted v c = go (ltb v.len 512)
@@ -84,11 +85,11 @@ push_noted v c = go (ltb v.len 512)
     go true = refl
     go false = refl
 
--- a turn of a loop that puts a range of entries at the end of a line
+-- a turn of a loop that puts a range of entries at the end of a frontier
 pub fold_next : {i e j d x : ℕ} (f : List ℕ) (v : Frontier) → (d ≡ e) × ((0 < e - i) × (x ≡ i) × (j ≡ i + 1)) → {w : Frontier} → w ≡ pushed v (get_or f x 0) → fold pushed v (span f i e) ≡ fold pushed w (span f j d)
 fold_next {j = j} {d = d} f v next put = ap (fold pushed v) (span_next f next) ∙ ap (λ (w : Frontier). fold pushed w (span f j d)) (sym put)
 
--- what is put at the end of a line in three parts
+-- what is put at the end of a frontier in three parts
 pub replaced_parts : (v : Frontier) (f : List ℕ) (m a j : ℕ) (l : List ℕ) (q : ℕ) {left middle right : Frontier}
     → left ≡ fold pushed v (span f 0 a) → middle ≡ fold pushed left (span l 0 q) → right ≡ fold pushed middle (span f j m) → right ≡ frontier_replaced v f m a j l q
 unfolding frontier_replaced

@@ -21,13 +21,13 @@ use Rattle.sweep_frontier.specs.Held.{AllBelow200, EntriesBelow200, HoldsList, M
 use Rattle.sweep_frontier.specs.Frontiers.{Frontier, lent_frontier, pushed, empty_frontier}
 use Rattle.sweep_by_definition.specs.Lists.{listing}
 use Rattle.sweep_by_definition.proofs.Dirt.{dirty, clean_once, clean_new}
-use Rattle.sweep_frontier.proofs.Lines.{small-append, small-mem, mem-small, no_longer, push_rep, marks-same, pushed-marks, fresh-rep, stretch-all, stretch_part}
+use Rattle.sweep_frontier.proofs.Holding.{small-append, small-mem, mem-small, no_longer, push_rep, marks-same, pushed-marks, fresh-rep, stretch-all, stretch_part}
 use Rattle.std.specs.Prelude.{Result, Ok, fold}
 use Rattle.sweep_by_definition.proofs.Adding.{Good}
 use Rattle.sweep_by_definition.proofs.Gather.{allowed, list, comes}
 use Rattle.sweep_by_definition.specs.Lists as run
 
--- ---- what the code puts on new lines
+-- ---- what the code puts on new frontiers
 -- the frontier with the list of positions i and j in place
 abbrev pub next : Plan → Frontier → ℕ → ℕ → Frontier
 next p v i j = let g = list p v i j in run.frontier_replaced (empty_frontier g.marks) v.at v.len (suc i) j g.at g.len
@@ -41,8 +41,8 @@ module _ (p : Plan) (v : Frontier) (i j : ℕ) {k : ℕ} (above : k ≡ suc i) (
   pub new-is : {q : ℕ} → r ≡ Ok q → {w : Frontier} → w ≡ run.frontier_replaced (empty_frontier marks) v.at v.len k j at q → w ≡ next p v i j
   new-is on put = put ∙ (λ d. let g = (ap (λ (r : Result ℕ ℕ). lent_frontier r at marks) (sym on) ∙ list-is) d in run.frontier_replaced (empty_frontier g.marks) v.at v.len (above d) j g.at g.len)
 
--- ---- contexts put at the end of a line
--- a line holds what was put at its end
+-- ---- contexts put at the end of a frontier
+-- a frontier holds what was put at its end
 push_all : (v : Frontier) (l m : List ℕ) → HoldsList v l → length l + length m ≤ 512 → HoldsList (fold pushed v m) (l ++ m)
 push_all v l [] r h = subst (HoldsList v) (sym (append-nil l)) r
 push_all v l (x ∷ m) r h =
@@ -91,7 +91,7 @@ module _ (p : Plan) (sane : EntriesBelow200 p) (s : State) (v : Frontier) (fr : 
     abbrev l : List ℕ
     l = listed p f i j
 
-    -- the line after the step holds the new frontier
+    -- the array after the step holds the new frontier
     pub new_rep : Good s.seen (list p v i j) l → HoldsList (next p v i j) (replaced f i j l)
     unfolding run.frontier_replaced replaced
     new_rep g =
@@ -111,7 +111,7 @@ module _ (p : Plan) (sane : EntriesBelow200 p) (s : State) (v : Frontier) (fr : 
     unfolding eligible dirty
     gathered e = let okay = allowed p s.seen f i j in ⊎_elim (λ w. w.0) (λ w. both okay (and_yes okay (chordless p (replaced f i j l)) e).0 w.1) (comes p sane s v fr i j)
 
-    -- and the new line holds the new frontier
+    -- and with its marks it holds that of the next state
     pub next-front : eligible p s i j ≡ true → HoldsFrontier (advance p s i j) (next p v i j)
     unfolding advance empty_frontier run.frontier_replaced
     next-front e =

@@ -16,7 +16,7 @@ use Rattle.model.proofs.Choices.{chosen}
 use Rattle.sweep_frontier.specs.declared.Frontier as held
 use Rattle.sweep_frontier.specs.Frontiers.{Frontier, lent_frontier, whole, empty_frontier}
 use Rattle.sweep_frontier.specs.Held.{EntriesBelow200, HoldsFrontier}
-use Rattle.sweep_frontier.proofs.Lines.{stretch-all}
+use Rattle.sweep_frontier.proofs.Holding.{stretch-all}
 use Rattle.sweep_ends.specs.Ends.{first_frontier, unfinished}
 use Rattle.sweep_ends.proofs.Beginning.{first-frontier}
 use Rattle.sweep_ends.proofs.Finishing.{open_is}
@@ -125,7 +125,7 @@ module _ {p : Plan} (sane : EntriesBelow200 p) {k : ℕ} {v : held.Frontier} {ls
     taken : Chosen p s i j
     taken = chosen p s i j e
 
-    -- j is inside the line
+    -- j is inside the frontier
     pub found_inside : (i + 2 ≤ j) × (j < v.len) × (i < 512) × (j < 512)
     found_inside =
         let a = taken.positions.apart in
@@ -139,7 +139,7 @@ module _ {p : Plan} (sane : EntriesBelow200 p) {k : ℕ} {v : held.Frontier} {ls
       stepped : Taken p s i j b r
       stepped = takes s inv.front inv.labels found_inside.0 found_inside.1 taken.fits
 
-      -- there is a line
+      -- there is a new frontier
       pub running-whole : r ≡ None → ⊥
       running-whole none = subst (Taken p s i j b) none stepped
 

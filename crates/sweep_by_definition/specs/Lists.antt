@@ -1,4 +1,4 @@
--- The list of a pair of positions and the frontier with it in place, on arrays: each definition is one function of src/.
+-- The list of a pair of positions and the frontier with it in place, on arrays: what the functions of src/ compute.
 use Rattle.std.specs.Prelude.{ℕ, ◌-◌, List, ◌++◌, fold, Bool, true, false, cond, not, get_or, set, eqb, ltb}
 use Rattle.lists.specs.Tests.{is_empty}
 use Rattle.lists.specs.Folds.{through}

@@ -7,11 +7,11 @@ use Rattle.sweep_frontier.specs.Frontiers.{whole}
 use Rattle.sweep_frontier.specs.Held.{HoldsFrontier}
 use Rattle.sweep_labelling.specs.Labelling.{Labelled, swept}
 
--- what a step of positions i and j gives: there is a line, and it and the labels hold the next state
+-- what a step of positions i and j gives: there is a new frontier, and it and the labels hold the next state
 abbrev pub Taken : Plan → State → ℕ → ℕ → List ℕ → Option held.Frontier → Type 0
 Taken p s i j ls r = MatchOption r ⊥ (λ (next : held.Frontier). HoldsFrontier (advance p s i j) (whole next) × Labelled p (advance p s i j) ls)
 
--- it does so for each state that the line and the labels hold, where the pair is eligible
+-- it does so for each state that the frontier and the labels hold, where the pair is eligible
 abbrev pub Takes : Plan → held.Frontier → List ℕ → ℕ → ℕ → List ℕ → Option held.Frontier → Type 0
 Takes p v old i j new r = (s : State) → HoldsFrontier s (whole v) → Labelled p s old → i + 2 ≤ j → j < v.len → eligible p s i j ≡ true → Taken p s i j new r
 

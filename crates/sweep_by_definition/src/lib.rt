@@ -1,4 +1,4 @@
-// The sweep by the definition, of any plan: at each step the list of each pair of positions is gathered until an eligible pair is found. It runs until it is finished or stuck.
+// The sweep by the definition, of every plan that fits, whatever rules it keeps: at each step the list of each pair of positions is gathered until an eligible pair is found. It runs until it is finished or stuck.
 #![tactic(auto)]
 
 ghost use Rattle.std.specs.Prelude.{◌≡◌, ◌<◌};
@@ -20,24 +20,24 @@ mod list;
 fn take_step(
     guided: &Guided,
     labels: &mut [u8],
-    line: &Frontier,
+    frontier: &Frontier,
     i: usize,
     j: usize,
 ) -> Option<Frontier>
     requires i_bound { i < 512 }
     requires j_bound { j < 512 }
-    ensures { Takes (plan_of guided.now.located.rings) line.now labels.old i j labels.new result }
+    ensures { Takes (plan_of guided.now.located.rings) frontier.now labels.old i j labels.new result }
 {
     let front = FrontierView {
         located: guided.located,
-        f: &line.at,
+        f: &frontier.at,
     };
     let mut list = [0u16; 512];
-    let mut marks = line.marks;
+    let mut marks = frontier.marks;
     let q = list::listed(&mut list, &mut marks, &front, i + 1..j).ok()?;
-    guided.step_labels(labels, &line.at, &list, q, i, j);
+    guided.step_labels(labels, &frontier.at, &list, q, i, j);
     let mut at = [0u16; 512];
-    let len = list::replaced(&mut at, &line.at, line.len, i + 1, j, &list, q).ok()?;
+    let len = list::replaced(&mut at, &frontier.at, frontier.len, i + 1, j, &list, q).ok()?;
     Some(Frontier { len, at, marks })
 }
 
@@ -51,18 +51,20 @@ fn descend(
     ensures { outcome_of result ≡ mapped (zero_padded 1186) (swept (plan_of guided.now.located.rings)) }
 {
     let mut labels = first_labels;
-    let mut line = first;
+    let mut frontier = first;
     for _ in 0..guided.located.rings.n {
         let front = FrontierView {
             located: guided.located,
-            f: &line.at,
+            f: &frontier.at,
         };
-        if !sweep_ends::is_unfinished(&front, line.len) {
-            guided.finish_labels(&mut labels, &line.at, line.len);
+        if !sweep_ends::is_unfinished(&front, frontier.len) {
+            guided.finish_labels(&mut labels, &frontier.at, frontier.len);
             return Ok(labels);
         }
-        let (i, j) = choice::choose(&front, line.len, &line.marks).ok_or(Refusal::SweepStuck)?;
-        line = take_step(guided, &mut labels, &line, i, j).ok_or(Refusal::SweepStuck)?;
+        let (i, j) = choice::choose(&front, frontier.len, &frontier.marks).ok_or(
+            Refusal::SweepStuck,
+        )?;
+        frontier = take_step(guided, &mut labels, &frontier, i, j).ok_or(Refusal::SweepStuck)?;
     }
     Err(Refusal::SweepStuck)
 }

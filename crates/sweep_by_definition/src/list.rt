@@ -26,10 +26,10 @@ fn is_excluded(marks: &[u8], c: u16) -> bool
 
 // Puts c at the end of a frontier, which may have failed: how many contexts it then has. It fails where it is full.
 #[tactic(auto, using(crate::proofs::Moves::grown_off))]
-fn grow(at: &mut [u16], line: Result<usize, usize>, c: u16) -> Result<usize, usize>
-    ensures { (marks : List ℕ) → lent_frontier result at.new marks ≡ pushed (lent_frontier line at.old marks) c }
+fn grow(at: &mut [u16], frontier: Result<usize, usize>, c: u16) -> Result<usize, usize>
+    ensures { (marks : List ℕ) → lent_frontier result at.new marks ≡ pushed (lent_frontier frontier at.old marks) c }
 {
-    match line {
+    match frontier {
         Ok(len) => sweep_frontier::push(at, len, c).ok_or(len),
         Err(len) => Err(sweep_frontier::push(at, len, c).unwrap_or(len)),
     }
@@ -95,13 +95,13 @@ pub(crate) fn listed(
 // Puts these positions of f at the end of a frontier, which may have failed: how many contexts it then has. It fails where it is full.
 fn append(
     at: &mut [u16],
-    line: Result<usize, usize>,
+    frontier: Result<usize, usize>,
     f: &[u16],
     positions: Range<usize>,
 ) -> Result<usize, usize>
-    ensures { (marks : List ℕ) → lent_frontier result at.new marks ≡ fold pushed (lent_frontier line at.old marks) (span f.now positions.start positions.end) }
+    ensures { (marks : List ℕ) → lent_frontier result at.new marks ≡ fold pushed (lent_frontier frontier at.old marks) (span f.now positions.start positions.end) }
 {
-    let mut grown = line;
+    let mut grown = frontier;
     for k in positions {
         grown = grow(at, grown, arrays::at(f, k));
     }

@@ -22,7 +22,7 @@ use Rattle.rings.specs.Tables.{plan_of, size_of}
 use Rattle.rings.proofs.Rows.{ring-size}
 use Rattle.lists.specs.Folds.{each, each_down}
 use Rattle.sweep_frontier.specs.Held.{AllBelow200, EntriesBelow200, HoldsList, Marks, HoldsFrontier}
-use Rattle.sweep_frontier.proofs.Lines.{small-append, mem-small, small-get_or, push_rep, marks-same, marks-set, fresh-rep, stretch-all}
+use Rattle.sweep_frontier.proofs.Holding.{small-append, mem-small, small-get_or, push_rep, marks-same, marks-set, fresh-rep, stretch-all}
 use Rattle.sweep_frontier.proofs.Fails.{unless_failed_none}
 use Rattle.sweep_frontier.proofs.Under.{back_suc}
 use Rattle.sweep_frontier.specs.Frontiers as run
@@ -88,7 +88,7 @@ module _ (p : Plan) where
   length-top : length (top p) ≤ length r - 2
   length-top = let a = ap length top-is ∙ length-reverse (take (length r - 2) (drop 1 r)) ∙ length-take (length r - 2) (drop 1 r) in omega arith
 
-  -- a line that these are put on holds them
+  -- a frontier that these are put on holds them
   push_top : (q : ℕ) (v : Frontier) (l : List ℕ) → HoldsList v l → length l + q ≤ 512 → q ≤ length r - 2 → HoldsList (each_down (λ (t : ℕ) w. run.pushed w (get_or r (suc t) 0)) q v) (l ++ reverse (take q (drop 1 r)))
   unfolding each_down
   push_top zero v l h s k = subst (HoldsList v) (sym (append-nil l)) h
@@ -106,7 +106,7 @@ module _ (p : Plan) where
   first_front = west ∷ top p ++ (east ∷ [])
 
   module _ (sane : EntriesBelow200 p) (long : length r ≤ 255) where
-    -- the first line holds the first frontier
+    -- the first frontier that the engine makes holds the contexts of the model's
     front-rep : HoldsList (first_contexts p) first_front
     unfolding first_contexts
     front-rep =
@@ -124,7 +124,7 @@ module _ (p : Plan) where
       small-append (top p) (east ∷ []) (mem-small (top p) (λ a m. sane.entry 0 a (mem-drop 1 r a (mem-take (length r - 2) (drop 1 r) a (mem-reverse (take (length r - 2) (drop 1 r)) a (subst (Memᴰ a) top-is m)))))) (omega arith, tt),
     )
 
-    -- The first line holds the frontier of the first state
+    -- With its marks it holds the frontier of the first state
     pub first-frontier : HoldsFrontier (first_state p) (first_frontier p)
     unfolding first_state first_frontier
     first-frontier =

@@ -38,7 +38,9 @@ same_two (x ∷ l) (suc (suc q)) h =
 module _ (r : Rings) (f : List ℕ) (k : ℕ) {b : Below} {t : Bool} (is : b ≡ below_of r f k) (is-one : t ≡ eqb (depth_of b) 1) where
   -- South alone is below it where the first that is read is South, too
   told : cond t (eqb (get_or (entries_read b) 0 0) south) false ≡ same_list (below (plan_of r) f k) (south ∷ [])
-  told = ap (λ (t : Bool). cond t (eqb (get_or (entries_read b) 0 0) south) false) is-one ∙ sym (same_two (entries_read b) (depth_of b) (index_le b.left (entries_read b))) ∙ ap (λ (m : List ℕ). same_list m (south ∷ [])) (below_read r f k is)
+  told =
+      let two = same_two (entries_read b) (depth_of b) (index_le b.left (entries_read b)) in
+      ap (λ (t : Bool). cond t (eqb (get_or (entries_read b) 0 0) south) false) is-one ∙ sym two ∙ ap (λ (m : List ℕ). same_list m (south ∷ [])) (below_read r f k is)
 
   -- one context is
   pub done_yes : {y : ℕ} → t ≡ true → y ≡ get_or (entries_read b) 0 0 → eqb y south ≡ same_list (below (plan_of r) f k) (south ∷ [])
@@ -48,7 +50,7 @@ module _ (r : Rings) (f : List ℕ) (k : ℕ) {b : Below} {t : Bool} (is : b ≡
   pub done_no : t ≡ false → t ≡ same_list (below (plan_of r) f k) (south ∷ [])
   done_no other = other ∙ ap (λ (t : Bool). cond t (eqb (get_or (entries_read b) 0 0) south) false) (sym other) ∙ told
 
--- The engine's finishing test on the line that holds a frontier is the model's
+-- The engine's finishing test on the arrays that hold a frontier is the model's
 pub open_is : (p : Plan) (s : State) (v : Frontier) → HoldsFrontier s v → unfinished p v.at v.len ≡ not (finished p s.frontier)
 unfolding unfinished finished
 open_is p s v fr =

@@ -33,14 +33,14 @@ fn front(rings: &Rings) -> Option<Frontier>
     })
 }
 
-// A mark for each context of the line.
+// A mark for each context of the frontier.
 #[tactic(auto, using(lists::proofs::Folds::folds_up_end), unfolding(lists::specs::Spans::zeros, crate::specs::Ends::marked))]
-fn marked(line: &Frontier) -> [u8; 256]
-    ensures { result ≡ marked line.now.at line.now.len }
+fn marked(frontier: &Frontier) -> [u8; 256]
+    ensures { result ≡ marked frontier.now.at frontier.now.len }
 {
     let mut marks = [0u8; 256];
-    for k in 0..line.len {
-        arrays::put(&mut marks, arrays::number_at(&line.at, k), 1);
+    for k in 0..frontier.len {
+        arrays::put(&mut marks, arrays::number_at(&frontier.at, k), 1);
     }
     marks
 }
@@ -51,9 +51,9 @@ pub fn first_frontier(rings: &Rings) -> Option<Frontier>
     ensures value { result ≡ unless_failed (first_frontier (plan_of rings.now)) }
     ensures north { length (ring (plan_of rings.now) 0) < 2 ^ 8 }
 {
-    let mut line = front(rings)?;
-    line.marks = marked(&line);
-    Some(line)
+    let mut frontier = front(rings)?;
+    frontier.marks = marked(&frontier);
+    Some(frontier)
 }
 
 // Is South alone below position k?

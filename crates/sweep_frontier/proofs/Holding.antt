@@ -1,4 +1,4 @@
--- What a line of the engine holds: a list in an array, and marks.
+-- What the engine's frontier holds: a list in an array, and marks.
 use Prim.Native.Nat.{ℕ, zero, suc, ◌+◌, ◌≤◌, ◌<◌}
 use mathlib.Core.Path.{◌≡◌, refl, ap, ◌∙◌}
 use mathlib.Core.List.{List, [], ◌∷◌, ◌++◌, Memᴰ}
@@ -34,7 +34,7 @@ pub mem-small : (l : List ℕ) → ((a : ℕ) → Memᴰ a l → a < 200) → Al
 mem-small [] h = tt
 mem-small (a ∷ l) h = (h a (Memᴰ.head refl), mem-small l (λ b m. h b (Memᴰ.tail m)))
 
--- an entry of such a list by its place; past the end stands 0
+-- an entry of such a list by its position; past the end stands 0
 pub small-get_or : (l : List ℕ) (k : ℕ) → AllBelow200 l → get_or l k 0 < 200
 small-get_or [] k h = omega arith
 small-get_or (a ∷ l) zero h = h.0
@@ -48,7 +48,7 @@ no_longer l r h =
     omega arith
 
 -- ---- arrays that hold a list
--- a line with an entry put at its end holds the list with it
+-- a frontier with an entry put at its end holds the list with it
 pub push_rep : (v : Frontier) (l : List ℕ) (x : ℕ) → HoldsList v l → length l < 512 → HoldsList (pushed v x) (l ++ (x ∷ []))
 unfolding pushed
 push_rep v l x r h =
@@ -70,8 +70,8 @@ marks-set {m} p c x h y k = record { size = simp length-set k.size; mark = λ d 
     go d u true e = rw (eqb-true d c e, get_or-set_same m c x 0 (let z = k.size in omega arith)) (ne_eqb x 0 (λ z. omega arith))
     go d u false e = rw (get_or-set_other m c d x 0 (eqb-false d c e)) (k.mark d u)
 
--- ---- a line that grows
--- what is put at the end of a line changes no mark
+-- ---- a frontier that grows
+-- what is put at the end of a frontier changes no mark
 pub pushed-marks : (v : Frontier) (x : ℕ) → (pushed v x).marks ≡ v.marks
 unfolding pushed
 pushed-marks v x = go (ltb v.len 512)
@@ -89,7 +89,7 @@ stretch_part f a k h = stretch-held 512 f a k ∙ spans.stretch_part f a k h
 pub stretch-all : (f : List ℕ) → stretch (zero_padded 512 f) 0 (length f) ≡ f
 stretch-all f = stretch-zero_padded 512 f
 
--- a fresh line holds nothing
+-- a fresh frontier holds nothing
 pub fresh-rep : (m : List ℕ) → HoldsList (empty_frontier m) []
 unfolding empty_frontier zero_padded
 fresh-rep m = record { ok = refl; len = refl; at = refl; short = omega arith }

@@ -1,5 +1,5 @@
 pub mod Moves
-pub mod Lines
+pub mod Holding
 pub mod Under
 pub mod Fails
 pub mod Ones

@@ -15,16 +15,16 @@ use Rattle.rings.proofs.Rows.{ring-size, ring-at}
 use Rattle.sweep_frontier.specs.declared.below.Below.{Below}
 use Rattle.sweep_frontier.specs.Frontiers.{rotated_at, entries_read}
 
--- ---- a ring read from a place on
+-- ---- a ring read from a position on
 module _ (x : ℕ) (r : List ℕ) {q d : ℕ} (size : q ≡ length r) (rest : d ≡ q - (x + 1)) where
-  -- an entry after the place
+  -- an entry after the position
   pub rotated-first : (t : ℕ) → t < d → get_or r (x + 1 + t) 0 ≡ get_or (rotated_at x r) t 0
   unfolding rotated_at
   rotated-first t h =
       let z : x + 1 + t ≡ suc x + t = omega arith in
       ap (λ (k : ℕ). get_or r k 0) z ∙ sym (get_or-append (drop (suc x) r) (take x r) 0 t (let l = length-drop (suc x) r in omega arith) ∙ get_or-drop (suc x) r t 0)
 
-  -- an entry before the place
+  -- an entry before the position
   pub rotated-later : (t : ℕ) → d ≤ t → t - d < x → get_or r (t - d) 0 ≡ get_or (rotated_at x r) t 0
   unfolding rotated_at
   rotated-later t h k =
@@ -38,7 +38,7 @@ module _ (x : ℕ) (r : List ℕ) {q d : ℕ} (size : q ≡ length r) (rest : d 
   rotated-past t h k =
       sym (get_or-eq_default (drop (suc x) r ++ take x r) 0 (let a = length-append (drop (suc x) r) (take x r) in let b = length-drop (suc x) r in let c = length-take x r in omega arith))
 
--- how long a ring read from a place on is
+-- how long a ring read from a position on is
 pub rotated_long : (x : ℕ) (r : List ℕ) {q d e : ℕ} → q ≡ length r → d ≡ q - 1 - x → e ≡ min x q → d + e ≡ length (rotated_at x r)
 unfolding rotated_at
 rotated_long x r s g h =
@@ -59,15 +59,15 @@ module _ (b : Below) {q : ℕ} (size : q ≡ size_of b.rings.sizes.now b.rings.n
   stands from i h = ap (λ (s : ℕ). get_or b.rings.entries.now (s + i) 0) from ∙ sym (ring-at b.rings.starts.now b.rings.sizes.now b.rings.entries.now b.rings.n b.u i (omega arith))
 
   module _ {w d : ℕ} (less : w ≡ q - 1) (rest : d ≡ w - b.x) where
-    -- how many entries stand behind the place
+    -- how many entries stand behind the position
     behind : d ≡ q - (b.x + 1)
     behind = omega arith
 
-    -- an entry behind the place
+    -- an entry behind the position
     pub read_first : {o t e : ℕ} → o ≡ get_or b.rings.starts.now b.u 0 → t < d → e ≡ get_or b.rings.entries.now (o + (b.x + 1 + t)) 0 → e ≡ get_or (entries_read b) t 0
     read_first {t = t} from h is = is ∙ stands from (b.x + 1 + t) (omega arith) ∙ rotated-first b.x (ring (plan_of b.rings) b.u) whole_ring behind t h
 
-    -- an entry before the place
+    -- an entry before the position
     pub read_later : {o t e m : ℕ} → o ≡ get_or b.rings.starts.now b.u 0 → (t < d → ⊥) → m ≡ min b.x q → t - d < m → e ≡ get_or b.rings.entries.now (o + (t - d)) 0 → e ≡ get_or (entries_read b) t 0
     read_later {t = t} from h low k is = is ∙ stands from (t - d) (omega arith) ∙ rotated-later b.x (ring (plan_of b.rings) b.u) whole_ring behind t (omega arith) (omega arith)
 
@@ -90,7 +90,7 @@ first_after f a (suc k) = go (f (suc a)) (first_after f (suc a) k)
     go true e = refl
     go false e = e
 
--- where b stands is the lowest place at which it does
+-- where b stands is the lowest position at which it does
 pub lowest-index : (b : ℕ) (l : List ℕ) → lowest (λ (t : ℕ). eqb b (get_or l t 0)) (length l) ≡ index_of b l
 unfolding first_from
 lowest-index b [] = refl

@@ -9,7 +9,7 @@ use lib.Dec.{eqb}
 use borrow.Author.Tests.{eq-eqb, ne_eqb}
 use Rattle.lists.specs.Parts.{index_of}
 
--- where b is the second entry, or there is no second, it stands at place 1 as it does not stand first
+-- where b is the second entry, or there is no second, it stands at position 1 as it does not stand first
 second : (b a : ℕ) (l : List ℕ) → (b ≡ a → ⊥) → index_of b (a ∷ l) ≡ suc (index_of b l)
 second b a l n = ap (λ (t : Bool). cond t 0 (suc (index_of b l))) (ne_eqb b a n)
 

@@ -15,9 +15,9 @@ use Rattle.lists.proofs.Padded.{get_or-zero_padded}
 use Rattle.model.specs.Plan.{Plan, ring, onward, strictly_between}
 use Rattle.model.specs.Sweep.{below}
 use Rattle.sweep_frontier.specs.Held.{AllBelow200, EntriesBelow200}
-use Rattle.sweep_frontier.proofs.Lines.{mem-small}
+use Rattle.sweep_frontier.proofs.Holding.{mem-small}
 
--- what stands before an entry is what is taken up to its place
+-- what stands before an entry is what is taken up to its position
 pub before-take : (b : ℕ) (l : List ℕ) → before b l ≡ take (index_of b l) l
 before-take b [] = refl
 before-take b (a ∷ l) = go (eqb b a) (before-take b l)

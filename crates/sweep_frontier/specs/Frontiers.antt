@@ -51,7 +51,7 @@ unfoldable pub empty_frontier : List ℕ → Frontier
 empty_frontier marks = frontier_of true 0 (zeros 512) marks
 
 -- ---- what is below
--- a ring read from the entry after place x round to the entry before it
+-- a ring read from the entry after position x round to the entry before it
 unfoldable pub rotated_at : ℕ → List ℕ → List ℕ
 rotated_at x r = drop (suc x) r ++ take x r
 

@@ -16,7 +16,7 @@ AllBelow200 (a ∷ l) = (a < 200) × AllBelow200 l
 pub record EntriesBelow200 (p : Plan) : Type 0 where
   pub entry : (u a : ℕ) → Memᴰ a (ring p u) → a < 200
 
--- a line that holds l
+-- v has not failed, and its contexts are l, with zeros behind
 pub record HoldsList (v : Frontier) (l : List ℕ) : Type 0 where
   pub ok : v.ok ≡ true
   pub len : v.len ≡ length l
@@ -28,7 +28,7 @@ pub record Marks (m : List ℕ) (p : ℕ → Bool) : Type 0 where
   pub size : length m ≡ 256
   pub mark : (c : ℕ) → c < 256 → eqb (get_or m c 0) 0 ≡ not (p c)
 
--- The line holds the frontier of a state of the sweep. What came to the frontier since the start has no repeat, so that it is never longer than the array
+-- v holds the frontier of a state of the sweep. What came to the frontier since the start has no repeat, so that it is never longer than the array
 pub record HoldsFrontier (s : State) (v : Frontier) : Type 0 where
   pub rep : HoldsList v s.frontier
   pub marks : Marks v.marks (λ (c : ℕ). member c s.seen)

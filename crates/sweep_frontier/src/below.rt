@@ -13,7 +13,7 @@ pub struct FrontierView<'a> {
     pub f: &'a [u16],
 }
 
-// What is below a position of a frontier: u's ring, from the entry after place x round to the left frontier neighbour, which is the first that is not below.
+// What is below a position of a frontier: u's ring, from the entry after position x round to the left frontier neighbour, which is the first that is not below.
 #[derive(Clone, Copy)]
 pub struct Below<'a> {
     pub rings: Rings<'a>,
@@ -68,7 +68,7 @@ impl<'a> Below<'a> {
         arrays::at(self.rings.starts, self.u)
     }
 
-    // Entry t of the ring of q entries from this start on, read from the entry after place x round to the entry before it; 0 past the end.
+    // Entry t of the ring of q entries from this start on, read from the entry after position x round to the entry before it; 0 past the end.
     #[tactic(auto, using(crate::proofs::Moves::read_first, crate::proofs::Moves::read_later, crate::proofs::Moves::read_past))]
     fn read(&self, start: u16, q: usize, t: usize) -> u16
         requires start { start ≡ get_or self.now.rings.starts.now self.now.u 0 }
@@ -86,7 +86,7 @@ impl<'a> Below<'a> {
         0
     }
 
-    // Entry t of the ring, read from the entry after place x round to the entry before it; 0 past the end.
+    // Entry t of the ring, read from the entry after position x round to the entry before it; 0 past the end.
     pub fn at(&self, t: usize) -> u16
         ensures { result ≡ get_or (run.entries_read self.now) t 0 }
     {

@@ -16,7 +16,7 @@ pub struct Frontier {
     pub marks: [u8; 256],
 }
 
-// Puts x at the end of a frontier of len contexts on a lent array: how many it then has. There is none where the 512 places are full.
+// Puts x at the end of a frontier of len contexts on a lent array: how many it then has. There is none where it has 512 contexts.
 #[tactic(auto, unfolding(crate::specs::Frontiers::pushed))]
 pub fn push(at: &mut [u16], len: usize, x: u16) -> Option<usize>
     ensures { (marks : List ℕ) → run.tried result len at.new marks ≡ run.pushed (run.frontier_of true len at.old marks) x }

@@ -83,7 +83,8 @@ module _ (f : List ℕ) (k e : ℕ) where
 -- ---- the loops over spans
 module _ {p : Plan} {l : ℕ} {ds₀ : List Dart} {ls₀ : List ℕ} {ls ls' : List ℕ} (f : List ℕ) (k e u : ℕ) where
   -- a turn of the loop over the darts from u, by what the range says of its next number
-  pub fan_on : {v x j d : ℕ} → Draws p l ds₀ ls₀ (darts_to u (span f k e)) ls → (d ≡ e) × ((0 < e - k) × (x ≡ k) × (j ≡ k + 1)) → v ≡ get_or f x 0 → ls' ≡ put_label p u v l (put_label p v u (turned l 2) ls) → Draws p l ds₀ ls₀ (darts_to u (span f j d)) ls'
+  pub fan_on : {v x j d : ℕ} → Draws p l ds₀ ls₀ (darts_to u (span f k e)) ls → (d ≡ e) × ((0 < e - k) × (x ≡ k) × (j ≡ k + 1)) → v ≡ get_or f x 0
+      → ls' ≡ put_label p u v l (put_label p v u (turned l 2) ls) → Draws p l ds₀ ls₀ (darts_to u (span f j d)) ls'
   fan_on {v} {x} inv next is q = draws-on inv u (get_or f x 0) (fan-next f k e u next) (q ∙ ap (λ (v : ℕ). put_label p u v l (put_label p v u (turned l 2) ls)) is)
 
   -- a turn of the loop over the darts from several contexts

@@ -11,7 +11,7 @@ use Rattle.model.specs.Plan.{Plan, north, east, south, west}
 use Rattle.model.specs.Labels.{up, right}
 use Rattle.model.specs.Sweep.{State, label_edges, all_pairs, top, bare_labels, first_state, listed, finish, advance}
 use Rattle.model.proofs.LabelCounts.{edges_long, bare_long}
-use Rattle.sweep_frontier.proofs.Lines.{stretch_part, stretch-all}
+use Rattle.sweep_frontier.proofs.Holding.{stretch_part, stretch-all}
 use Rattle.sweep_labelling.specs.Labelling.{first_labels, step_labels, finish_labels, Labelled}
 use Rattle.sweep_labelling.proofs.Arrays.{edges_padded}
 

@@ -12,7 +12,7 @@ use ring_positions::Located;
 mod bare;
 mod edges;
 
-// Rings with a table that finds their entries, and where each ring begins: by them each label is put where the model has it.
+// Rings of a plan of at most 200 contexts and 1186 entries, each entry below 200, with where each ring begins and a table that finds their entries: by them each label is put where the model has it.
 #[derive(Clone, Copy)]
 pub struct Guided<'a> {
     pub located: Located<'a>,

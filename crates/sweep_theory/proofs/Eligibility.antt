@@ -133,8 +133,9 @@ module _ (p : Plan) (s : State) (i j : ℕ) (o : Positions s i j) where
   unfolding eligible
   joined (a, z, w, y, c) =
       let seen : Bool = list_any (λ (c : ℕ). member c s.seen) l in
-      yes_and (list_all something (from (suc i) (j - suc i)) && not (repeats l || list_any border l || seen)) (chordless p g)
-      (yes_and (list_all something (from (suc i) (j - suc i))) (not (repeats l || list_any border l || seen)) a (yes-not (repeats l || list_any border l || seen) (no_or (repeats l || list_any border l) seen (no_or (repeats l) (list_any border l) z w) y))) c
+      let bad : Bool = repeats l || list_any border l || seen in
+      let fine : not bad ≡ true = yes-not bad (no_or (repeats l || list_any border l) seen (no_or (repeats l) (list_any border l) z w) y) in
+      yes_and (list_all something (from (suc i) (j - suc i)) && not bad) (chordless p g) (yes_and (list_all something (from (suc i) (j - suc i))) (not bad) a fine) c
 
   -- the new frontier of an eligible pair has no chord
   pub no_chord : eligible p s i j ≡ true → chordless p g ≡ true

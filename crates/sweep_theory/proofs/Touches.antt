@@ -1,4 +1,4 @@
--- How many contexts of a line touch a context: exactly those of a range of positions, if and only if none touches it outside.
+-- How many contexts of a frontier touch a context: exactly those of a range of positions, if and only if none touches it outside.
 use Prim.Native.Nat.{ℕ, suc, ◌+◌, ◌-◌, ◌≤◌, ◌<◌}
 use mathlib.Core.Path.{◌≡◌, refl, sym, ap, ◌∙◌}
 use mathlib.Core.List.{List, [], ◌∷◌, ◌++◌, Memᴰ}

@@ -1,4 +1,4 @@
--- The sweep with counters: for each context, how many contexts of the frontier touch it. A counter is never lowered; each context that comes to the frontier raises those of its neighbours.
+-- The sweep with counters: for each context, how many contexts that came to the frontier touch it. A counter is never lowered; each context that comes to the frontier raises those of its neighbours.
 use Rattle.std.specs.Prelude.{ℕ, zero, suc, ◌-◌, min, List, [], ◌∷◌, Bool, cond, not, ◌&&◌, length, get_or, set, eqb}
 use Rattle.std.specs.List.{list_all}
 use Rattle.lists.specs.Tests.{is_empty, member}

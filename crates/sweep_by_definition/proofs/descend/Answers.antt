@@ -38,8 +38,8 @@ take_step-requires-clause-j_bound c =
     let some : c.choose.result ≡ Some (c.in_ok-i.i, c.in_ok-i.j) = grind arith in
     (found_inside c.args.guided.now.guide.sane c.loop.invariant c.choose.result c.choose.ensures some).3
 
-pub returns-in_err-line : goal.returns-in_err-line
-returns-in_err-line c =
+pub returns-in_err-frontier : goal.returns-in_err-frontier
+returns-in_err-frontier c =
     let some : c.choose.result ≡ Some (c.in_ok-i.i, c.in_ok-i.j) = grind arith in
     let none : c.take_step.result ≡ None = grind arith in
     absurd (running-whole c.args.guided.now.guide.sane c.loop.invariant c.choose.result c.choose.ensures some c.take_step.result c.take_step.new.labels c.take_step.ensures none)
@@ -47,7 +47,7 @@ returns-in_err-line c =
 pub loop-preserved : goal.loop-preserved
 loop-preserved c =
     let some : c.choose.result ≡ Some (c.in_ok-i.i, c.in_ok-i.j) = grind arith in
-    let step : c.take_step.result ≡ Some c.in_ok-line.line = grind arith in
+    let step : c.take_step.result ≡ Some c.in_ok-frontier.frontier = grind arith in
     let on = ap not c.if-not-is_unfinished.false in
     running_on c.args.guided.now.guide.sane c.loop.invariant c.choose.result c.choose.ensures some c.take_step.result c.take_step.new.labels c.take_step.ensures (omega arith) c.is_unfinished.ensures on step
 

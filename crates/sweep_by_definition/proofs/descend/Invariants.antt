@@ -5,4 +5,4 @@ use Rattle.sweep_by_definition.specs.Steps.{Running}
 use Rattle.sweep_by_definition.proofs.descend.Given as goal
 
 abbrev pub invariant-loop : goal.invariant-loop
-invariant-loop l = Running (plan_of l.guided.located.rings) (l.end - l.counter) l.line l.labels
+invariant-loop l = Running (plan_of l.guided.located.rings) (l.end - l.counter) l.frontier l.labels

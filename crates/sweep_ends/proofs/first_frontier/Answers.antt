@@ -11,6 +11,6 @@ pub returns-clause-value : goal.returns-clause-value
 unfolding first_frontier
 returns-clause-value c =
     let p = plan_of c.args.rings.now in
-    let v = c.in_ok-line.line in
-    let same = sym (unless_failed_is (first_contexts p) (sym c.front.ensures.value ∙ c.in_ok-line.was)) in
-    unless_failed_yes (ap (run.frontier_of true v.len v.at) c.marked-line.ensures ∙ ap (λ (w : run.Frontier). run.frontier_of w.ok w.len w.at (marked w.at w.len)) same)
+    let v = c.in_ok-frontier.frontier in
+    let same = sym (unless_failed_is (first_contexts p) (sym c.front.ensures.value ∙ c.in_ok-frontier.was)) in
+    unless_failed_yes (ap (run.frontier_of true v.len v.at) c.marked-frontier.ensures ∙ ap (λ (w : run.Frontier). run.frontier_of w.ok w.len w.at (marked w.at w.len)) same)

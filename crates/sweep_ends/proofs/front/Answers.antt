@@ -15,7 +15,7 @@ use Rattle.sweep_ends.specs.Ends.{first_contexts}
 use Rattle.sweep_ends.proofs.Beginning.{north_long}
 use Rattle.sweep_ends.proofs.front.Goals as goal
 
--- what is put on the line for each of North's inner neighbours
+-- what is put on the frontier for each of North's inner neighbours
 abbrev step : Rings → ℕ → run.Frontier → run.Frontier
 step r i v = run.pushed v (get_or (ring (plan_of r) 0) (suc i) 0)
 

@@ -10,4 +10,6 @@ use Rattle.sweep_frontier.specs.Frontiers as run
 use Rattle.sweep_ends.proofs.front.Given as goal
 
 abbrev pub invariant-loop-t : goal.invariant-loop-t
-invariant-loop-t l = FoldsDown (λ (i : ℕ) w. run.pushed w (get_or (ring (plan_of l.rings) 0) (suc i) 0)) (length (ring (plan_of l.rings) 0) - 2) (run.pushed (run.empty_frontier (zeros 256)) 3) l.t (run.frontier_of true l.len l.at (zeros 256))
+invariant-loop-t l =
+    let r = ring (plan_of l.rings) 0 in
+    FoldsDown (λ (i : ℕ) w. run.pushed w (get_or r (suc i) 0)) (length r - 2) (run.pushed (run.empty_frontier (zeros 256)) 3) l.t (run.frontier_of true l.len l.at (zeros 256))

@@ -9,5 +9,5 @@ use Rattle.sweep_by_counts.proofs.first.is_chorded.Goals as goal
 pub returns : goal.returns
 unfolding chorded
 returns c =
-    let v = c.args.line.now in
+    let v = c.args.frontier.now in
     some_in_range (chord_at (plan_of c.args.rings.now) v.marks v.at) 0 v.len c.any.ensures.ran (λ x b g k. search (rules, tests))

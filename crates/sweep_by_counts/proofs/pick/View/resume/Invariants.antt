@@ -4,4 +4,4 @@ use Rattle.sweep_by_counts.proofs.Singles.{Rises}
 use Rattle.sweep_by_counts.proofs.pick.View.resume.Given as goal
 
 abbrev pub invariant-loop-t : goal.invariant-loop-t
-invariant-loop-t l = Rises (plan_of l.self.located.rings) l.self.course.now.line.at l.k l.m l.t
+invariant-loop-t l = Rises (plan_of l.self.located.rings) l.self.course.now.frontier.at l.k l.m l.t

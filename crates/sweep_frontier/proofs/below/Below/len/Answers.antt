@@ -14,7 +14,7 @@ use Rattle.sweep_frontier.proofs.Moves.{lowest-index}
 use Rattle.sweep_frontier.proofs.below.Below.len.Goals.{After-unwrap_or}
 use Rattle.sweep_frontier.proofs.below.Below.len.Goals as goal
 
--- what is returned is the place of the left frontier neighbour
+-- what is returned is the position of the left frontier neighbour
 place : (c : After-unwrap_or) → c.unwrap_or.result ≡ depth_of c.args.self.now
 place c =
     let b = c.args.self.now in
