@@ -28,7 +28,7 @@ pub enum Parts<'a> {
     Chart { labels: &'a [u8], drawn: Points<'a> },
 }
 
-// What is written: a plan that fits, whose entries are all there, and what follows it.
+// What is written: a plan that fits, whose entries are all there, and what follows it, with at most 1186 labels.
 #[derive(Clone, Copy)]
 pub struct Held<'a> {
     pub fit: Fit<'a>,
