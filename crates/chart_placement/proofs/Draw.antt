@@ -100,7 +100,8 @@ after-ties cs upright p ls e = sym (drop-map constraint_of 2 cs) ∙ ap (drop 2)
     two false = refl
 
 module _ (p : Plan) (ls : List ℕ) where
-  in_steps : chart p ls ≡ (least_numbers (context_count p) (dart_constraints false p ls) >>= λ xs. least_numbers (context_count p) (dart_constraints true p ls) >>= λ ys. require (is_placement slope p ls (chart_at xs ys)) 11 0 >> accepted (chart_at xs ys))
+  in_steps : chart p ls
+      ≡ (least_numbers (context_count p) (dart_constraints false p ls) >>= λ xs. least_numbers (context_count p) (dart_constraints true p ls) >>= λ ys. require (is_placement slope p ls (chart_at xs ys)) 11 0 >> accepted (chart_at xs ys))
   unfolding chart least_placement ties compass
   in_steps = refl
 
@@ -109,7 +110,8 @@ module _ (p : Plan) (ls : List ℕ) where
   axis_in upright = kept_at (compass upright p ls) (numbers_of (least_numbers (context_count p) (dart_constraints upright p ls)))
 
   -- what the solver finds
-  pub axis-is : {n : ℕ} (cs : List Stored) (upright : Bool) → n ≤ 200 → n ≡ context_count p → constraints_in cs ≡ dart_constraints upright p ls → kept_at (constraints_in (drop 2 cs)) (numbers_of (solved n (constraints_in cs))) ≡ axis_in upright
+  pub axis-is : {n : ℕ} (cs : List Stored) (upright : Bool) → n ≤ 200 → n ≡ context_count p → constraints_in cs ≡ dart_constraints upright p ls
+      → kept_at (constraints_in (drop 2 cs)) (numbers_of (solved n (constraints_in cs))) ≡ axis_in upright
   unfolding solved axis_in
   axis-is {n} cs upright small size same =
       let numbers : solved n (constraints_in cs) ≡ least_numbers (context_count p) (dart_constraints upright p ls) = rw (le-leb n 200 small) (λ i. least_numbers (size i) (same i)) in

@@ -215,7 +215,8 @@ met-behind ks (suc k) [] e = e
 met-behind ks (suc k) (c ∷ cs) e = met-behind ks k cs ((and_yes (meets ks (constraint_of c)) (list_all (meets ks) (constraints_in cs)) e).1)
 
 -- numbers that the constraints have raised and that meet them all are the answer
-pub settled-kept : (s : System) (ks : List ℕ) (k : ℕ) → RaisedIn s ks → true ≡ list_all (meets ks) (constraints_in s.constraints.now) → Some ks ≡ kept_at (constraints_in (drop k s.constraints.now)) (numbers_of (solved s.n (constraints_in s.constraints.now)))
+pub settled-kept : (s : System) (ks : List ℕ) (k : ℕ) → RaisedIn s ks → true ≡ list_all (meets ks) (constraints_in s.constraints.now)
+    → Some ks ≡ kept_at (constraints_in (drop k s.constraints.now)) (numbers_of (solved s.n (constraints_in s.constraints.now)))
 settled-kept s ks k r e =
     sym (ap (λ (t : Bool). cond t (Some ks) None) (met-behind ks k s.constraints.now (sym e)))
     ∙ ap (kept_at (constraints_in (drop k s.constraints.now))) (solved-found s ks r (met-each s ks e))

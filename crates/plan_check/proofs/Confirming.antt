@@ -108,7 +108,8 @@ module _ (t starts sizes es : List ℕ) (n u : ℕ) {a e : ℕ} (start : a ≡ g
           ap (λ (j : ℕ). neighbour (get_or es j 0)) at ∙ sym (ring-at starts sizes es n u (length (ring (rows starts sizes es n) u) - 1) (omega arith))
 
   -- where its entries are all there
-  pub part-has_unconfirmed : {l : List ℕ} {w : ℕ} {b : Bool} → a ≤ e → e ≤ length es → l ≡ slice_range es a e → w ≡ neighbour (get_or es (e - 1) 0) → b ≡ some_unconfirmed t u w (map neighbour l) → b ≡ has_unconfirmed t (rows starts sizes es n) u
+  pub part-has_unconfirmed : {l : List ℕ} {w : ℕ} {b : Bool} → a ≤ e → e ≤ length es → l ≡ slice_range es a e → w ≡ neighbour (get_or es (e - 1) 0)
+      → b ≡ some_unconfirmed t u w (map neighbour l) → b ≡ has_unconfirmed t (rows starts sizes es n) u
   part-has_unconfirmed h k same is says = says ∙ (λ i. some_unconfirmed t u (is i) (map neighbour ((same ∙ sym (stretch_part es a (e - a) (omega arith))) i))) ∙ ring-has_unconfirmed
 
 -- ---- all darts, by what is noted

@@ -226,7 +226,9 @@ module _ (p : Plan) (yes : sound p ≡ true) where
 
     good_entry : bad_entry p u ≡ false
     unfolding bad_entry
-    good_entry = of_none (λ (v : ℕ). leb (context_count p) v || eqb v u) (ring p u) (λ v m. let (x, y, _) = darts v m in no_or (leb (context_count p) v) (eqb v u) (lt-leb (context_count p) v (adjacent-from p v u y)) (ne_eqb v u (λ q. x (sym q))))
+    good_entry =
+        of_none (λ (v : ℕ). leb (context_count p) v || eqb v u) (ring p u)
+        (λ v m. let (x, y, _) = darts v m in no_or (leb (context_count p) v) (eqb v u) (lt-leb (context_count p) v (adjacent-from p v u y)) (ne_eqb v u (λ q. x (sym q))))
 
     no_repeat : bad_repeat p u ≡ false
     unfolding bad_repeat

@@ -39,7 +39,8 @@ module _ (k : ℕ) where
   note-widened u v x s h = go (has_cell u v) refl
     where
       go : (b : Bool) → has_cell u v ≡ b
-          → ◌≡◌ {A = Noted} (cond b (set (zero_padded k s.0) (cell_at u v) x) (zero_padded k s.0), b && eqb (get_or (zero_padded k s.0) (cell_at u v) 0) 0 && s.1) (zero_padded k (cond b (set s.0 (cell_at u v) x) s.0), b && eqb (get_or s.0 (cell_at u v) 0) 0 && s.1)
+          → ◌≡◌ {A = Noted} (cond b (set (zero_padded k s.0) (cell_at u v) x) (zero_padded k s.0), b && eqb (get_or (zero_padded k s.0) (cell_at u v) 0) 0 && s.1)
+          (zero_padded k (cond b (set s.0 (cell_at u v) x) s.0), b && eqb (get_or s.0 (cell_at u v) 0) 0 && s.1)
       go true e =
           let low = ltb-true v 200 (and_yes (ltb u 200) (ltb v 200) e).1 in
           λ i. (set-zero_padded k s.0 (cell_at u v) x (omega arith) i, eqb (get_or-zero_padded k s.0 (cell_at u v) i) 0 && s.1)

@@ -74,7 +74,8 @@ unfolding tell
 tell_some v z [] e = absurd (false≢true e)
 tell_some v z (a ∷ l) e = go (eqb v a) e (tell_some v z l)
   where
-    go : (b : Bool) → (b || member v l) ≡ true → (member v l ≡ true → tell v z l ≡ successor_mark (get_or l (suc (index_of v l)) z)) → cond b (successor_mark (get_or l 0 z)) (tell v z l) ≡ successor_mark (get_or l (cond b 0 (suc (index_of v l))) z)
+    go : (b : Bool) → (b || member v l) ≡ true → (member v l ≡ true → tell v z l ≡ successor_mark (get_or l (suc (index_of v l)) z))
+        → cond b (successor_mark (get_or l 0 z)) (tell v z l) ≡ successor_mark (get_or l (cond b 0 (suc (index_of v l))) z)
     go true e c = refl
     go false e c = c e
 

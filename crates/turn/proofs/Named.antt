@@ -39,7 +39,7 @@ module _ (p : Plan) (q : ℕ) (ls : List ℕ) (room : entry_count p ≤ length l
   unfolding turn_dart
   label_other u v a b d apart = go (adjacent p u v) refl
     where
-      -- the other dart's label stands at another place
+      -- the other dart's label stands at another position
       other : adjacent p u v ≡ true → Place p a b ≢ Place p u v
       other e s =
           let (x, y) = place-apart p a b u v d e s in
@@ -113,7 +113,8 @@ module _ {p : Plan} {old : List ℕ} {ds : List Dart} {new : List ℕ} (inv : Ma
   module _ (u v : ℕ) (fresh : list_any (same_edge (dart u v)) ds ≡ false) where
     module _ (a b : ℕ) (d : adjacent p a b ≡ true) where
       -- of this edge: the label is another
-      renamed : (x : ℕ) → list_any (same_edge (dart a b)) ds ≡ list_any (same_edge (dart u v)) ds → (label_of p new a b ≡ label_of p old a b → x ≢ label_of p old a b) → (list_any (same_edge (dart a b)) ds || true) ≡ not (eqb x (label_of p old a b))
+      renamed : (x : ℕ) → list_any (same_edge (dart a b)) ds ≡ list_any (same_edge (dart u v)) ds → (label_of p new a b ≡ label_of p old a b → x ≢ label_of p old a b)
+          → (list_any (same_edge (dart a b)) ds || true) ≡ not (eqb x (label_of p old a b))
       renamed x e other =
           or-true (list_any (same_edge (dart a b)) ds)
           ∙ sym (ap not (ne_eqb x (label_of p old a b) (other (eqb-true (label_of p new a b) (label_of p old a b) (not-false (eqb (label_of p new a b) (label_of p old a b)) (sym (inv.same a b d) ∙ e ∙ fresh))))))
