@@ -41,7 +41,8 @@ pub numbers_front : (a b : List ℕ) (k : ℕ) → k ≤ 1200 → length a ≡ 1
 unfolding zero_padded
 numbers_front a b k h e f =
     let all : min k 1200 ≡ k = omega arith in
-    ap (take k) (f ∙ ap (λ (j : ℕ). zero_padded 1200 (words_every a 1 2 j)) all ∙ ap (zero_padded 1200) (words-every a 1 k)) ∙ take_at (words_at a 1 k) (zeros (1200 - length (words_at a 1 k))) k (length-words-at a 1 k) ∙ sym (words-behind a k e)
+    let array : b ≡ zero_padded 1200 (words_at a 1 k) = f ∙ ap (λ (j : ℕ). zero_padded 1200 (words_every a 1 2 j)) all ∙ ap (zero_padded 1200) (words-every a 1 k) in
+    ap (take k) array ∙ take_at (words_at a 1 k) (zeros (1200 - length (words_at a 1 k))) k (length-words-at a 1 k) ∙ sym (words-behind a k e)
 
 -- a direction and whole numbers
 pub turn_whole : (a : List ℕ) → length a % 2 ≡ 1 → length a ≤ 2401 → turn_item a ≡ Some (turn_edges (words (drop 1 a)) (get_or a 0 0))

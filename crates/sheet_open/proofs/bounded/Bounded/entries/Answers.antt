@@ -20,7 +20,9 @@ pub copy_words-requires : goal.copy_words-requires
 copy_words-requires c = let r = copies_room c.loop-u.invariant c.args.self.now.room c.loop-u-test.true c.number_at-k.ensures.value in let few = c.args.self.now.layout.now.few in omega (arith, c.entry_offset.ensures)
 
 pub loop-u-preserved : goal.loop-u-preserved
-loop-u-preserved c = copies_ring c.loop-u.invariant c.args.self.now.room c.args.self.now.layout.now.few c.loop-u-test.true c.number_at-k.ensures.value c.number_at-k.array_long c.entry_offset.ensures c.copy_words.ensures refl refl (omega arith)
+loop-u-preserved c =
+    let held = c.args.self.now in
+    copies_ring c.loop-u.invariant held.room held.layout.now.few c.loop-u-test.true c.number_at-k.ensures.value c.number_at-k.array_long c.entry_offset.ensures c.copy_words.ensures refl refl (omega arith)
 
 pub returns : goal.returns
 returns c = copies_end c.loop-u.invariant c.args.self.now.room (omega arith)
