@@ -5,7 +5,7 @@ use mathlib.Core.List.{List, [], ◌∷◌}
 use native.Mathlib.Omega.{arith}
 use lib.ListN.{length}
 use lib.Dec.{leb}
-use Rattle.model.specs.Outcome.{Outcome, accepted, refused, passed, require, ◌>>=◌}
+use Rattle.model.specs.Outcome.{Outcome, accepted, refused, passed, mapped, require, ◌>>=◌}
 use Rattle.model.specs.File.{Sheet, fresh, encode}
 use Rattle.model.specs.Calls.{require_plan, judge, open_call, write_call}
 use Rattle.model.specs.CallLists.{Call, open_file, call}
@@ -27,7 +27,7 @@ use Rattle.sheet_bytes.proofs.Small.{Small, small-accepted, small-refused, small
 use Rattle.sheet_bytes.proofs.Sizes.{file_short}
 use Rattle.sheet_bytes.proofs.Places.{small_open, small-call, small_write}
 use Rattle.sheet_bytes.proofs.Codes.{Roomy, code_whole}
-use Rattle.sheet_bytes.proofs.Steps.{given-packed, none_in, some_in}
+use Rattle.sheet_bytes.proofs.Steps.{read-packed, given-packed, none_in, some_in}
 
 -- ---- good sheets
 -- what open leaves is good
@@ -61,9 +61,9 @@ pub fresh-judged : (h : struct.Sheet) → h ≡ packed fresh → judge (reads h)
 unfolding judge
 fresh-judged h e = ap (λ (s : struct.Sheet). judge (reads s)) e ∙ ap judge (read_back fresh fresh_good)
 
-pub handed-fresh : (h : Judged) → h.sheet ≡ packed fresh → handed (Ok h) ≡ accepted fresh
-unfolding handed
-handed-fresh h e = ap accepted (ap reads e ∙ read_back fresh fresh_good)
+pub handed-fresh : (h : Judged) → h.sheet ≡ packed fresh → handed (Ok h) ≡ packed_as (accepted fresh)
+unfolding handed packed_as
+handed-fresh h e = ap accepted e
 
 -- the struct of a file that is opened
 module _ (b : List ℕ) where
@@ -71,30 +71,38 @@ module _ (b : List ℕ) where
   unfolding given
   opened-judged h e = (open_accepted b (reads h) (sym (given-opened b (Ok h) e))).1
 
-  pub handed-opened : (h : Judged) → accepted h.sheet ≡ packed_as (open_call b) → handed (Ok h) ≡ open_call b
-  unfolding handed given
-  handed-opened h e = given-opened b (Ok h.sheet) e
+  pub handed-opened : (h : Judged) → accepted h.sheet ≡ packed_as (open_call b) → handed (Ok h) ≡ packed_as (open_call b)
+  unfolding handed
+  handed-opened h e = e
 
   -- a file that is not opened
-  pub handed-unopened : (f : Refusal) → outcome_of {A = struct.Sheet} (Err f) ≡ packed_as (open_call b) → handed (Err f) ≡ open_call b
-  unfolding handed given
-  handed-unopened f e = given-opened b (Err f) e
+  pub handed-unopened : (f : Refusal) → outcome_of {A = struct.Sheet} (Err f) ≡ packed_as (open_call b) → handed (Err f) ≡ packed_as (open_call b)
+  unfolding handed
+  handed-unopened f e = e
+
+  -- what is told of it: the struct reads as the sheet that the bytes hand over
+  pub reads-handed : (s : struct.Sheet) → accepted s ≡ packed_as (sheet_of_bytes b) → accepted (reads s) ≡ sheet_of_bytes b
+  reads-handed s e = ap (mapped reads) e ∙ read-packed (sheet_of_bytes b) (λ t d. let g = handed_good b t d in held_sized t g.kept g.sized)
+
+  -- and the refusal is that of the bytes
+  pub refusal-handed : (k at : ℕ) → refused k at ≡ packed_as (sheet_of_bytes b) → refused k at ≡ sheet_of_bytes b
+  refusal-handed k at e = ap (mapped reads) e ∙ read-packed (sheet_of_bytes b) (λ t d. let g = handed_good b t d in held_sized t g.kept g.sized)
 
 -- ---- the way of a call: what it gives on what is handed over is handed back
 module _ (c : Call) (b buffer : List ℕ) (h : Result Judged Refusal) where
   -- a sheet is handed over: what a call that makes c gives on it
   pub way_on : (gives : Judged → Result struct.Sheet Refusal → Type 0) (j : Judged) (r : Result struct.Sheet Refusal)
-      → Makes gives c → handed h ≡ sheet_of_bytes b → h ≡ Ok j → gives j r → bytes_back (given r) buffer ≡ changed_by c b buffer
+      → Makes gives c → handed h ≡ packed_as (sheet_of_bytes b) → h ≡ Ok j → gives j r → bytes_back (given r) buffer ≡ changed_by c b buffer
   unfolding handed changed_by
   way_on gives j r makes e is k =
-      let there : accepted (reads j.sheet) ≡ sheet_of_bytes b = sym (ap handed is) ∙ e in
+      let there = reads-handed b j.sheet (sym (ap handed is) ∙ e) in
       let called = given_called (reads j.sheet) r c (handed_good b (reads j.sheet) (sym there)) (makes j r k) in
       ap (λ (o : Outcome Sheet). bytes_back o buffer) (called ∙ ap (λ (o : Outcome Sheet). o >>= λ (s : Sheet). call s c) there)
 
   -- the bytes are refused
-  pub way_off : (f : Refusal) → handed h ≡ sheet_of_bytes b → h ≡ Err f → refused (number_of f) (place_of f) ≡ changed_by c b buffer
+  pub way_off : (f : Refusal) → handed h ≡ packed_as (sheet_of_bytes b) → h ≡ Err f → refused (number_of f) (place_of f) ≡ changed_by c b buffer
   unfolding handed changed_by bytes_back
-  way_off f e is = ap (λ (o : Outcome Sheet). bytes_back (o >>= λ (s : Sheet). call s c) buffer) (sym (ap handed is) ∙ e)
+  way_off f e is = ap (λ (o : Outcome Sheet). bytes_back (o >>= λ (s : Sheet). call s c) buffer) (refusal-handed b (number_of f) (place_of f) (sym (ap handed is) ∙ e))
 
 -- ---- room for the answers
 -- what is handed over
@@ -146,6 +154,9 @@ change_code c b buffer o e = ap (λ (p : Outcome (ℕ × List ℕ)). wrapped (le
 -- ---- for the code
 -- what is handed over: a fresh sheet for no bytes, else the sheet of the file
 pub ruleset hand_steps = (fresh-judged, handed-fresh, opened-judged, handed-opened, handed-unopened, none_in, some_in)
+
+-- for who is handed it
+pub ruleset read_handed = (reads-handed, refusal-handed)
 
 -- a file that is opened: what it tells; and its number, since it has room
 pub ruleset opens = (given-opened, code_whole, roomy_open)

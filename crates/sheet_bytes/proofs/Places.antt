@@ -187,4 +187,7 @@ pub small-ring : (b : List ℕ) (u : ℕ) → ((s : Sheet) → open_call b ≡ a
 unfolding ring_call
 small-ring b u good =
     small_bind (open_call b) _ (small_open b)
-    (λ s e. small-plan_of s _ (good s e) (λ p k. let h = k.fits.high in small_then (require (ltb u (context_count p)) 17 (context_count p)) _ (small-require (ltb u (context_count p)) 17 (context_count p) (omega arith) (omega arith)) (λ _ _. small-accepted _)))
+    (λ s e. small-plan_of s _ (good s e) (λ p k.
+    let h = k.fits.high in
+    let n = context_count p in
+    small_then (require (ltb u n) 17 n) _ (small-require (ltb u n) 17 n (omega arith) (omega arith)) (λ _ _. small-accepted _)))

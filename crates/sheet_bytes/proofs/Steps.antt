@@ -31,14 +31,17 @@ unfolding sheet_of_bytes
 some_in [] h = absurd (h refl)
 some_in (a ∷ b) h = refl
 
--- ---- what a call tells, where the sheet that it leaves fits into the struct
+-- ---- what is packed, where it fits into the struct
+-- the struct reads as what it was
+pub read-packed : (o : Outcome file.Sheet) → ((t : file.Sheet) → o ≡ accepted t → Held t) → mapped reads (packed_as o) ≡ o
+unfolding packed_as
+read-packed (accepted t) k = ap accepted (reads-packed t (k t refl))
+read-packed (refused n at) k = refl
+
+-- what a call tells
 pub given-packed : (r : Result Sheet Refusal) (o : Outcome file.Sheet) → outcome_of r ≡ packed_as o → ((t : file.Sheet) → o ≡ accepted t → Held t) → given r ≡ o
-unfolding given packed_as
-given-packed r o e h = ap (mapped reads) e ∙ go o h
-  where
-    go : (p : Outcome file.Sheet) → ((t : file.Sheet) → p ≡ accepted t → Held t) → mapped reads (packed_as p) ≡ p
-    go (accepted t) k = ap accepted (reads-packed t (k t refl))
-    go (refused n at) k = refl
+unfolding given
+given-packed r o e h = ap (mapped reads) e ∙ read-packed o h
 
 -- ---- handed back
 -- a refusal: the buffer is as it was

@@ -21,9 +21,9 @@ sheet_of_bytes (b ∷ bs) = open_call (b ∷ bs)
 unfoldable pub bytes_back : Outcome file.Sheet → List ℕ → Outcome (ℕ × List ℕ)
 bytes_back o buffer = o >>= λ (t : file.Sheet). write_call t buffer
 
--- what a result tells of what is handed over: the sheet that its struct holds, or the refusal
-unfoldable pub handed : Result Judged Refusal → Outcome file.Sheet
-handed r = mapped (λ (j : Judged). reads j.sheet) (outcome_of r)
+-- what a result tells of what is handed over: the struct, or the refusal
+unfoldable pub handed : Result Judged Refusal → Outcome Sheet
+handed r = mapped (λ (j : Judged). j.sheet) (outcome_of r)
 
 -- what a result tells of what a call leaves: the sheet that its struct holds, or the refusal
 unfoldable pub given : Result Sheet Refusal → Outcome file.Sheet

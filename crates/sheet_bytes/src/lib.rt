@@ -6,7 +6,7 @@ ghost use Rattle.model.specs.Outcome.{refused};
 ghost use Rattle.model.specs.CallLists.{Call};
 ghost use Rattle.refusal.specs.Refusals.{number_of, place_of, outcome_of};
 ghost use Rattle.file_writing.specs.WrittenFiles.{buffer_after};
-ghost use Rattle.sheet.specs.Answers.{length_of};
+ghost use Rattle.sheet.specs.Answers.{packed_as, length_of};
 ghost use Rattle.sheet_bytes.specs.Codes.{answer_code, wrapped};
 ghost use Rattle.sheet_bytes.specs.Exchange.{sheet_of_bytes, bytes_back, handed, given, Makes, changed_by};
 
@@ -32,7 +32,7 @@ pub fn code_of(answer: Result<u64, Refusal>) -> u64
 // The sheet that bytes hand over: a fresh one for no bytes, else the file is opened.
 #[tactic(auto, using(crate::proofs::Handing::hand_steps))]
 pub fn hand_over(bytes: &[u8]) -> Result<Judged, Refusal>
-    ensures { handed result ≡ sheet_of_bytes bytes.now }
+    ensures { handed result ≡ packed_as (sheet_of_bytes bytes.now) }
 {
     if bytes.is_empty() {
         return Ok(Judged {

@@ -72,7 +72,7 @@ fn triple_value(a: usize, b: usize, c: usize) -> u64
 }
 
 // The scan of the sheet that is handed over, as a number.
-#[tactic(auto, using(crate::proofs::Answers::scanned_inside), unfolding(sheet_bytes::specs::Exchange::handed, crate::specs::Interface::triple_value, crate::specs::Interface::scans_to))]
+#[tactic(auto, using(crate::proofs::Answers::scanned_inside, sheet_bytes::proofs::Handing::read_handed), unfolding(sheet_bytes::specs::Exchange::handed, crate::specs::Interface::triple_value, crate::specs::Interface::scans_to))]
 fn scanned(sheet: &[u8]) -> Result<u64, Refusal>
     ensures { outcome_of result ≡ scans_to sheet.now }
 {
@@ -92,7 +92,7 @@ pub fn touchchart_scan(sheet: &[u8]) -> u64
 }
 
 // The comparison of two sheets that are handed over, as a number.
-#[tactic(auto, unfolding(sheet_bytes::specs::Exchange::handed, crate::specs::Interface::same_value, crate::specs::Interface::compares_to))]
+#[tactic(auto, using(sheet_bytes::proofs::Handing::read_handed), unfolding(sheet_bytes::specs::Exchange::handed, crate::specs::Interface::same_value, crate::specs::Interface::compares_to))]
 fn compared(a: &[u8], b: &[u8]) -> Result<u64, Refusal>
     ensures { outcome_of result ≡ compares_to a.now b.now }
 {
