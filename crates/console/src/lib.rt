@@ -1,7 +1,7 @@
 // Standard input and output of the programs: items and files read, texts written. A contract says what a function gives and leaves; what is read and written is outside the logic, as in the kit's io.
 #![tactic(auto)]
 
-ghost use Rattle.std.specs.Prelude.{◌≡◌, ◌+◌, ◌≤◌, ◌<◌, ◌%◌, ◌^◌, [], drop, length, IfSome, IfNone};
+ghost use Rattle.std.specs.Prelude.{◌≡◌, ◌+◌, ◌-◌, ◌≤◌, ◌<◌, ◌%◌, ◌^◌, [], drop, length, IfSome, IfNone};
 ghost use Rattle.std.specs.Fmt.{with_newline};
 ghost use Rattle.arrays.specs.ArrayParts.{part_at};
 ghost use Rattle.console.specs.Reading.{size_at};
@@ -27,16 +27,29 @@ pub struct Item {
     pub size: usize,
 }
 
-// Reads an item: its kind (1 byte), the length of its argument (3 bytes, little-endian), and the argument, to the start of a space. None where there is no item, or not all of it, or the space is too short.
+// The length of an item's argument by its three bytes.
+fn size_of(low: u8, middle: u8, high: u8) -> usize
+    ensures { result < 2 ^ 24 }
+{
+    usize::from_le_bytes([low, middle, high, 0, 0, 0, 0, 0])
+}
+
+// Reads an item: its kind (1 byte), the length of its argument (3 bytes, little-endian), and the argument, to the start of a space. None where there is no item, or not all of it, or the space is too short. What stands in the space behind the argument stays, and where there is none, what stands behind the longest argument that there could be.
 pub fn read_item(space: &mut [u8]) -> Option<Item>
     ensures size { IfSome result (λ item. item.size ≤ length space.old) }
+    ensures short { IfSome result (λ item. item.size < 2 ^ 24) }
+    ensures rest { IfSome result (λ item. drop item.size space.new ≡ drop item.size space.old) }
+    ensures none { IfNone result (drop (2 ^ 24 - 1) space.new ≡ drop (2 ^ 24 - 1) space.old) }
     ensures room { length space.new ≡ length space.old }
 {
     let mut head = [0u8; 4];
     read_bytes(&mut head)?;
     let [kind, low, middle, high] = head;
-    let size = usize::from_le_bytes([low, middle, high, 0, 0, 0, 0, 0]);
-    read_bytes(space.get_mut(..size)?)?;
+    let size = size_of(low, middle, high);
+    if space.len() < size {
+        return None;
+    }
+    read_bytes(&mut space[..size])?;
     Some(Item { kind, size })
 }
 
