@@ -49,7 +49,7 @@ fn fill(table: &mut [u8], rings: &FileRings)
 }
 
 // 6, by a table of N cells, which has a row for each context, or 200 rows.
-pub fn each_returned<const N: usize>(rings: &FileRings) -> Result<(), Refusal>
+pub(crate) fn each_returned<const N: usize>(rings: &FileRings) -> Result<(), Refusal>
     requires { (200 * min rings.now.n 200 ≤ N) × (N ≤ 40000) }
     ensures { outcome_of result ≡ rule 6 rings.now.n (unreturned (plan_of_file rings.now)) }
 {
