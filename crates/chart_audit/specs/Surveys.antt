@@ -1,14 +1,9 @@
--- The doubled areas of the inner faces of a chart, counted one after another in words of 64 bits; and what sweep is to answer.
+-- The doubled areas of the inner faces of a chart, counted one after another in words of 64 bits.
 use Rattle.std.specs.Prelude.{ℕ, ◌+◌, ◌%◌, ◌^◌, cond, ◌&&◌, List, [], ◌∷◌, ℤ, pos, nat_lt, Some, None, unwrap_or}
 use Rattle.std.specs.Int.{w64, int_min, int_wrapping_add}
-use Rattle.model.specs.Outcome.{Outcome, ◌>>=◌}
 use Rattle.model.specs.Plan.{Plan, Face, step, walk, on_inner_face, faces}
 use Rattle.model.specs.Chart.{Chart}
 use Rattle.model.specs.Geometry.{positive, area}
-use Rattle.model.specs.Sweep.{sweep}
-use Rattle.model.specs.Calls.{require_plan}
-use Rattle.sheet.specs.declared.Sheet.{Sheet}
-use Rattle.sheet.specs.Sheets.{reads}
 use Rattle.chart_audit.specs.declared.Areas.{Areas}
 
 -- no face
@@ -36,7 +31,3 @@ faces_on p a v = cond (on_inner_face p (a, v) && nat_lt a v && nat_lt a (step p 
 -- All inner faces of a plan and its chart
 unfoldable pub surveyed : Plan → Chart → Areas
 surveyed p k = with_faces k (faces p) no_area
-
--- The labels that sweep is to give a sheet, or the refusal that is due
-unfoldable pub swept_due : Sheet → Outcome (List ℕ)
-swept_due s = require_plan (reads s) >>= sweep

@@ -1,16 +1,16 @@
-// What a look at a sheet's plan and chart finds without the engine's calls: the areas of the inner faces, whether three contexts enclose others, and the labels of the sweep by its definition.
+// What a look at a sheet finds without the engine's calls: the areas of its chart's inner faces, whether three contexts enclose others, and what sweep and chart are to answer.
 #![tactic(auto)]
 
 ghost use Rattle.std.specs.Prelude.{◌≡◌};
-ghost use Rattle.lists.specs.Spans.{zero_padded};
-ghost use Rattle.model.specs.Outcome.{mapped};
 ghost use Rattle.model.specs.Plan.{faces_from};
 ghost use Rattle.model.specs.Scan.{enclosing};
+ghost use Rattle.model.specs.Calls.{sweep_call, chart_call};
 ghost use Rattle.rings.specs.Tables.{plan_of};
 ghost use Rattle.chart_areas.specs.Corners.{points_only};
 ghost use Rattle.refusal.specs.Refusals.{outcome_of};
-ghost use Rattle.sheet.specs.Sheets.{held_plan};
-ghost use Rattle.chart_audit.specs.Surveys.{with_area, with_faces, faces_on, surveyed, swept_due};
+ghost use Rattle.sheet.specs.Sheets.{held_plan, reads};
+ghost use Rattle.sheet.specs.Answers.{packed_as};
+ghost use Rattle.chart_audit.specs.Surveys.{with_area, with_faces, faces_on, surveyed};
 
 use chart_points::Points;
 use faces::FaceSteps;
@@ -127,11 +127,22 @@ pub fn areas_of(sheet: &Sheet) -> Areas
     drawn.areas()
 }
 
-// The labels that sweep is to give a sheet, found by the definition of the sweep, with zeros after them; or the refusal that is due.
-#[tactic(auto, using(crate::proofs::Sweeps::steps), unfolding(sheet::specs::Sheets::rank, sheet::specs::Answers::answer_of))]
-pub fn swept_due(sheet: &Sheet) -> Result<[u8; 1186], Refusal>
-    ensures { outcome_of result ≡ mapped (zero_padded 1186) (swept_due sheet.now) }
+// What sweep is to answer of a sheet: the sheet with the labels that the sweep's definition, gone through step by step, gives for its plan; or the refusal that is due.
+#[tactic(auto, using(sheet::proofs::Sweeps::steps), unfolding(sheet::specs::Sheets::rank, sheet::specs::Answers::answer_of))]
+pub fn swept_due(sheet: &Sheet) -> Result<Sheet, Refusal>
+    ensures { outcome_of result ≡ packed_as (sweep_call (reads sheet.now)) }
 {
     let fitting = sheet::require_fitting(sheet, Stage::Open)?;
-    sweep::sweep_by_definition(&fitting.fit())
+    let labels = sweep::sweep_by_definition(&fitting.fit())?;
+    Ok(fitting.with_labels(&labels))
+}
+
+// What chart is to answer of a sheet: the sheet with the chart of its plan and labels, or the refusal that is due.
+#[tactic(auto, using(sheet::proofs::Charts::steps), unfolding(sheet::specs::Sheets::rank, sheet::specs::Answers::answer_of))]
+pub fn charted_due(sheet: &Sheet) -> Result<Sheet, Refusal>
+    ensures { outcome_of result ≡ packed_as (chart_call (reads sheet.now)) }
+{
+    let fitting = sheet::require_fitting(sheet, Stage::Labelled)?;
+    let drawn = chart_placement::chart_of(&fitting.fit(), fitting.labels())?;
+    Ok(fitting.charted(&drawn.points()))
 }

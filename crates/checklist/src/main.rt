@@ -5,11 +5,12 @@
 //    opened   a file without a chart is not drawn yet: its width and height are 0, and same is refused 13 at 0
 //    scan     the three contexts that enclose others, if there are any, are neighbours of each other and no face
 //    drawn    sweep, then chart: CHARTED where it is drawn; LABELLED where it cannot be drawn, 11; OPEN where there are no labels, 13.
-//             The labels of sweep, or its refusal, are those that its definition, gone through step by step, gives
+//             Sweep leaves the very sheet that its definition, gone through step by step, gives for the sheet that was opened, or
+//             is refused as that is; and so does chart by its definition for the sheet before it
 //    areas    every inner face of the chart has a positive doubled area, and with their signs they sum to 2wh
 //    turned   the first edge that turns alone, 0 clockwise or 1 counterclockwise: it is not drawn yet, nothing of the chart stands
 //    afresh   drawn again it is the chart of the new labels: the same as when they are offered to the sheet that was opened
-//    written  and the two are written as the same file, byte for byte
+//    written  and the two are accepted by write, as the same file, byte for byte
 //
 // An answer is the number of a refusal and its place: 0 at 0 is accepted, or yes, and 1 at 0 is no. stdin beside this crate is
 // made by tools/checklist_plans.py.

@@ -1,19 +1,19 @@
 -- The checks of each line of the checklist, counted.
 use Rattle.std.specs.Prelude.{◌*◌, pos, Bool, true, false, cond, ◌&&◌, Option, Some, None, Ok, Err}
 use Rattle.std.specs.declared.result.Result.{Result}
-use Rattle.lists.specs.Spans.{zero_padded}
-use Rattle.model.specs.Outcome.{mapped}
 use Rattle.model.specs.Scan.{Triple}
+use Rattle.model.specs.Calls.{sweep_call, chart_call}
 use Rattle.refusal.specs.declared.Refusal.{Refusal}
 use Rattle.refusal.specs.Refusals.{number_of, place_of}
 use Rattle.sheet.specs.declared.Sheet.{Sheet}
 use Rattle.sheet.specs.declared.Stage as stage
 use Rattle.sheet.specs.declared.Stage.TheVariants as Stage
-use Rattle.sheet.specs.Sheets.{held_plan, stage_read}
+use Rattle.sheet.specs.Sheets.{held_plan, reads, stage_read}
+use Rattle.sheet.specs.Answers.{packed_as}
 use Rattle.chart_areas.specs.Corners.{points_only}
-use Rattle.chart_audit.specs.Surveys.{surveyed, swept_due}
+use Rattle.chart_audit.specs.Surveys.{surveyed}
 use Rattle.checklist_rules.specs.declared.Tally.{Tally}
-use Rattle.checklist_rules.specs.Audit.{tallied, undrawn, triple, swept_as, chart_due, answered_as_due, fills_rectangle, afresh}
+use Rattle.checklist_rules.specs.Audit.{tallied, undrawn, triple, answered_as_due, fills_rectangle, afresh}
 use Rattle.checklist_lines.specs.declared.Shown.{Shown}
 use Rattle.checklist_lines.specs.declared.DrawnSheet.{DrawnSheet}
 use Rattle.checklist_lines.specs.declared.Turned.{Turned}
@@ -48,9 +48,9 @@ left_of (Err r) before = before
 abbrev pub left_by : DrawnSheet → Sheet
 left_by d = left_of d.charted.now d.before.now
 
--- drawn: sweep and chart have answered what is due
+-- drawn: sweep has answered what the model's call gives of the sheet that was opened, and chart what it gives of the sheet before chart
 abbrev pub drawn_tally : Tally → DrawnSheet → Tally
-drawn_tally t d = tallied t (swept_as d.swept.now (mapped (zero_padded 1186) (swept_due d.opened.now)) && answered_as_due d.charted.now (chart_due (left_by d)))
+drawn_tally t d = tallied t (answered_as_due d.swept.now (packed_as (sweep_call (reads d.opened.now))) && answered_as_due d.charted.now (packed_as (chart_call (reads d.before.now))))
 
 -- areas: those of a sheet's chart
 abbrev pub areas_tally : Tally → Sheet → Tally
@@ -60,7 +60,7 @@ areas_tally t s = tallied t (fills_rectangle (surveyed (held_plan s) (points_onl
 abbrev pub chart_tally : Tally → DrawnSheet → Tally
 chart_tally t d = cond (is_charted (stage_read (left_by d))) (areas_tally (drawn_tally t d) (left_by d)) (drawn_tally t d)
 
--- turned, and afresh: a turn, if there is one, leaves the sheet undrawn, and the new chart is the one drawn anew
+-- turned, and afresh: a turn, if there is one, leaves the sheet undrawn, and the new chart is the one drawn anew; if there is none, one check that is right
 abbrev pub turn_tally : Tally → Option Turned → Tally
 turn_tally t (Some s) = tallied (tallied t (undrawn s.left.sheet.now s.left.same)) (afresh s.new.same)
 turn_tally t None = tallied t true

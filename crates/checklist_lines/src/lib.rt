@@ -108,7 +108,7 @@ impl Compared<'_> {
         console::print(format_args!(", same {shown}"));
     }
 
-    // The check that the sheet has no chart. It writes the sheet's stage, width and height, and what same answers.
+    // The check that the sheet has no width and no height, and that same of it is refused 13 at 0. It writes LABELLED at that stage, else OPEN; then width and height, and what same answers.
     fn check_undrawn(&self, tally: Tally) -> Tally
         ensures { result ≡ tallied tally (undrawn self.now.sheet.now self.now.same) }
     {
@@ -123,7 +123,7 @@ impl Compared<'_> {
         judge(tally, checklist_rules::is_undrawn(self.sheet, self.same))
     }
 
-    // The check of the sheet as a file opens it, where that has no chart.
+    // The same check of the sheet as a file opens it, where that is not CHARTED.
     fn check_opened(&self, tally: Tally) -> Tally
         ensures { result ≡ opened_tally tally self.now.sheet.now self.now.same }
     {
@@ -217,7 +217,7 @@ impl<'a> DrawnSheet<'a> {
         }
     }
 
-    // The check of sweep and chart. Where sweep has not answered what is due, it writes that too.
+    // The check of sweep and chart, each by what is due. Where a call has answered otherwise, it writes that too: the number and the place that are due.
     fn check(&self, tally: Tally) -> Tally
         ensures { result ≡ drawn_tally tally self.now }
     {
@@ -227,15 +227,17 @@ impl<'a> DrawnSheet<'a> {
             answer_of(self.swept),
             answer_of(self.charted),
         ));
-        let due = chart_audit::swept_due(self.opened);
-        let is_swept = checklist_rules::is_swept(self.swept, &due);
+        let swept_due = chart_audit::swept_due(self.opened);
+        let is_swept = checklist_rules::is_due(self.swept, &swept_due);
         if !is_swept {
-            console::print(format_args!(", sweep due {}", answer_of(&due)));
+            console::print(format_args!(", sweep due {}", answer_of(&swept_due)));
         }
-        judge(
-            tally,
-            is_swept && checklist_rules::is_due(self.charted, self.left()),
-        )
+        let charted_due = chart_audit::charted_due(self.before);
+        let is_charted = checklist_rules::is_due(self.charted, &charted_due);
+        if !is_charted {
+            console::print(format_args!(", chart due {}", answer_of(&charted_due)));
+        }
+        judge(tally, is_swept && is_charted)
     }
 }
 
@@ -253,7 +255,7 @@ pub fn tell_chart(tally: Tally, drawn: &DrawnSheet) -> Tally
 }
 
 impl<'a> Turned<'a> {
-    // The check that the turn leaves no chart.
+    // The check that the sheet that the turn leaves has no width and no height, and that same of it is refused 13 at 0.
     fn check_left(&self, tally: Tally) -> Tally
         ensures { result ≡ tallied tally (undrawn self.now.left.sheet.now self.now.left.same) }
     {
@@ -277,7 +279,7 @@ impl<'a> Turned<'a> {
     }
 }
 
-// The checks of a turn of one edge; none where no edge turns alone.
+// The checks of a turn of one edge; where no edge turns alone, one that is right.
 pub fn tell_turn(tally: Tally, turned: Option<Turned>) -> Tally
     ensures { result ≡ turn_tally tally turned.entry }
 {
@@ -290,7 +292,7 @@ pub fn tell_turn(tally: Tally, turned: Option<Turned>) -> Tally
     }
 }
 
-// The check that two files are the same, byte for byte.
+// The check that two sheets are written as the same file: both are accepted, with the same length and the same bytes. It writes both lengths, 0 for one that is refused, and how many bytes are equal up to the first that differs.
 pub fn tell_files(tally: Tally, one: &Filed, other: &Filed) -> Tally
     ensures { result ≡ tallied tally (same_files one.now other.now) }
 {

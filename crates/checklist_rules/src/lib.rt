@@ -4,11 +4,11 @@
 ghost use Rattle.std.specs.Prelude.{◌≡◌};
 ghost use Rattle.refusal.specs.Refusals.{outcome_of};
 ghost use Rattle.comparison.specs.Bytes as bytes;
-ghost use Rattle.checklist_rules.specs.Audit.{tallied, is_early, undrawn, triple, swept_as, chart_due, answered_as_due, fills_rectangle, afresh, file_length, same_files};
+ghost use Rattle.checklist_rules.specs.Audit.{tallied, is_early, undrawn, triple, same_sheets, answered_as_due, fills_rectangle, afresh, file_length, same_files};
 
 use chart_audit::Areas;
 use refusal::Refusal;
-use sheet::{Sheet, Stage};
+use sheet::Sheet;
 
 // How many checks there were, and how many of them were wrong.
 #[derive(Clone, Copy)]
@@ -61,30 +61,31 @@ pub fn is_triple(sheet: &Sheet, scan: Result<Option<(usize, usize, usize)>, Refu
     }
 }
 
-// Has sweep answered what is due: these labels, on a sheet that is LABELLED, or this refusal?
-pub fn is_swept(swept: &Result<Sheet, Refusal>, due: &Result<[u8; 1186], Refusal>) -> bool
-    ensures { result ≡ swept_as swept.now (outcome_of due.now) }
+// Are two sheets equal, field by field?
+fn is_same_sheet(one: &Sheet, other: &Sheet) -> bool
+    ensures { result ≡ same_sheets one.now other.now }
 {
-    match (swept, due) {
-        (Ok(sheet), Ok(labels)) => {
-            sheet::stage_of(sheet) == Stage::Labelled
-                && comparison::agreeing(&sheet.labels, labels, 1186) == 1186
-        }
-        (Err(came), Err(refusal)) => {
-            came.number() == refusal.number() && came.place() == refusal.place()
-        }
-        _ => false,
-    }
+    sheet::rank_of(one.stage) == sheet::rank_of(other.stage)
+        && one.n == other.n
+        && one.sizes == other.sizes
+        && one.entries == other.entries
+        && one.labels == other.labels
+        && one.w == other.w
+        && one.h == other.h
+        && one.xs == other.xs
+        && one.ys == other.ys
 }
 
-// Has chart answered what is due where it leaves this sheet?
-pub fn is_due(charted: &Result<Sheet, Refusal>, left: &Sheet) -> bool
-    ensures { result ≡ answered_as_due charted.now (chart_due left.now) }
+// Has a call answered what is due: this very sheet, or the refusal of this number at this place?
+pub fn is_due(answer: &Result<Sheet, Refusal>, due: &Result<Sheet, Refusal>) -> bool
+    ensures { result ≡ answered_as_due answer.now (outcome_of due.now) }
 {
-    match sheet::stage_of(left) {
-        Stage::Charted => charted.is_ok(),
-        Stage::Labelled => charted.err() == Some(Refusal::NoPlacement),
-        Stage::Empty | Stage::Open => is_early(charted),
+    match (answer, due) {
+        (Ok(sheet), Ok(sheet_due)) => is_same_sheet(sheet, sheet_due),
+        (Err(refusal), Err(refusal_due)) => {
+            refusal.number() == refusal_due.number() && refusal.place() == refusal_due.place()
+        }
+        _ => false,
     }
 }
 
@@ -117,10 +118,13 @@ impl Filed<'_> {
         comparison::agreeing(self.buffer, other.buffer, self.size())
     }
 
-    // Are two files as long as each other, and is every byte equal?
+    // Are two files accepted, as long as each other, and is every byte equal?
     pub fn is_written_as(&self, other: &Filed) -> bool
         ensures { result ≡ same_files self.now other.now }
     {
-        self.size() == other.size() && self.agreeing(other) == self.size()
+        self.answer.is_ok()
+            && other.answer.is_ok()
+            && self.size() == other.size()
+            && self.agreeing(other) == self.size()
     }
 }

@@ -1,4 +1,2 @@
 pub mod Offers
-pub mod Sweeps
 pub mod Turns
-pub mod Charts

@@ -33,7 +33,7 @@ pub fn offer(sheet: Sheet, labels: &[u8]) -> Result<Sheet, Refusal>
 }
 
 // Sweep (OPEN up): labels worked out from North down to South, stored; the chart is dropped.
-#[tactic(auto, using(crate::proofs::Sweeps::steps), unfolding(sheet::specs::Sheets::rank, sheet::specs::Answers::answer_of))]
+#[tactic(auto, using(sheet::proofs::Sweeps::steps), unfolding(sheet::specs::Sheets::rank, sheet::specs::Answers::answer_of))]
 pub fn sweep(sheet: Sheet) -> Result<Sheet, Refusal>
     ensures { outcome_of result ≡ packed_as (sweep_call (reads sheet)) }
 {
@@ -43,7 +43,7 @@ pub fn sweep(sheet: Sheet) -> Result<Sheet, Refusal>
 }
 
 // Sweep of a sheet that keeps what an opened file must keep: the same, and the rules 4 to 9 of its plan are not tested again.
-#[tactic(auto, using(crate::proofs::Sweeps::steps), unfolding(sheet::specs::Sheets::rank, sheet::specs::Answers::answer_of))]
+#[tactic(auto, using(sheet::proofs::Sweeps::steps), unfolding(sheet::specs::Sheets::rank, sheet::specs::Answers::answer_of))]
 pub fn sweep_judged(judged: Judged) -> Result<Sheet, Refusal>
     ensures { outcome_of result ≡ packed_as (sweep_call (reads judged.sheet)) }
 {
@@ -64,7 +64,7 @@ pub fn turn(sheet: Sheet, items: &[u16], direction: u8) -> Result<Sheet, Refusal
 }
 
 // Chart (LABELLED up): the least placement that keeps the compass rules, stored.
-#[tactic(auto, using(crate::proofs::Charts::steps), unfolding(sheet::specs::Sheets::rank, sheet::specs::Answers::answer_of))]
+#[tactic(auto, using(sheet::proofs::Charts::steps), unfolding(sheet::specs::Sheets::rank, sheet::specs::Answers::answer_of))]
 pub fn chart(sheet: Sheet) -> Result<Sheet, Refusal>
     ensures { outcome_of result ≡ packed_as (chart_call (reads sheet)) }
 {

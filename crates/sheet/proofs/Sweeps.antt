@@ -1,4 +1,4 @@
--- Sweep, after the stage: the labels that the sweep gives for the plan, stored, or its refusal.
+-- The call sweep on a struct, by the stage that counts: 13; else the refusal of the sweep of its plan, or the labels that this gives, stored.
 use Prim.Native.Nat.{ℕ, ◌≤◌, ◌<◌}
 use mathlib.Core.Path.{◌≡◌, sym, ap, ◌∙◌}
 use mathlib.Core.List.{List}
