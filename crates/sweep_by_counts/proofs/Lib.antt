@@ -1,5 +1,4 @@
 pub mod Singles
-pub mod Chords
 pub mod Tests
 pub mod Picked
 pub mod Counts

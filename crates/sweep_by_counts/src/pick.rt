@@ -1,11 +1,10 @@
 // The pair of positions that a step of the sweep takes: with each position one candidate alone, by one test of what is below the position before.
-ghost use Rattle.std.specs.Prelude.{◌≡◌, ◌<◌, ◌≤◌, ◌-◌, ◌^◌, suc, not, min, length, drop, List, ℕ};
-ghost use Rattle.model.specs.Plan.{adjacent};
-ghost use Rattle.model.specs.Sweep.{State, chordless};
+ghost use Rattle.std.specs.Prelude.{◌≡◌, ◌<◌, ◌≤◌, ◌-◌, ◌^◌, suc, min, length, List, ℕ};
+ghost use Rattle.model.specs.Sweep.{State};
 ghost use Rattle.rings.specs.Tables.{plan_of};
 ghost use Rattle.sweep_frontier.specs.Frontiers.{below_of, whole};
 ghost use Rattle.sweep_frontier.specs.Held.{HoldsList};
-ghost use Rattle.std.specs.List.{list_any, list_all};
+ghost use Rattle.std.specs.List.{list_all};
 ghost use Rattle.sweep_theory.specs.Quick.{single, candidate, open_at, reach};
 ghost use Rattle.sweep_theory.specs.Local.{low_due, high_due, positions_due};
 ghost use Rattle.sweep_theory.specs.Counter.{pick_by};
@@ -125,26 +124,6 @@ impl<'a> View<'a> {
             && arrays::number_at(&self.course.counts, at) == due(i, j, list, c)
     }
 
-    // Does u list one of the list, from its a-th on?
-    fn touches(&self, u: usize, list: &[u16], a: usize) -> bool
-        ensures { result ≡ list_any (adjacent (plan_of self.now.located.rings) u) (drop a list.now) }
-    {
-        (a..list.len()).any(|t| self.located.is_adjacent(u, arrays::number_at(list, t)))
-    }
-
-    // Does a context of the list list one that is two or more further on?
-    #[tactic(auto, using(crate::proofs::Chords::chords_hit, crate::proofs::Chords::chords_on, crate::proofs::Chords::chords_end))]
-    fn is_chorded(&self, list: &[u16]) -> bool
-        ensures { result ≡ not (chordless (plan_of self.now.located.rings) list.now) }
-    {
-        for k in 0..list.len() {
-            if self.touches(usize::from(list[k]), list, k + 2) {
-                return true;
-            }
-        }
-        false
-    }
-
     // May each context of the list be on that of i and j?
     fn is_all_fair(&self, i: usize, j: usize, list: &[u16]) -> bool
         requires { j < 2 ^ 16 }
@@ -165,7 +144,7 @@ impl<'a> View<'a> {
         if !self.is_all_fair(i, j, list) {
             return false;
         }
-        !self.is_chorded(list)
+        !sweep_by_definition::is_chorded(&self.located, list)
     }
 
     // The pair that a step takes, of those with j below the limit; its list then stands in the front of the lent array. Where one context alone is below the position before j, none of those between i and j is open.

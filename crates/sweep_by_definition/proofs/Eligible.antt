@@ -5,21 +5,21 @@ use mathlib.Core.Logic.{⊎_elim}
 use mathlib.Core.List.{List, ◌++◌}
 use mathlib.Core.Bool.{Bool, true, false, not, ◌&&◌, not-not}
 use native.Mathlib.Omega.{arith}
-use lib.ListN.{length}
+use lib.ListN.{length, take}
 use borrow.Author.Tests.{not-true}
 use Rattle.std.specs.Prelude.{None, Result, Ok, is_ok}
 use Rattle.std.specs.List.{list_all}
 use Rattle.lists.specs.Tests.{is_empty}
 use Rattle.lists.specs.Ranges.{from}
 use Rattle.lists.specs.Parts.{squeeze}
-use Rattle.lists.specs.Spans.{stretch}
+use Rattle.std.proofs.lemmas.List.{take_at}
+use Rattle.lists.specs.Spans.{zeros, zero_padded}
 use Rattle.lists.proofs.Bools.{both, and_yes, yes_and, yes-not}
 use Rattle.lists.proofs.Parts.{squeeze-before}
 use Rattle.model.specs.Plan.{Plan}
 use Rattle.model.specs.Sweep.{State, below, listed, replaced, chordless, eligible}
 use Rattle.sweep_frontier.specs.Held.{EntriesBelow200, HoldsFrontier}
 use Rattle.sweep_frontier.specs.Frontiers.{Frontier, lent_frontier, empty_frontier}
-use Rattle.sweep_frontier.proofs.Holding.{stretch-all}
 use Rattle.sweep_by_definition.specs.Lists as run
 use Rattle.sweep_by_definition.specs.Lists.{listing}
 use Rattle.sweep_by_definition.proofs.Dirt.{dirty, clean_parts}
@@ -75,18 +75,18 @@ module _ {p : Plan} {s : State} {v : Frontier} (sane : EntriesBelow200 p) (fr : 
             ⊎_elim (λ w. both (is_ok r) (ap (λ (u : Frontier). u.ok) (list-is p v i j above r is) ∙ w.0.rep.ok) off) (λ w. both (allowed p s.seen f i j) good w.1) (comes p sane s v fr i j)
 
     -- it is whole: there is room for the new frontier, and the pair is eligible where that has no chord
-    pub tested_some : {q : ℕ} → r ≡ Ok q → {w : Frontier} → w ≡ run.frontier_replaced (empty_frontier marks) v.at v.len k j at q → (w.ok ≡ true) × (not (not (chordless p (stretch w.at 0 w.len))) ≡ eligible p s i j)
-    unfolding eligible dirty
+    pub tested_some : {q : ℕ} → r ≡ Ok q → {w : Frontier} → w ≡ run.frontier_replaced (empty_frontier marks) v.at v.len k j at q → (w.ok ≡ true) × (not (not (chordless p (take w.len w.at))) ≡ eligible p s i j)
+    unfolding eligible dirty zero_padded
     tested_some on {w} put =
         let same = new-is p v i j above r is on put in
         ⊎_elim
         (λ g.
         let h = new_rep p sane s v fr i j two within g.0 in (
           ap (λ (u : Frontier). u.ok) same ∙ h.ok,
-          not-not (chordless p (stretch w.at 0 w.len))
-              ∙ (λ d. chordless p (stretch (same d).at 0 (same d).len))
-              ∙ (λ d. chordless p (stretch (h.at d) 0 (h.len d)))
-              ∙ ap (chordless p) (stretch-all (new i))
+          not-not (chordless p (take w.len w.at))
+              ∙ (λ d. chordless p (take (same d).len (same d).at))
+              ∙ (λ d. chordless p (take (h.len d) (h.at d)))
+              ∙ ap (chordless p) (take_at (new i) (zeros (512 - length (new i))) (length (new i)) refl)
               ∙ sym (ap (λ (b : Bool). b && chordless p (new i)) g.1),
         ))
         (λ g. both (is_ok r) (ap is_ok on) (ap (λ (u : Frontier). u.ok) (list-is p v i j above r is) ∙ g.0))

@@ -2,12 +2,12 @@
 use Prim.Native.Nat.{ℕ, zero, suc, ◌+◌, ◌-◌, ◌≤◌, ◌<◌}
 use mathlib.Core.Path.{◌≡◌, refl, ap, sym, subst, ◌∙◌}
 use native.Mathlib.Omega.{arith}
-use mathlib.Core.List.{List, ◌++◌, reverse}
+use mathlib.Core.List.{List, [], ◌∷◌, ◌++◌, reverse}
 use mathlib.Core.Bool.{Bool, true, false, cond}
 use lib.ListN.{length, set, get_or, take}
 use lib.Dec.{ltb, eqb}
-use borrow.Author.Tests.{eq-eqb, ne_eqb}
-use Rattle.std.specs.Prelude.{fold}
+use borrow.Author.Tests.{eq-eqb, ne_eqb, ltb-true}
+use Rattle.std.specs.Prelude.{fold, Result, Ok}
 use Rattle.std.proofs.lemmas.List.Sums.{fold-append}
 use Rattle.lists.specs.Tests.{is_empty}
 use Rattle.lists.specs.Spans.{span}
@@ -19,7 +19,7 @@ use Rattle.rings.specs.declared.Rings.{Rings}
 use Rattle.rings.specs.Tables.{plan_of}
 use Rattle.rings.proofs.Rows.{index_le}
 use Rattle.sweep_frontier.specs.declared.below.Below.{Below}
-use Rattle.sweep_frontier.specs.Frontiers.{Frontier, frontier_of, pushed, below_of, entries_read, depth_of}
+use Rattle.sweep_frontier.specs.Frontiers.{Frontier, frontier_of, len_of, lent_frontier, pushed, below_of, entries_read, depth_of}
 use Rattle.sweep_frontier.proofs.Under.{back_suc}
 use Rattle.sweep_frontier.proofs.Puts.{below_read}
 use Rattle.sweep_by_definition.specs.Lists.{with_mark, failed, added, below_added, frontier_replaced}
@@ -95,3 +95,24 @@ pub replaced_parts : (v : Frontier) (f : List ℕ) (m a j : ℕ) (l : List ℕ) 
 unfolding frontier_replaced
 replaced_parts v f m a j l q e g h =
     h ∙ ap (λ (w : Frontier). fold pushed w (span f j m)) (g ∙ ap (λ (w : Frontier). fold pushed w (span l 0 q)) e ∙ sym (fold-append pushed v (span f 0 a) (span l 0 q))) ∙ sym (fold-append pushed v (span f 0 a ++ span l 0 q) (span f j m))
+
+-- ---- a frontier has at most 512 contexts
+push_short : (v : Frontier) (c : ℕ) → v.len ≤ 512 → (pushed v c).len ≤ 512
+unfolding pushed
+push_short v c h = go (ltb v.len 512) refl
+  where
+    go : (t : Bool) → ltb v.len 512 ≡ t → (cond t (frontier_of v.ok (v.len + 1) (set v.at v.len c) v.marks) (frontier_of false v.len v.at v.marks)).len ≤ 512
+    go true e = let z = ltb-true v.len 512 e in omega arith
+    go false e = h
+
+fold_short : (v : Frontier) (l : List ℕ) → v.len ≤ 512 → (fold pushed v l).len ≤ 512
+fold_short v [] h = h
+fold_short v (c ∷ l) h = fold_short (pushed v c) l (push_short v c h)
+
+-- so has one with a list in place
+pub replaced_short : (v : Frontier) {r : Result ℕ ℕ} {len : ℕ} {at marks : List ℕ} (f : List ℕ) (m a j : ℕ) (l : List ℕ) (q : ℕ) → v.len ≡ 0 → Ok len ≡ r → lent_frontier r at marks ≡ frontier_replaced v f m a j l q → len ≤ 512
+unfolding frontier_replaced
+replaced_short v f m a j l q none is put =
+    let few = fold_short v (span f 0 a ++ span l 0 q ++ span f j m) (omega arith) in
+    let e = ap len_of is ∙ ap (λ (u : Frontier). u.len) put in
+    omega arith

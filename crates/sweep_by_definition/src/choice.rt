@@ -1,28 +1,32 @@
 // The pair of positions that a step of the sweep takes: the largest j, then the largest i, that are eligible.
-ghost use Rattle.std.specs.Prelude.{◌≡◌, ℕ, suc, ◌+◌, ◌≤◌, ◌<◌, not};
+ghost use Rattle.std.specs.Prelude.{◌≡◌, ℕ, suc, ◌+◌, ◌≤◌, ◌<◌, not, drop};
 ghost use Rattle.std.specs.List.{list_any};
-ghost use Rattle.lists.specs.Spans.{stretch, span};
 ghost use Rattle.model.specs.Plan.{adjacent};
 ghost use Rattle.model.specs.Sweep.{State, chordless, choose, choices};
 ghost use Rattle.rings.specs.Tables.{plan_of};
 ghost use Rattle.sweep_by_definition.specs.Search.{found_as, Begins, Tested, Best};
 
 use ring_positions::Located;
-use std::ops::Range;
 use sweep_frontier::FrontierView;
 
-// Does u list one of these positions of g?
-fn touches(located: &Located, u: usize, g: &[u16], mut positions: Range<usize>) -> bool
-    ensures { result ≡ list_any (adjacent (plan_of located.now.rings) u) (span g.now positions.start positions.end) }
+// Does u list one of these contexts, from the a-th on?
+fn touches(located: &Located, u: usize, list: &[u16], a: usize) -> bool
+    ensures { result ≡ list_any (adjacent (plan_of located.now.rings) u) (drop a list.now) }
 {
-    positions.any(|k| located.is_adjacent(u, arrays::number_at(g, k)))
+    (a..list.len()).any(|t| located.is_adjacent(u, arrays::number_at(list, t)))
 }
 
-// Does one of the first m contexts of g list one that is two or more positions further on?
-fn chorded(located: &Located, g: &[u16], m: usize) -> bool
-    ensures { result ≡ not (chordless (plan_of located.now.rings) (stretch g.now 0 m)) }
+// Have these contexts a chord: does one of them list one that is two or more positions further on?
+#[tactic(auto, using(crate::proofs::Chords::chords_hit, crate::proofs::Chords::chords_on, crate::proofs::Chords::chords_end))]
+pub fn is_chorded(located: &Located, list: &[u16]) -> bool
+    ensures { result ≡ not (chordless (plan_of located.now.rings) list.now) }
 {
-    (0..m.saturating_sub(2)).any(|k| touches(located, arrays::number_at(g, k), g, k + 2..m))
+    for k in 0..list.len() {
+        if touches(located, usize::from(list[k]), list, k + 2) {
+            return true;
+        }
+    }
+    false
 }
 
 // Are positions k - 1 and j of a frontier of m contexts eligible? There is no answer where their list fails: it fails for every smaller k then.
@@ -34,7 +38,7 @@ fn fits(front: &FrontierView, m: usize, marks: &[u8; 256], k: usize, j: usize) -
     let q = crate::list::listed(&mut list, &mut on, front, k..j).ok()?;
     let mut next = [0u16; 512];
     let len = crate::list::replaced(&mut next, front.f, m, k, j, &list, q).ok()?;
-    Some(!chorded(&front.located, &next, len))
+    Some(!is_chorded(&front.located, &next[..len]))
 }
 
 // The largest i that is eligible with j.

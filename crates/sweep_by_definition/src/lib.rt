@@ -16,6 +16,8 @@ use sweep_labelling::Guided;
 mod choice;
 mod list;
 
+pub use choice::is_chorded;
+
 // Takes the step of positions i and j of the frontier: puts its labels, and gives the new frontier, its list marked beside what was marked. There is none where there is no such list, or no room for it.
 fn take_step(
     guided: &Guided,

@@ -1,14 +1,17 @@
 -- fits meets its contract.
 use Prim.Native.Nat.{ℕ}
-use mathlib.Core.Path.{◌≡◌, sym, ap, subst, ◌∙◌}
+use mathlib.Core.Path.{◌≡◌, refl, sym, ap, subst, ◌∙◌}
 use mathlib.Core.Bool.{false, not}
+use mathlib.Core.List.{[]}
 use native.Mathlib.Omega.{arith}
+use Rattle.std.proofs.Common.{length-take-le}
 use Rattle.std.specs.Prelude.{Ok, Result, is_ok}
 use Rattle.lists.specs.Spans.{zeros}
 use Rattle.lists.proofs.Bools.{both}
 use Rattle.rings.specs.Tables.{plan_of}
 use Rattle.sweep_frontier.specs.Frontiers.{lent_frontier, empty_frontier}
 use Rattle.sweep_by_definition.specs.Search.{Tested}
+use Rattle.sweep_by_definition.proofs.Moves.{replaced_short}
 use Rattle.sweep_by_definition.proofs.Eligible.{tested_none, tested_some}
 use Rattle.sweep_by_definition.proofs.choice.fits.Goals as goal
 
@@ -32,4 +35,18 @@ returns c =
     let on : c.listed.result ≡ Ok c.in_ok-q.q = grind arith in
     let fits : Ok c.in_ok-len.len ≡ c.replaced.result = grind arith in
     let put = ap (λ (r : Result ℕ ℕ). lent_frontier r c.replaced.new.at c.listed.new.marks) fits ∙ c.replaced.ensures c.listed.new.marks in
-    λ s begins i next two inside. ap not c.chorded.ensures ∙ (tested_some begins.0 begins.1 i c.args.j two inside next c.listed.result c.listed.ensures on put).1
+    λ s begins i next two inside. ap not c.is_chorded.ensures ∙ (tested_some begins.0 begins.1 i c.args.j two inside next c.listed.result c.listed.ensures on put).1
+
+pub slice_bounds-next-end : goal.slice_bounds-next-end
+slice_bounds-next-end c =
+    let fits : Ok c.in_ok-len.len ≡ c.replaced.result = grind arith in
+    let few = replaced_short _ _ _ _ _ _ _ refl fits (c.replaced.ensures []) in
+    let size = c.replaced.auto.at in
+    omega arith
+
+pub slice_bounds-is_chorded-end : goal.slice_bounds-is_chorded-end
+slice_bounds-is_chorded-end c =
+    let fits : Ok c.in_ok-len.len ≡ c.replaced.result = grind arith in
+    let few = replaced_short _ _ _ _ _ _ _ refl fits (c.replaced.ensures []) in
+    let size = c.replaced.auto.at in
+    sym (length-take-le c.in_ok-len.len c.replaced.new.at (omega arith))

@@ -1,7 +1,0 @@
--- What the loops of is_chorded keep.
-use Rattle.rings.specs.Tables.{plan_of}
-use Rattle.sweep_by_counts.proofs.Chords.{Chords}
-use Rattle.sweep_by_counts.proofs.pick.View.is_chorded.Given as goal
-
-abbrev pub invariant-loop-k : goal.invariant-loop-k
-invariant-loop-k l = Chords (plan_of l.self.located.rings) l.list l.k
