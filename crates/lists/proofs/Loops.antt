@@ -67,7 +67,8 @@ module _ {k : ℕ} {f : ℕ → ℕ} {i : ℕ} {b : List ℕ} (inv : Fills k f i
       let l : List ℕ = map f (from 0 i) in
       let size : length l ≡ i = length-map-from f 0 i in
       let z : 0 + i ≡ i = omega arith in
-      record { same = p ∙ (λ t. set (inv.same t) (sym size t) (v t)) ∙ zero_padded-put k l (f i) (omega arith) ∙ ap (zero_padded k) (ap (λ (j : ℕ). l ++ (f j ∷ [])) (sym z) ∙ sym (map-from-more f 0 i) ∙ ap (λ (j : ℕ). map f (from 0 j)) (sym q)) }
+      let more : l ++ (f i ∷ []) ≡ map f (from 0 i') = ap (λ (j : ℕ). l ++ (f j ∷ [])) (sym z) ∙ sym (map-from-more f 0 i) ∙ ap (λ (j : ℕ). map f (from 0 j)) (sym q) in
+      record { same = p ∙ (λ t. set (inv.same t) (sym size t) (v t)) ∙ zero_padded-put k l (f i) (omega arith) ∙ ap (zero_padded k) more }
 
   pub fills_end : i ≡ k → b ≡ map f (from 0 k)
   fills_end q = inv.same ∙ ap (λ (j : ℕ). zero_padded k (map f (from 0 j))) q ∙ zero_padded_full k (map f (from 0 k)) (length-map-from f 0 k)
