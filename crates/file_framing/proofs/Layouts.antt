@@ -1,6 +1,6 @@
 -- From the records to the layout: each step of framing tells what the model decodes.
 use Prim.Native.Nat.{ℕ, ◌+◌, ◌*◌, ◌≤◌, ◌<◌}
-use mathlib.Core.Path.{◌≡◌, refl, sym, ap, ◌∙◌}
+use mathlib.Core.Path.{◌≡◌, refl, sym, ap, ◌∙◌, subst}
 use mathlib.Core.List.{List, [], ◌∷◌}
 use mathlib.Core.Bool.{true, false, and-false}
 use mathlib.Core.Logic.{◌⊎◌, inl, inr}
@@ -13,14 +13,14 @@ use Rattle.lists.specs.Words.{word}
 use Rattle.lists.specs.Spans.{stretch}
 use Rattle.lists.proofs.Ranges.{length-map-from}
 use Rattle.model.specs.Outcome.{Outcome, accepted, refused, ◌>>=◌}
-use Rattle.model.specs.Plan.{Plan, context_count, labels_due}
-use Rattle.model.specs.File.{Sheet, charted, frame, frame_rings, Due, Part, frame_rest, optional, kinds_of, body_of, chart_in, sheet_of, decode}
+use Rattle.model.specs.Plan.{Plan, context_count, dart_count, labels_due}
+use Rattle.model.specs.File.{Sheet, charted, frame, frame_rings, Due, Part, frame_rest, optional, kinds_of, body_of, chart_in, sheet_of, entry_offset, decode}
 use Rattle.file_framing.specs.declared.layout.PartOffsets.{PartOffsets}
 use Rattle.arrays.specs.ArrayParts.{word_of}
 use Rattle.rings.specs.Tables.{starts_of}
 use Rattle.rings.specs.FilePlans.{words_at, body_at, plan_in_file}
 use Rattle.file_framing.specs.Offsets.{cursor}
-use Rattle.file_framing.specs.Layouts.{plan_in, label_bytes_at, sheet_at, parts_in, due_row, plan_from}
+use Rattle.file_framing.specs.Layouts.{plan_in, label_bytes_at, sheet_at, StandAt, parts_in, due_row, plan_from}
 use Rattle.file_framing.proofs.Offsets.{words-stretch}
 
 -- ---- the records after the rings
@@ -75,6 +75,14 @@ few_labels {n} h w =
     let size = length-replicate n [] in
     let e = w (record { rings = replicate n [] }) size in
     omega arith
+
+-- n contexts take as many labels as they have darts
+pub all_darts : {n k : ℕ} → ((p : Plan) → context_count p ≡ n → k ≡ labels_due p) → k ≡ dart_count n
+all_darts {n} w = let size = length-replicate n [] in w (record { rings = replicate n [] }) size ∙ ap dart_count size
+
+-- what stands behind the rings, where these end behind the entries
+pub parts_behind : {at : ℕ} (n total : ℕ) (parts : PartOffsets) → at ≡ 6 + 4 * n + 2 * total → StandAt (at + 4) n parts → StandAt (entry_offset n total) n parts
+parts_behind {at} n total parts e s = let there : at + 4 ≡ entry_offset n total = omega arith in subst (λ (k : ℕ). StandAt k n parts) there s
 
 -- the sheet of a plan and the parts that the offsets name
 pub sheet_parts : (file : List ℕ) (n : ℕ) (p : Plan) (parts : PartOffsets) → context_count p ≡ n → sheet_at file n p parts ≡ sheet_of p (parts_in file p parts)

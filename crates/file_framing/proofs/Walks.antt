@@ -3,7 +3,8 @@ use Prim.Native.Nat.{ℕ, zero, suc, ◌+◌, ◌-◌, ◌*◌, ◌≤◌, ◌<�
 use mathlib.Core.Path.{◌≡◌, refl, sym, ap, ◌∙◌}
 use mathlib.Core.List.{List, [], ◌∷◌, ◌++◌, map, append_assoc, append-nil}
 use native.Mathlib.Omega.{arith}
-use lib.ListN.{length, get_or, set, replicate, length-append}
+use lib.ListN.{length, get_or, set, take, replicate, length-append}
+use lib.Seq.{take-append_seam}
 use Rattle.lists.specs.Ranges.{from}
 use Rattle.lists.specs.Words.{words}
 use Rattle.lists.specs.Spans.{stretch, zeros, zero_padded}
@@ -12,7 +13,7 @@ use Rattle.lists.proofs.Loops.{zero_padded-none, zero_padded-put}
 use Rattle.lists.proofs.Padded.{stretch-zero_padded}
 use Rattle.model.specs.Outcome.{Outcome, accepted, refused, mapped, ◌>>=◌}
 use Rattle.model.specs.File.{Cursor, Framed, frame, fits_ring, frame_rings}
-use Rattle.rings.specs.Tables.{start_of, starts_of}
+use Rattle.rings.specs.Tables.{sum_of, start_of, starts_of}
 use Rattle.rings.specs.FilePlans.{words_at, body_at, plan_in_file}
 use Rattle.rings.proofs.Rows.{start_first, start-more}
 use Rattle.file_framing.specs.Offsets.{cursor}
@@ -37,6 +38,12 @@ behind_more : (at : ℕ) (l : List ℕ) (z : ℕ) → behind at (l ++ z ∷ []) 
 unfolding behind
 behind_more at [] z = refl
 behind_more at (k ∷ l) z = behind_more (at + 4 + 2 * k) l z
+
+-- which is 4 bytes for each ring and 2 for each entry on
+behind-sum : (at : ℕ) (l : List ℕ) → behind at l ≡ at + 4 * length l + 2 * sum_of l
+unfolding behind sum_of
+behind-sum at [] = omega arith
+behind-sum at (z ∷ l) = let r = behind-sum (at + 4 + 2 * z) l in omega arith
 
 -- rings record after record are those of the plan that the sizes and the file make
 rings-lent : (file b : List ℕ) (u k at : ℕ) → u + k ≤ 200 → at ≡ 6 + 4 * u + 2 * start_of b u
@@ -128,6 +135,18 @@ module _ {file : List ℕ} {n at i : ℕ} {sizes : List ℕ} (inv : Walks file n
       let b = inv.filled in
       let l = inv.seen in
       b ∙ ap (zero_padded 200) (sym (stretch-zero_padded 200 l)) ∙ λ t. zero_padded 200 (stretch (sym b t) 0 ((inv.count ∙ q) t))
+
+  -- where they end
+  pub walks_at : i ≡ n → at ≡ 6 + 4 * n + 2 * start_of sizes n
+  unfolding start_of zero_padded
+  walks_at q =
+      let l = inv.seen in
+      let count = inv.count in
+      let stand = inv.stands in
+      let far = behind-sum 6 l in
+      let all : take n sizes ≡ l = (λ t. take (sym (count ∙ q) t) (inv.filled t)) ∙ take-append_seam l (zeros (200 - length l)) in
+      let sum = ap sum_of all in
+      omega arith
 
   pub walks_end : i ≡ n → n ≤ 200 → accepted ((plan_in_file (starts_of sizes) sizes file n).rings, cursor file at) ≡ frame_rings n n (cursor file 6)
   unfolding frame_rings plan_in_file

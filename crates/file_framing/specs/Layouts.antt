@@ -1,13 +1,13 @@
 -- The layout of a lent file: what it says of the file in the terms of the model.
-use Rattle.std.specs.Prelude.{ℕ, ◌+◌, ◌*◌, List, [], ◌∷◌, Bool, false, cond, ◌&&◌, leb, Result, Ok, Err}
+use Rattle.std.specs.Prelude.{ℕ, ◌+◌, ◌*◌, ◌≡◌, List, [], ◌∷◌, Bool, false, cond, ◌&&◌, leb, Result, Ok, Err}
 use Rattle.lists.specs.Spans.{stretch}
 use Rattle.model.specs.Outcome.{Outcome, accepted, ◌>>=◌, ◌>>◌, mapped, require}
-use Rattle.model.specs.Plan.{Plan, context_count, labels_due}
+use Rattle.model.specs.Plan.{Plan, context_count, dart_count, labels_due}
 use Rattle.model.specs.Chart.{Chart}
-use Rattle.model.specs.File.{Sheet, opened, labelled, charted, frame_rings, Due, Part, frame_rest, optional, chart_in, sheet_of}
+use Rattle.model.specs.File.{Sheet, opened, labelled, charted, frame_rings, Due, Part, frame_rest, optional, chart_in, sheet_of, entry_offset}
 use Rattle.refusal.specs.declared.Refusal.{Refusal}
 use Rattle.refusal.specs.Refusals.{outcome_of}
-use Rattle.rings.specs.Tables.{starts_of}
+use Rattle.rings.specs.Tables.{start_of, starts_of}
 use Rattle.rings.specs.FilePlans.{words_at, plan_in_file}
 use Rattle.file_framing.specs.declared.Cursor as code
 use Rattle.file_framing.specs.declared.layout.PartOffsets.{PartOffsets}
@@ -41,6 +41,17 @@ laid file l = sheet_at file l.n (plan_in file l.sizes l.n) l.parts
 abbrev pub sheet_in : List ℕ → Result Layout Refusal → Outcome Sheet
 sheet_in file r = mapped (laid file) (outcome_of r)
 
+-- the parts behind the rings of n contexts, where the labels stand at an offset: a chart stands behind them, each behind a head of 4 bytes
+abbrev pub StandAt : ℕ → ℕ → PartOffsets → Type 0
+StandAt at n PartOffsets.Plan = Unit {0}
+StandAt at n (PartOffsets.Labels labels) = labels ≡ at
+StandAt at n (PartOffsets.Chart labels chart) = (labels ≡ at) × (chart ≡ at + dart_count n + 4)
+
+-- Labels stand behind the rings, where an entry of one ring more would; a chart stands behind the labels
+abbrev pub PartsBehind : Result Layout Refusal → Type 0
+PartsBehind (Ok l) = StandAt (entry_offset l.n (start_of l.sizes l.n)) l.n l.parts
+PartsBehind (Err r) = Unit {0}
+
 -- ---- what is still to be framed, for the steps of frame_file
 
 -- the parts that follow the rings of a plan
@@ -70,6 +81,11 @@ rest_of c d due r =
 abbrev pub NearParts : Result PartOffsets Refusal → Type 0
 NearParts (Ok p) = parts.Near p
 NearParts (Err r) = Unit {0}
+
+-- they stand behind rings that end at an offset
+abbrev pub StandBehind : ℕ → ℕ → Result PartOffsets Refusal → Type 0
+StandBehind at n (Ok p) = StandAt (at + 4) n p
+StandBehind at n (Err r) = Unit {0}
 
 -- everything behind the kind 1 record, which says n
 unfoldable pub plan_from : List ℕ → ℕ → Outcome Sheet

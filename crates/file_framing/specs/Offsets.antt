@@ -6,7 +6,7 @@ use Rattle.model.specs.File.{Cursor, Framed, Part}
 use Rattle.refusal.specs.declared.Refusal.{Refusal}
 use Rattle.refusal.specs.Refusals.{outcome_of}
 use Rattle.arrays.specs.ArrayParts.{word_of}
-use Rattle.rings.specs.Tables.{starts_of}
+use Rattle.rings.specs.Tables.{start_of, starts_of}
 use Rattle.rings.specs.FilePlans.{plan_in_file}
 use Rattle.file_framing.specs.declared.Cursor as code
 use Rattle.file_framing.specs.declared.Frame.{Frame}
@@ -55,7 +55,7 @@ RingBelow n (Err r) = Unit {0}
 abbrev pub walk_of : List ℕ → ℕ → Result Walk Refusal → Outcome (List (List ℕ) × Cursor)
 walk_of file n r = mapped (λ (w : Walk). ((plan_in_file (starts_of w.sizes) w.sizes file n).rings, cursor file w.at)) (outcome_of r)
 
--- the sizes of n rings, zeros after them, and an offset that n rings of fewer than 200 entries can reach
+-- the sizes of n rings, zeros after them, and the offset behind these rings, which rings of fewer than 200 entries can reach
 abbrev pub WalkBounds : ℕ → Result Walk Refusal → Type 0
-WalkBounds n (Ok w) = (w.sizes ≡ zero_padded 200 (stretch w.sizes 0 n)) × (w.at ≤ 6 + 402 * n)
+WalkBounds n (Ok w) = (w.sizes ≡ zero_padded 200 (stretch w.sizes 0 n)) × (w.at ≤ 6 + 402 * n) × (w.at ≡ 6 + 4 * n + 2 * start_of w.sizes n)
 WalkBounds n (Err r) = Unit {0}

@@ -10,7 +10,7 @@ ghost use Rattle.model.specs.File.{frame, fits_ring, frame_rings, Due, frame_res
 ghost use Rattle.file_records.specs.Records.{kind_number};
 ghost use Rattle.arrays.specs.ArrayParts.{word_of};
 ghost use Rattle.file_framing.specs.Offsets.{cursor, here, frame_at, record_of, due_of, file_end, ring_of, RingBelow, walk_of, WalkBounds};
-ghost use Rattle.file_framing.specs.Layouts.{due_row, rest_of, parts_of, NearParts, plan_from, sheet_in};
+ghost use Rattle.file_framing.specs.Layouts.{due_row, rest_of, parts_of, NearParts, StandBehind, plan_from, sheet_in, PartsBehind};
 
 use file_records::Record;
 pub use layout::{Layout, PartOffsets};
@@ -126,6 +126,7 @@ impl<'a> Cursor<'a> {
         requires at_bound { self.now.at ≤ 80406 }
         ensures value { (p : Plan) → context_count p ≡ n → parts_of self.now.file.now p result ≡ frame_rest (optional p) (here self.now) }
         ensures near { NearParts result }
+        ensures stand { StandBehind self.now.at n result }
     {
         let due = rings::labels_due(n as u16);
         if !self.has(Record::Labels, due)? {
@@ -168,7 +169,8 @@ fn walk_rings(file: &[u8], n: usize) -> Result<Walk, Refusal>
 
 // Behind the kind 1 record, which says n: 3, then the rings and what follows them.
 fn frame_plan(file: &[u8]) -> Result<Layout, Refusal>
-    ensures { sheet_in file.now result ≡ plan_from file.now (word_of file.now 4) }
+    ensures value { sheet_in file.now result ≡ plan_from file.now (word_of file.now 4) }
+    ensures offsets { PartsBehind result }
 {
     let n = usize::from(arrays::word_at(file, 4));
     if !(5..=200).contains(&n) {
@@ -181,7 +183,8 @@ fn frame_plan(file: &[u8]) -> Result<Layout, Refusal>
 
 // The layout of a file: all records framed in file order, or the refusal.
 pub fn frame_file(file: &[u8]) -> Result<Layout, Refusal>
-    ensures { sheet_in file.now result ≡ decode file.now }
+    ensures value { sheet_in file.now result ≡ decode file.now }
+    ensures offsets { PartsBehind result }
 {
     Cursor { file, at: 0 }.due(Record::Contexts, 2)?;
     frame_plan(file)

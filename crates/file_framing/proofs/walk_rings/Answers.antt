@@ -1,7 +1,7 @@
 -- walk_rings meets its contract.
 use mathlib.Core.Path.{◌≡◌, refl}
 use Rattle.std.proofs.lemmas.Result.{err_from_is_err_and}
-use Rattle.file_framing.proofs.Walks.{walks_start, walks_refused, walks_on, walks_sizes, walks_end}
+use Rattle.file_framing.proofs.Walks.{walks_start, walks_refused, walks_on, walks_sizes, walks_at, walks_end}
 use native.Mathlib.Omega.{arith}
 use Rattle.file_framing.proofs.walk_rings.Goals as goal
 
@@ -30,4 +30,4 @@ returns-clause-walk_bounds c =
     let v = c.loop-i.invariant in
     let r = v.reached in
     let all : c.loop-i.i ≡ c.args.n = omega arith in
-    (walks_sizes v all, let m = v.near in omega arith)
+    (walks_sizes v all, let m = v.near in omega arith, walks_at v all)

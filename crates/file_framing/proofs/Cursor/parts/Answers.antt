@@ -1,10 +1,11 @@
 -- parts meets its contract.
 use Prim.Native.Nat.{◌+◌, ◌*◌}
+use mathlib.Core.Path.{refl}
 use mathlib.Core.List.{[], ◌∷◌}
 use native.Mathlib.Omega.{arith}
 use Rattle.std.proofs.lemmas.Result.{err_from_is_err_and}
 use Rattle.file_framing.specs.Layouts.{due_row}
-use Rattle.file_framing.proofs.Layouts.{rest_begun, labels_then, chart_then, few_labels}
+use Rattle.file_framing.proofs.Layouts.{rest_begun, labels_then, chart_then, few_labels, all_darts}
 use Rattle.file_framing.proofs.Cursor.parts.Goals as goal
 
 pub overflow_add-behind : goal.overflow_add-behind
@@ -57,3 +58,9 @@ returns-clause-value c = λ p e.
 
 pub returns-clause-near : goal.returns-clause-near
 returns-clause-near c = let few = few_labels c.requires.n_bound c.labels_due-due.ensures in let h = c.requires.at_bound in (omega arith, omega arith)
+
+pub returns-then-not-branch-2-clause-stand : goal.returns-then-not-branch-2-clause-stand
+returns-then-not-branch-2-clause-stand c = refl
+
+pub returns-clause-stand : goal.returns-clause-stand
+returns-clause-stand c = let all = all_darts c.labels_due-due.ensures in (refl, omega arith)
