@@ -176,6 +176,8 @@ fn ring_of(file: &[u8], context: usize) -> String {
 fn script_line(script: &[u8]) -> String {
     let mut sheet = Sheet::default();
     let mut rest = script;
+    let mut accepted = 0;
+    let mut last = "none".to_string();
     while let Some((kind, argument, after)) = item(rest) {
         let formed = match kind {
             1 | 2 => true,
@@ -186,7 +188,9 @@ fn script_line(script: &[u8]) -> String {
         if !formed {
             break;
         }
-        let _ = call(&mut sheet, kind, argument);
+        let (_, answer) = call(&mut sheet, kind, argument);
+        accepted += usize::from(answer.is_ok());
+        last = answer.map_or_else(refused, |()| "accepted".to_string());
         rest = after;
     }
     let (length, end) = (script.len(), script.len() - rest.len());
@@ -195,5 +199,7 @@ fn script_line(script: &[u8]) -> String {
     let mut buffer = vec![0; 65_536];
     let _ = write(&sheet, &mut buffer);
     let sum = checksum(&buffer);
-    format!("script of {length} ends at {end}; stage {stage}, n {n}, checksum {sum}")
+    let answers = format!("accepted {accepted}, last {last}");
+    let left = format!("stage {stage}, n {n}, checksum {sum}");
+    format!("script of {length} ends at {end}; {answers}; {left}")
 }
