@@ -70,7 +70,8 @@ folds_range : {F C : Type 0} {g : Mut F (C × (ℕ × Unit {0})) C} (h : C → �
 folds_range {g = g} h e {init = init} {r = r} ran acts = fold_from_yields_List g h init r ran (YieldsList-from_range 0 e e refl (omega arith)) acts
 
 -- ---- the ring of u: (0..size).fold(s, |all, i| with_dart(all, u, ring[i]))
-entries_from : (p : Plan) (k : Chart) (u i n : ℕ) (s : Areas) → fold (λ (a : Areas) (x : ℕ). with_faces k (faces_on p u (get_or (ring p u) x 0)) a) s (range_with_len i n) ≡ with_faces k (flatten (map (faces_on p u) (stretch (ring p u) i n))) s
+entries_from : (p : Plan) (k : Chart) (u i n : ℕ) (s : Areas)
+    → fold (λ (a : Areas) (x : ℕ). with_faces k (faces_on p u (get_or (ring p u) x 0)) a) s (range_with_len i n) ≡ with_faces k (flatten (map (faces_on p u) (stretch (ring p u) i n))) s
 unfolding with_faces stretch
 entries_from p k u i zero s = refl
 entries_from p k u i (suc n) s =

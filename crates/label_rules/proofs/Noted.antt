@@ -154,8 +154,9 @@ module _ (r : Rings) (ls : List ℕ) where
   around-cell : (u v : ℕ) → u < 200 → v < 200 → (t : List ℕ) → cell_at u v < length t → get_or t (cell_at u v) 0 ≡ 0 → get_or (note_around r ls u t) (cell_at u v) 0 ≡ Says u v
   unfolding note_around
   around-cell u v h l t f z =
+      let own = sym (ring-rows r.starts.now r.sizes.now r.entries.now r.n u) in
       labels-cell r.entries.now ls u v h l (get_or r.starts.now u 0) (size_of r.sizes.now r.n u) t f
-      ∙ (λ j. cond (member v (sym (ring-rows r.starts.now r.sizes.now r.entries.now r.n u) j)) (label_mark (get_or ls (get_or r.starts.now u 0 + index_of v (sym (ring-rows r.starts.now r.sizes.now r.entries.now r.n u) j)) unlabelled)) (z j))
+      ∙ (λ j. cond (member v (own j)) (label_mark (get_or ls (get_or r.starts.now u 0 + index_of v (own j)) unlabelled)) (z j))
 
   -- a pass over the rings from i on leaves the rows of others
   each-other : (c i k : ℕ) → ((u w : ℕ) → i ≤ u → u < i + k → w < 200 → c ≡ cell_at u w → ⊥) → (t : List ℕ) → get_or (each (note_around r ls) i k t) c 0 ≡ get_or t c 0
