@@ -66,18 +66,17 @@ pub fn neighbour_of(entry: usize) -> usize
 }
 
 // How many darts a plan of n contexts has.
-pub fn dart_count(n: usize) -> usize
-    requires { n < 2 ^ 16 }
+pub fn dart_count(n: u16) -> usize
     ensures { result ≡ dart_count n }
 {
-    (6 * n).saturating_sub(14)
+    (6 * usize::from(n)).saturating_sub(14)
 }
 
 // How many labels a plan of n contexts takes.
 pub fn labels_due(n: u16) -> usize
     ensures { (p : Plan) → context_count p ≡ n → result ≡ labels_due p }
 {
-    dart_count(usize::from(n))
+    dart_count(n)
 }
 
 // Where an entry of u's ring stands in a file, the k-th of all; where that is past every file, the highest number.

@@ -40,7 +40,8 @@ impl<'a> Framed<'a> {
     fn is_due(&self) -> bool
         ensures { result ≡ entries_due self.now.layout.now.sizes self.now.layout.now.n }
     {
-        plan_bounds::total_of(&self.layout.sizes, self.layout.n) == rings::dart_count(self.layout.n)
+        plan_bounds::total_of(&self.layout.sizes, self.layout.n)
+            == rings::dart_count(self.layout.n as u16)
     }
 
     // 4 to 7 of the plan, where it stands in the file.

@@ -29,7 +29,7 @@ fn is_ruled(fit: &Fit) -> bool
     ensures { result ≡ true → Sound (table_of fit.now.plan) }
 {
     let plan = fit.plan;
-    plan_bounds::total_of(plan.sizes, plan.n) == rings::dart_count(plan.n)
+    plan_bounds::total_of(plan.sizes, plan.n) == rings::dart_count(plan.n as u16)
         && plan_check::is_sound(&plan)
 }
 

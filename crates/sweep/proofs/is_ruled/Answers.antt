@@ -7,8 +7,8 @@ use Rattle.plan_bounds.proofs.Bounds.{fit_few}
 use Rattle.sweep.proofs.Ruled.{ruled-sound}
 use Rattle.sweep.proofs.is_ruled.Goals as goal
 
-pub dart_count-requires : goal.dart_count-requires
-dart_count-requires c = let few = fit_few c.args.fit.now.plan c.args.fit.now.fits in omega arith
+pub overflow_cast-plan : goal.overflow_cast-plan
+overflow_cast-plan c = let few = fit_few c.args.fit.now.plan c.args.fit.now.fits in omega arith
 
 pub returns-then-total_of-dart_count : goal.returns-then-total_of-dart_count
 returns-then-total_of-dart_count c = λ quick.
