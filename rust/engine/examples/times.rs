@@ -32,9 +32,14 @@ fn least(mut one: impl FnMut() -> u64, mut other: impl FnMut() -> u64) -> (f64, 
     })
 }
 
+/// The sheet of a file that the engine wrote.
+fn open(file: &[u8]) -> Sheet {
+    reference::open(file).expect("a file of the engine's")
+}
+
 /// The sheet of a file, after a call, written into a buffer.
 fn plain(file: &[u8], out: &mut [u8], call: impl FnOnce(&mut Sheet)) -> u64 {
-    let mut sheet = reference::open(file).expect("a file of the engine's");
+    let mut sheet = open(file);
     call(&mut sheet);
     reference::write(&sheet, out).expect("room for the file") as u64
 }
@@ -53,7 +58,7 @@ fn inner_edges(rings: &Rings) -> Vec<u16> {
 /// The row of a plan.
 fn row(name: &str, rings: &Rings) {
     let plan = file(rings, None, None);
-    let mut sheet = reference::open(&plan).expect("a plan");
+    let mut sheet = open(&plan);
     reference::sweep(&mut sheet).expect("labels");
     let labels = sheet.labels().expect("labels").bytes().to_vec();
     let labelled = reference::encode(&sheet);
@@ -104,7 +109,11 @@ fn row(name: &str, rings: &Rings) {
     ));
     cell(least(
         || scan_of(&plan),
-        || reference::scan(&reference::open(&plan).expect("a plan")).is_ok() as u64,
+        || reference::scan(&open(&plan)).is_ok() as u64,
+    ));
+    cell(least(
+        || same_of(&charted, &charted),
+        || reference::same(&open(&charted), &open(&charted)).is_ok() as u64,
     ));
     cell(least(
         || ring_of(&plan, 4),
@@ -151,8 +160,8 @@ fn hard_for_the_sweep(n: usize, random: &mut Random) -> Rings {
 
 fn main() {
     let mut random = Random::new(7);
-    println!("| family | n | open | with labels | with chart | sweep | offer | turn of all edges | chart | scan | ring |");
-    println!("|{}", "---|".repeat(11));
+    println!("| family | n | open | with labels | with chart | sweep | offer | turn of all edges | chart | scan | same | ring |");
+    println!("|{}", "---|".repeat(12));
     let sizes = [10, 25, 50, 100, 200];
     for n in sizes {
         row("irreducible", &irreducible(n, &mut random));
