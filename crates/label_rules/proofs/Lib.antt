@@ -1,3 +1,4 @@
 pub mod Noted
+pub mod Rows
 pub mod ByTable
 pub mod Breaks

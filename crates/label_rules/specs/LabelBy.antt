@@ -24,6 +24,11 @@ unfoldable pub note_labels : List ℕ → List ℕ → ℕ → ℕ → ℕ → L
 note_labels es ls u i zero t = t
 note_labels es ls u i (suc k) t = note_label u (neighbour (get_or es i 0)) (get_or ls i unlabelled) (note_labels es ls u (suc i) k t)
 
+-- the same in a row of the table, by the entries and labels of one ring
+unfoldable pub note_marks : List ℕ → List ℕ → ℕ → ℕ → List ℕ → List ℕ
+note_marks es ls i zero row = row
+note_marks es ls i (suc k) row = set (note_marks es ls (suc i) k row) (neighbour (get_or es i 0)) (label_mark (get_or ls i unlabelled))
+
 -- the labels around u
 unfoldable pub note_around : Rings → List ℕ → ℕ → List ℕ → List ℕ
 note_around r ls u t = note_labels r.entries.now ls u (get_or r.starts.now u 0) (size_of r.sizes.now r.n u) t

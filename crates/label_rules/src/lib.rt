@@ -9,7 +9,7 @@ ghost use Rattle.model.specs.Labels.{label_of, bad_dart, not_due, breaks, label_
 ghost use Rattle.refusal.specs.Refusals.{outcome_of};
 ghost use Rattle.rings.specs.Tables.{starts_of, plan_of, table_of};
 ghost use Rattle.plan_bounds.specs.Fits.{fit};
-ghost use Rattle.label_rules.specs.LabelBy.{label_mark, across, note_around, labelled, Marked, wrong_dart};
+ghost use Rattle.label_rules.specs.LabelBy.{label_mark, across, note_marks, note_around, labelled, Marked, wrong_dart};
 
 use plan_bounds::Fit;
 use refusal::Refusal;
@@ -34,7 +34,20 @@ fn across(mark: u8) -> u8
     mark % 4 + 2
 }
 
-// The labels around u noted in a table that has a row for each context, from the last entry of u's ring to the first.
+// The labels of a ring's entries noted in a row of a table, from the last entry to the first.
+fn note_row(row: &mut [u8], ring: &[u16], labels: &[u8])
+    requires { length labels.now ≡ length ring.now }
+    ensures { row.new ≡ note_marks ring.now labels.now 0 (length ring.now) row.old }
+{
+    for i in (0..ring.len()).rev() {
+        let v = rings::neighbour_of(usize::from(ring[i]));
+        if v < row.len() {
+            row[v] = mark_of(labels[i]);
+        }
+    }
+}
+
+// The labels around u noted in a table that has a row for each context, from the last entry of u's ring to the first: in u's row where the arrays have the ring and its labels.
 fn note_around(table: &mut [u8], rings: &Rings, labels: &[u8], u: usize)
     requires fits { fit (plan_of rings.now) ≡ true }
     requires room { 200 * rings.now.n ≤ length table.old }
@@ -42,6 +55,15 @@ fn note_around(table: &mut [u8], rings: &Rings, labels: &[u8], u: usize)
     ensures { table.new ≡ note_around rings.now labels.now u table.old }
 {
     let Range { start, end } = rings.span(u);
+    if end <= rings.entries.len() && end <= labels.len() {
+        let row = 200 * u;
+        note_row(
+            &mut table[row..row + 200],
+            &rings.entries[start..end],
+            &labels[start..end],
+        );
+        return;
+    }
     for i in (start..end).rev() {
         let v = rings::neighbour_of(arrays::number_at(rings.entries, i));
         table[200 * u + v] = mark_of(labels::label_at(labels, i));

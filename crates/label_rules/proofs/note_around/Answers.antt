@@ -7,7 +7,13 @@ use Rattle.model.specs.Plan.{neighbour}
 use Rattle.label_rules.specs.LabelBy.{note_around}
 use Rattle.label_rules.proofs.ByTable.{few, entry_low}
 use Rattle.label_rules.proofs.Noted.{note_put, back_start, back_on, back_end}
+use Rattle.label_rules.proofs.Rows.{row_noted}
 use Rattle.label_rules.proofs.note_around.Goals as goal
+
+pub returns-then-end-labels : goal.returns-then-end-labels
+returns-then-end-labels c =
+    let most = few c.args.rings.now c.requires.fits in
+    row_noted c.args.rings.now c.args.labels.now c.args.u c.args.table.now c.span-start.ensures.start c.span-start.ensures.end (omega arith) (omega arith) (omega arith) (omega arith) c.note_row.ensures
 
 pub loop-i-init : goal.loop-i-init
 loop-i-init c = (omega arith, omega arith, refl, back_start)
