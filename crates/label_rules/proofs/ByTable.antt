@@ -2,22 +2,23 @@
 use Prim.Native.Nat.{ℕ, zero, suc, ◌+◌, ◌-◌, ◌*◌, ◌≤◌, ◌<◌}
 use mathlib.Core.Path.{◌≡◌, refl, sym, ap, ◌∙◌}
 use mathlib.Core.List.{List, [], ◌∷◌, map}
-use mathlib.Core.Bool.{Bool, true, false, cond}
+use mathlib.Core.Bool.{Bool, true, false, cond, or-false}
 use native.Mathlib.Omega.{arith}
 use lib.ListN.{replicate, length, get_or, take, drop}
 use lib.Dec.{ltb}
 use lib.Seq.{slice, take-nil}
-use borrow.Author.Tests.{ltb-true, ltb-false}
+use borrow.Author.Tests.{ltb-true, ltb-false, le-ltb}
 use Rattle.std.specs.List.{list_any}
 use Rattle.lists.specs.Tests.{member}
 use Rattle.lists.specs.Folds.{some_within}
 use Rattle.lists.specs.Parts.{index_of}
 use Rattle.lists.specs.Spans.{stretch, zeros}
 use Rattle.lists.proofs.Chains.{any_some, any_entry}
-use Rattle.lists.proofs.Spans.{length-zeros}
-use Rattle.lists.proofs.Tests.{list_any-map}
+use Rattle.lists.proofs.Spans.{length-zeros, stretch_part}
+use Rattle.lists.proofs.Stretches.{span_whole}
+use Rattle.lists.proofs.Tests.{list_any-map, list_any_same}
 use Rattle.model.specs.Plan.{Plan, context_count, neighbour, ring}
-use Rattle.model.specs.Labels.{unlabelled, start, labels_around, label_of}
+use Rattle.model.specs.Labels.{unlabelled, start, labels_around, label_of, bad_dart}
 use Rattle.model.proofs.Eligible.{get_or-mem}
 use Rattle.model.proofs.Plans.{adjacent-from, mem-adjacent}
 use Rattle.rings.specs.Tables.{starts_of, size_of, table, plan_of}
@@ -27,7 +28,7 @@ use Rattle.plan_bounds.specs.Fits.{fit}
 use Rattle.plan_bounds.proofs.Fits.{fit-says}
 use Rattle.ring_positions.specs.Positions.{cell_at}
 use Rattle.labels.proofs.Places.{is-table, start-bounded_table, size-rows, label_there, label_none}
-use Rattle.label_rules.specs.LabelBy.{label_mark, labelled, Marked}
+use Rattle.label_rules.specs.LabelBy.{label_mark, labelled, Marked, wrong_dart}
 use Rattle.label_rules.proofs.Noted.{labelled-long, labelled_cell}
 
 drop-take : (s k : ℕ) (l : List ℕ) → drop s (take (s + k) l) ≡ take k (drop s l)
@@ -124,3 +125,19 @@ some_ring r u f {a} {e} from to =
     ∙ list_any-map f neighbour (stretch es a (e - a))
     ∙ (λ i. list_any f (map neighbour (stretch es (from i) (size i))))
     ∙ sym (ap (list_any f) (ring-rows r.starts.now r.sizes.now es r.n u))
+
+-- the same of an inner context's ring, where it is there, taken out of the entries: none of its darts leaves a border context
+pub inner_ring : (r : Rings) (ls : List ℕ) (u : ℕ) → 4 ≤ u → {a e : ℕ} → a ≡ get_or r.starts.now u 0 → e ≡ get_or r.starts.now u 0 + size_of r.sizes.now r.n u → e ≤ length r.entries.now
+    → some_within (λ (i : ℕ). bad_dart (plan_of r) ls u (neighbour (get_or (take (e - a) (drop a r.entries.now)) i 0))) 0 (length (take (e - a) (drop a r.entries.now))) ≡ list_any (wrong_dart (plan_of r) ls u) (ring (plan_of r) u)
+unfolding wrong_dart
+inner_ring r ls u h {a} {e} from to there =
+    let es = r.entries.now in
+    let part = take (e - a) (drop a es) in
+    let bad = bad_dart (plan_of r) ls u in
+    let size : e - a ≡ size_of r.sizes.now r.n u = omega arith in
+    sym (any_some (λ (i : ℕ). bad (neighbour (get_or part i 0))) 0 (length part - 0))
+    ∙ any_entry part (λ (x : ℕ). bad (neighbour x)) 0 (length part - 0)
+    ∙ list_any-map bad neighbour (stretch part 0 (length part - 0))
+    ∙ ap (λ (l : List ℕ). list_any bad (map neighbour l)) (span_whole part (length part) refl ∙ sym (stretch_part es a (e - a) (omega arith)) ∙ (λ i. stretch es (from i) (size i)))
+    ∙ sym (ap (list_any bad) (ring-rows r.starts.now r.sizes.now es r.n u))
+    ∙ list_any_same bad (wrong_dart (plan_of r) ls u) (ring (plan_of r) u) (λ v. sym (rw (le-ltb u 4 h) (or-false (bad v))))

@@ -1,10 +1,11 @@
 // The label rules of a plan that fits: the lowest context that breaks them, with the label of each dart found by a table of labels.
 #![tactic(auto)]
 
-ghost use Rattle.std.specs.Prelude.{◌≡◌, ◌≤◌, ◌<◌, ◌*◌, true, length};
+ghost use Rattle.std.specs.Prelude.{◌≡◌, ℕ, ◌≤◌, ◌<◌, ◌*◌, ◌&&◌, true, false, length, get_or};
 ghost use Rattle.std.specs.List.{list_any};
 ghost use Rattle.model.specs.Outcome.{rule};
-ghost use Rattle.model.specs.Plan.{ring};
+ghost use Rattle.lists.specs.Folds.{some_within};
+ghost use Rattle.model.specs.Plan.{neighbour, border, ring};
 ghost use Rattle.model.specs.Labels.{label_of, bad_dart, not_due, breaks, label_rules};
 ghost use Rattle.refusal.specs.Refusals.{outcome_of};
 ghost use Rattle.rings.specs.Tables.{starts_of, plan_of, table_of};
@@ -101,16 +102,25 @@ impl Labelled<'_, '_, '_> {
         self.table[200 * u + v]
     }
 
-    // Does the dart from u to v break the rules? The border's label stands between border contexts, and only there; elsewhere a dart and its reverse differ by two quarters.
+    // Does the dart from u to v, not both border contexts, break the rules? It does unless it and its reverse differ by two quarters.
+    fn is_bad_inner(&self, u: usize, v: usize) -> bool
+        requires there { (u < self.now.rings.n) × (v < self.now.rings.n) }
+        requires inner { (border u && border v) ≡ false }
+        ensures { result ≡ bad_dart (plan_of self.now.rings) self.now.labels.now u v }
+    {
+        let x = self.mark_at(u, v);
+        x < DIRECTED || self.mark_at(v, u) != across(x)
+    }
+
+    // Does the dart from u to v break the rules? The border's label stands between border contexts, and only there.
     fn is_bad(&self, u: usize, v: usize) -> bool
         requires { (u < self.now.rings.n) × (v < self.now.rings.n) }
         ensures { result ≡ bad_dart (plan_of self.now.rings) self.now.labels.now u v }
     {
-        let x = self.mark_at(u, v);
         if labels::both_border(u, v) {
-            return x != mark_of(labels::BORDER);
+            return self.mark_at(u, v) != mark_of(labels::BORDER);
         }
-        x < DIRECTED || self.mark_at(v, u) != across(x)
+        self.is_bad_inner(u, v)
     }
 
     // Is the dart from u to v, of a border context, an inner dart without the label due?
@@ -130,11 +140,28 @@ impl Labelled<'_, '_, '_> {
         self.is_bad(u, v) || u < 4 && self.is_not_due(u, v)
     }
 
-    // Is a dart that leaves u wrong?
+    // Does one of these darts, which leave an inner context, break the rules?
+    fn has_bad_inner(&self, u: usize, ring: &[u16]) -> bool
+        requires inner { 4 ≤ u }
+        requires there { (i : ℕ) → i < length ring.now → (u < self.now.rings.n) × (neighbour (get_or ring.now i 0) < self.now.rings.n) }
+        ensures { result ≡ some_within (λ i. bad_dart (plan_of self.now.rings) self.now.labels.now u (neighbour (get_or ring.now i 0))) 0 (length ring.now) }
+    {
+        for i in 0..ring.len() {
+            if self.is_bad_inner(u, rings::neighbour_of(usize::from(ring[i]))) {
+                return true;
+            }
+        }
+        false
+    }
+
+    // Is a dart that leaves u wrong? That u is inner, and that the entries have its ring, is tested once, and not at each dart.
     fn has_wrong(&self, u: usize) -> bool
         ensures { result ≡ list_any (wrong_dart (plan_of self.now.rings) self.now.labels.now u) (ring (plan_of self.now.rings) u) }
     {
         let Range { start, end } = self.rings.span(u);
+        if u >= 4 && end <= self.rings.entries.len() {
+            return self.has_bad_inner(u, &self.rings.entries[start..end]);
+        }
         for i in start..end {
             if self.is_wrong(
                 u,
