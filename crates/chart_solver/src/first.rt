@@ -4,7 +4,7 @@ ghost use Rattle.chart_solver.specs.Relaxing.{RaisedIn};
 
 use crate::{Constraint, System};
 
-// The order of the first pass: the constraints in chains by their lower numbers, and the numbers that wait for no constraint. A cell of a chain holds one more than a constraint's place, or 0 for none.
+// The order of the first pass: the constraints in chains by their lower numbers, and the numbers that wait for no constraint. A cell of a chain holds one more than a constraint's index, or 0 for none.
 #[derive(Drop)]
 struct Order<const N: usize> {
     // the first constraint from each number

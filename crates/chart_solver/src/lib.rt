@@ -54,7 +54,7 @@ struct System<'a> {
 
 // The constraint that a pass comes to after i others.
 #[tactic(auto, unfolding(crate::specs::Relaxing::pass_index))]
-fn place(back: bool, count: usize, i: usize) -> usize
+fn pass_index(back: bool, count: usize, i: usize) -> usize
     requires { i < count }
     ensures { result ≡ pass_index back count i }
 {
@@ -109,7 +109,7 @@ impl<'a> System<'a> {
         let count = self.constraints.len();
         let mut rose = false;
         for i in 0..count {
-            if self.raise(at, place(back, count, i))? {
+            if self.raise(at, pass_index(back, count, i))? {
                 rose = true;
             }
         }

@@ -28,8 +28,8 @@ use Rattle.plan_bounds.specs.Fits.{fit}
 use Rattle.plan_bounds.proofs.Fits.{fit-says}
 use Rattle.ring_positions.specs.Positions.{cell_at}
 use Rattle.labels.proofs.Places.{is-table, start-bounded_table, size-rows, label_there, label_none}
-use Rattle.label_rules.specs.LabelBy.{label_mark, labelled, Marked, wrong_dart}
-use Rattle.label_rules.proofs.Noted.{labelled-long, labelled_cell}
+use Rattle.label_rules.specs.LabelBy.{label_mark, marks_filled, Marked, wrong_dart}
+use Rattle.label_rules.proofs.Noted.{marks_filled-long, marks_filled_cell}
 
 drop-take : (s k : ℕ) (l : List ℕ) → drop s (take (s + k) l) ≡ take k (drop s l)
 drop-take zero k l = let z : 0 + k ≡ k = omega arith in rw z
@@ -64,8 +64,8 @@ module _ (r : Rings) (fits : fit (plan_of r) ≡ true) where
 
   module _ (same : r.starts.now ≡ starts_of r.sizes.now) (ls : List ℕ) where
     -- in a table that was all zeros, with a row for each context, the marks of all labels stand
-    cell_own : {k : ℕ} → 200 * r.n ≤ k → (u v : ℕ) → u < 200 → v < 200 → get_or (labelled r ls (zeros k)) (cell_at u v) 0 ≡ label_mark (label_of (plan_of r) ls u v)
-    cell_own room u v h l = labelled_cell r ls few room u v h l ∙ go (member v (ring (plan_of r) u)) refl ∙ ap (λ (p : Plan). label_mark (label_of p ls u v)) (sym (is-table r.starts.now r.sizes.now r.entries.now r.n same few))
+    cell_own : {k : ℕ} → 200 * r.n ≤ k → (u v : ℕ) → u < 200 → v < 200 → get_or (marks_filled r ls (zeros k)) (cell_at u v) 0 ≡ label_mark (label_of (plan_of r) ls u v)
+    cell_own room u v h l = marks_filled_cell r ls few room u v h l ∙ go (member v (ring (plan_of r) u)) refl ∙ ap (λ (p : Plan). label_mark (label_of p ls u v)) (sym (is-table r.starts.now r.sizes.now r.entries.now r.n same few))
       where
         P : Plan
         P = table r.sizes.now r.entries.now r.n
@@ -93,11 +93,11 @@ module _ (r : Rings) (fits : fit (plan_of r) ≡ true) where
             let none = label_none r.starts.now r.sizes.now r.entries.now r.n same few u v refl refl size ls (ltb-false i m (sym inside ∙ q)) in
             ap (λ (b : Bool). cond b (label_mark (get_or ls j unlabelled)) 0) q ∙ sym mark-none ∙ ap label_mark none
 
-    pub marked_filled : {k : ℕ} → 200 * r.n ≤ k → {t₀ t : List ℕ} → t₀ ≡ replicate k 0 → t ≡ labelled r ls t₀ → Marked r ls t
+    pub marked_filled : {k : ℕ} → 200 * r.n ≤ k → {t₀ t : List ℕ} → t₀ ≡ replicate k 0 → t ≡ marks_filled r ls t₀ → Marked r ls t
     unfolding zeros
     marked_filled {k} room {t₀} {t} none e =
-        let is : t ≡ labelled r ls (zeros k) = e ∙ ap (labelled r ls) none in
-        let long : length t ≡ k = ap length is ∙ labelled-long r ls (zeros k) ∙ length-zeros k in
+        let is : t ≡ marks_filled r ls (zeros k) = e ∙ ap (marks_filled r ls) none in
+        let long : length t ≡ k = ap length is ∙ marks_filled-long r ls (zeros k) ∙ length-zeros k in
         let small = few in
         record { room = omega arith; cells = λ u v h l. ap (λ (s : List ℕ). get_or s (cell_at u v) 0) is ∙ cell_own room u v (omega arith) (omega arith) }
 

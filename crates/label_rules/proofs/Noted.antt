@@ -21,7 +21,7 @@ use Rattle.rings.specs.Tables.{size_of, plan_of}
 use Rattle.rings.specs.declared.Rings.{Rings}
 use Rattle.rings.proofs.Rows.{size_outside, ring-rows}
 use Rattle.ring_positions.specs.Positions.{cell_at, has_cell}
-use Rattle.label_rules.specs.LabelBy.{label_mark, note_label, note_labels, note_around, labelled}
+use Rattle.label_rules.specs.LabelBy.{label_mark, note_label, note_labels, note_around, marks_filled}
 
 -- ---- while a < i { i -= 1; .. }: the labels of the entries from i up to e are noted
 pub record Back (es ls : List ℕ) (u e : ℕ) (t₀ : List ℕ) (i : ℕ) (t : List ℕ) : Type 0 where
@@ -172,9 +172,9 @@ module _ (r : Rings) (ls : List ℕ) where
   each-long i zero t = refl
   each-long i (suc k) t = each-long (suc i) k (note_around r ls i t) ∙ around-long i t
 
-  pub labelled-long : (t : List ℕ) → length (labelled r ls t) ≡ length t
-  unfolding labelled
-  labelled-long t = each-long 0 (r.n - 0) t
+  pub marks_filled-long : (t : List ℕ) → length (marks_filled r ls t) ≡ length t
+  unfolding marks_filled
+  marks_filled-long t = each-long 0 (r.n - 0) t
 
   -- and notes theirs
   each-cell : (u v : ℕ) → v < 200 → (i k : ℕ) → i ≤ u → u < i + k → i + k ≤ 200 → (t : List ℕ) → cell_at u v < length t → get_or t (cell_at u v) 0 ≡ 0 → get_or (each (note_around r ls) i k t) (cell_at u v) 0 ≡ Says u v
@@ -204,9 +204,9 @@ module _ (r : Rings) (ls : List ℕ) where
       ap (λ (s : List ℕ). cond (member v s) (label_mark (get_or ls (get_or r.starts.now u 0 + index_of v s) unlabelled)) 0) empty
 
   -- In a table with a row for each context, that was all zeros, each cell says this; so does what lies outside the table
-  pub labelled_cell : r.n ≤ 200 → {k : ℕ} → 200 * r.n ≤ k → (u v : ℕ) → u < 200 → v < 200 → get_or (labelled r ls (zeros k)) (cell_at u v) 0 ≡ Says u v
-  unfolding labelled
-  labelled_cell small {k} room u v h l = go (ltb u r.n) refl
+  pub marks_filled_cell : r.n ≤ 200 → {k : ℕ} → 200 * r.n ≤ k → (u v : ℕ) → u < 200 → v < 200 → get_or (marks_filled r ls (zeros k)) (cell_at u v) 0 ≡ Says u v
+  unfolding marks_filled
+  marks_filled_cell small {k} room u v h l = go (ltb u r.n) refl
     where
       go : (b : Bool) → ltb u r.n ≡ b → get_or (each (note_around r ls) 0 (r.n - 0) (zeros k)) (cell_at u v) 0 ≡ Says u v
       go true e =

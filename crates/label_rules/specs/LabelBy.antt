@@ -33,9 +33,9 @@ note_marks es ls i (suc k) row = set (note_marks es ls (suc i) k row) (neighbour
 unfoldable pub note_around : Rings → List ℕ → ℕ → List ℕ → List ℕ
 note_around r ls u t = note_labels r.entries.now ls u (get_or r.starts.now u 0) (size_of r.sizes.now r.n u) t
 
--- the labels of all rings
-unfoldable pub labelled : Rings → List ℕ → List ℕ → List ℕ
-labelled r ls t = through (note_around r ls) 0 r.n t
+-- the marks of the labels of all rings
+unfoldable pub marks_filled : Rings → List ℕ → List ℕ → List ℕ
+marks_filled r ls t = through (note_around r ls) 0 r.n t
 
 -- The law of a table: it has a row for each context, and in the cell of two contexts the mark of the label of the dart between them stands
 pub record Marked (r : Rings) (ls t : List ℕ) : Type 0 where

@@ -10,7 +10,7 @@ ghost use Rattle.model.specs.Labels.{label_of, bad_dart, not_due, breaks, label_
 ghost use Rattle.refusal.specs.Refusals.{outcome_of};
 ghost use Rattle.rings.specs.Tables.{starts_of, plan_of, table_of};
 ghost use Rattle.plan_bounds.specs.Fits.{fit};
-ghost use Rattle.label_rules.specs.LabelBy.{label_mark, across, note_marks, note_around, labelled, Marked, wrong_dart};
+ghost use Rattle.label_rules.specs.LabelBy.{label_mark, across, note_marks, note_around, marks_filled, Marked, wrong_dart};
 
 use plan_bounds::Fit;
 use refusal::Refusal;
@@ -75,7 +75,7 @@ fn note_around(table: &mut [u8], rings: &Rings, labels: &[u8], u: usize)
 fn fill(table: &mut [u8], rings: &Rings, labels: &[u8])
     requires fits { fit (plan_of rings.now) ≡ true }
     requires room { 200 * rings.now.n ≤ length table.old }
-    ensures { table.new ≡ labelled rings.now labels.now table.old }
+    ensures { table.new ≡ marks_filled rings.now labels.now table.old }
 {
     for u in 0..rings.n {
         note_around(table, rings, labels, u);

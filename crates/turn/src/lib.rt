@@ -36,13 +36,13 @@ fn turn_at(labels: &mut [u8], i: usize, q: u8)
 
 // The rings of a plan that fits, with a table that finds their entries: by them the label of each dart is found where the model has it.
 #[derive(Clone, Copy)]
-struct Placed<'a> {
+struct FitLocated<'a> {
     located: Located<'a>,
     ghost fits: { fit (plan_of located.rings) ≡ true },
     ghost begins: { located.rings.starts.now ≡ starts_of located.rings.sizes.now },
 }
 
-impl Placed<'_> {
+impl FitLocated<'_> {
     // Where the label of the dart from u to v stands, if there is a dart.
     fn position_of(&self, u: usize, v: usize) -> Option<usize>
         ensures { result ≡ label_position (plan_of self.now.located.rings) u v }
@@ -112,8 +112,8 @@ fn turn_in<const N: usize>(
         rings,
         positions: &positions,
     };
-    let placed = Placed { located };
-    placed.turn_pairs(labels, items, q)
+    let fit_located = FitLocated { located };
+    fit_located.turn_pairs(labels, items, q)
 }
 
 // The same; the table is small for few contexts.

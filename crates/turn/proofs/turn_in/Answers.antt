@@ -23,8 +23,8 @@ invariant_of-located g c =
     let room = c.requires.room in
     record { own = finds-filled _ {k = g.row.N} (sym (count-rows r.starts.now r.sizes.now r.entries.now r.n)) (omega arith) refl c.fill.ensures }
 
-pub invariant_of-placed : goal.invariant_of-placed
-invariant_of-placed g c =
+pub invariant_of-fit_located : goal.invariant_of-fit_located
+invariant_of-fit_located g c =
     let f = c.args.fit.now in
     let e = c.rings-rings.ensures in
     record {

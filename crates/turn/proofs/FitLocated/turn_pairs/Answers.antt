@@ -17,8 +17,8 @@ use mathlib.Core.List.{List, []}
 use Prim.Native.Nat.{◌/◌}
 use lib.ListN.{length, get_or}
 use Rattle.lists.specs.Parts.{pairs}
-use Rattle.turn.proofs.Placed.turn_pairs.Goals as goal
-use Rattle.turn.proofs.Placed.turn_pairs.Goals.{in-Some, in_default}
+use Rattle.turn.proofs.FitLocated.turn_pairs.Goals as goal
+use Rattle.turn.proofs.FitLocated.turn_pairs.Goals.{in-Some, in_default}
 
 pub loop-k-init : goal.loop-k-init
 loop-k-init c = (let l = c.well_formed in omega arith, turns-start)

@@ -2,7 +2,7 @@
 use mathlib.Core.Path.{refl}
 use Rattle.turn.proofs.Turns.{position_found, position_missing}
 use native.Mathlib.Omega.{arith}
-use Rattle.turn.proofs.Placed.position_of.Goals as goal
+use Rattle.turn.proofs.FitLocated.position_of.Goals as goal
 
 pub returns-then-i-size_of : goal.returns-then-i-size_of
 returns-then-i-size_of c =

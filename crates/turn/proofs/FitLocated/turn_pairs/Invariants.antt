@@ -4,7 +4,7 @@ use lib.ListN.{length}
 use Rattle.lists.specs.Parts.{pairs}
 use Rattle.rings.specs.Tables.{plan_of}
 use Rattle.turn.proofs.Turns.{Turns}
-use Rattle.turn.proofs.Placed.turn_pairs.Given as goal
+use Rattle.turn.proofs.FitLocated.turn_pairs.Given as goal
 
 abbrev pub invariant-loop-k : goal.invariant-loop-k
 invariant-loop-k l =
