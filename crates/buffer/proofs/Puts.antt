@@ -23,7 +23,7 @@ sets_out : (d : List ℕ) (i : ℕ) (t : List ℕ) → length d ≤ i → sets d
 sets_out d i [] h = refl
 sets_out d i (a ∷ t) h = ap (λ (l : List ℕ). sets l (suc i) t) (set_out d i a h) ∙ sets_out d (suc i) t (omega arith)
 
--- one text, and another from the place behind what the first has stored
+-- one text, and another from the offset behind what the first has stored
 sets_join : (d : List ℕ) (i : ℕ) (t u : List ℕ) → sets (sets d i t) (i + min (length t) (length d - i)) u ≡ sets d i (t ++ u)
 sets_join d i [] u = let z : i + min 0 (length d - i) ≡ i = omega arith in ap (λ (j : ℕ). sets d j u) z
 sets_join d i (a ∷ t) u = go (ltb i (length d)) refl (sets_join (set d i a) (suc i) t u)
@@ -61,7 +61,7 @@ sets_room d i k t e = go (lt-or-le k (length t)) (sets_join d i (take k t) (drop
         sym (sets_out (sets d i (take k t)) (i + min (length (take k t)) (length d - i)) (drop k t) (omega arith)) ∙ f
     go (inr h) f = ap (sets d i) (take_all k t h)
 
--- a text from a place on, where the place may lie behind the end
+-- a text from an offset on, where the offset may lie behind the end
 sets_copied : (d : List ℕ) (i a k : ℕ) (t : List ℕ) → a ≡ min i (length d) → k ≡ min (length t) (length d - a) → put_mid a (a + k - a) d (take k t) ≡ sets d i t
 sets_copied d i a k t e f =
     let n = length-take k t in
@@ -160,7 +160,7 @@ module _ (b : Buffer) (t : List ℕ) where
   unfolding put
   put-size = length-sets b.out.now b.at t
 
-  -- the place is the text's length
+  -- the offset is the text's length
   pub put_long : b.at ≡ 0 → length t ≤ length b.out.now → (put b t).at ≡ length t
   unfolding put
   put_long z h = omega arith

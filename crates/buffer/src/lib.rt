@@ -1,4 +1,4 @@
-// A lent buffer that is filled from a place on, by the code that writes files and the code that writes texts. What the buffer has no
+// A lent buffer that is filled from an offset on, by the code that writes files and the code that writes texts. What the buffer has no
 // room for is passed over.
 #![tactic(auto)]
 
@@ -19,7 +19,7 @@ fn store_words(to: &mut [u8], numbers: &[u16])
     }
 }
 
-// A lent buffer, and the place behind what is put there.
+// A lent buffer, and the offset behind what is put there.
 #[derive(Drop)]
 pub struct Buffer<'a> {
     pub out: &'a mut [u8],

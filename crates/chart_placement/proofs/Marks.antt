@@ -23,7 +23,7 @@ index_there v (b ∷ l) h = go (eqb v b) refl h (index_there v l)
     go true e h r = sym (eqb-true v b e)
     go false e h r = r (omega arith)
 
--- an entry's index is at most its place
+-- an entry's index is at most its position
 index_most : (l : List ℕ) (i : ℕ) → i < length l → index_of (get_or l i 0) l ≤ i
 index_most [] i h = absurd (omega arith)
 index_most (b ∷ l) zero h = let z : index_of b (b ∷ l) ≡ 0 = rw (eq-eqb b b refl) in omega arith
@@ -33,12 +33,12 @@ index_most (b ∷ l) (suc i) h = go (eqb (get_or l i 0) b) (index_most l i (omeg
     go true r = omega arith
     go false r = omega arith
 
--- the entry of a dart stands at the dart's place or before it
+-- the entry of a dart stands at the dart's position or before it
 pub dart-most : {r : List ℕ} {i v : ℕ} → DartAt r i v → index_of v r ≤ i
 dart-most {r} {i} {v} dart = let h = dart.inside in let m = index_most r i h in let z : index_of v r ≡ index_of (get_or r i 0) r = ap (λ (w : ℕ). index_of w r) dart.entry in omega arith
 
 -- ---- what a mark says
--- there is a place
+-- there is a position
 pub position_some : (marks : List ℕ) (v a : ℕ) {p : ℕ} → Some p ≡ marked_position marks v a → (a < get_or marks v 0) × (p ≡ get_or marks v 0 - 1)
 unfolding marked_position
 position_some marks v a {p} e = go (ltb a (get_or marks v 0)) refl e

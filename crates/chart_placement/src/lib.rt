@@ -115,7 +115,7 @@ fn dart_constraint(upright: bool, label: u8, u: u16, v: u16) -> Constraint
     }
 }
 
-// Where v stands first in the ring that begins at a, if its mark says so: the mark is one more than that place, and at most a where v has not been met in this ring.
+// The position where v stands first in the ring that begins at a, if its mark says so: the mark is one more than that position, and at most a where v has not been met in this ring.
 #[tactic(auto, unfolding(crate::specs::Marking::marked_position))]
 fn marked_position(marks: &[u16; 200], v: usize, a: usize) -> Option<usize>
     requires { v < 200 }

@@ -50,7 +50,7 @@ is_empty_from s at = go (lt-or-le at (length s))
     go (inl h) = rw (lt-leb (length s) at h, drop-cons s at 0 h)
     go (inr h) = rw (le-leb (length s) at h, drop_of_length-le s h)
 
--- what a frame is where a record of this kind is due and its body's size has to fit: the body and the place behind it, or 1 or 2 at its offset
+-- what a frame is where a record of this kind is due and its body's size has to fit: the body and the cursor behind it, or 1 or 2 at its offset
 unfoldable pub framed_of : List ℕ → ℕ → ℕ → (ℕ → Bool) → Option Frame → Outcome Framed
 framed_of file at kind fits (Some f) = require (eqb f.kind kind && fits f.size) 2 at >> accepted (stretch file (at + 4) f.size, cursor file (at + 4 + f.size))
 framed_of file at kind fits None = refused 1 at

@@ -12,11 +12,11 @@ use Rattle.file_framing.specs.declared.Cursor as code
 use Rattle.file_framing.specs.declared.Frame.{Frame}
 use Rattle.file_framing.specs.declared.Walk.{Walk}
 
--- the place at an offset of a file
+-- the cursor at an offset of a file
 abbrev pub cursor : List ℕ → ℕ → Cursor
 cursor file at = record { at = at; rest = drop at file }
 
--- the place where a cursor of the code stands
+-- the cursor of the model where one of the code stands
 abbrev pub here : code.Cursor → Cursor
 here c = cursor c.file.now c.at
 
@@ -27,7 +27,7 @@ frame_at file at =
     let left = length file - at in
     cond (leb 2 left && leb 2 m && leb m (left - 2)) (Some (record { kind = word_of file (at + 2); size = m - 2 })) None
 
--- a record of the kind that is due, by the size of its body, which has to fit: the body and the place behind it, or 2 at its offset
+-- a record of the kind that is due, by the size of its body, which has to fit: the body and the cursor behind it, or 2 at its offset
 abbrev pub record_of : code.Cursor → (ℕ → Bool) → Result ℕ Refusal → Outcome Framed
 record_of c fits r = do
   m ← outcome_of r
@@ -51,7 +51,7 @@ abbrev pub RingBelow : ℕ → Result ℕ Refusal → Type 0
 RingBelow n (Ok z) = z < n
 RingBelow n (Err r) = Unit {0}
 
--- all ring records: the rings, and the place behind them
+-- all ring records: the rings, and the cursor behind them
 abbrev pub walk_of : List ℕ → ℕ → Result Walk Refusal → Outcome (List (List ℕ) × Cursor)
 walk_of file n r = mapped (λ (w : Walk). ((plan_in_file (starts_of w.sizes) w.sizes file n).rings, cursor file w.at)) (outcome_of r)
 

@@ -30,7 +30,7 @@ struct Walk {
     at: usize,
 }
 
-// A place in a file.
+// A file, and an offset in it.
 #[derive(Clone, Copy)]
 struct Cursor<'a> {
     file: &'a [u8],

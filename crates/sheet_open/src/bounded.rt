@@ -21,7 +21,7 @@ pub struct Bounded<'a> {
     pub ghost room: { start_of layout.now.sizes layout.now.n ≤ 1186 },
 }
 
-// Copies the numbers of two bytes that stand in a file from an offset on, one for each place; what lies past the file's end reads as 0.
+// Copies the numbers of two bytes that stand in a file from an offset on, one for each position; what lies past the file's end reads as 0.
 fn copy_words(to: &mut [u16], file: &[u8], from: usize)
     requires { from < 2 ^ 16 }
     ensures { to.new ≡ words_at file.now from (length to.old) }
