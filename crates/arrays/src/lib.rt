@@ -101,7 +101,7 @@ pub fn words<const N: usize>(a: &[u8], from: usize, step: usize, k: usize) -> [u
     numbers
 }
 
-// Puts a number at a place; past the end there is nothing to put.
+// Puts a number at an index; past the end there is nothing to put.
 pub fn put<T: Number>(a: &mut [T], at: usize, x: T)
     ensures { a.new ≡ set a.old at x }
 {

@@ -1,4 +1,4 @@
-// Labels of darts in a flat array: the label at a place, the label due at a context, and four runs, each equal to a definition of the model.
+// Labels of darts in a flat array: the label at a position, the label due at a context, and four runs, each equal to a definition of the model.
 // A label is a number: files and calls bring any byte, and labels are turned by adding quarters.
 #![tactic(auto)]
 

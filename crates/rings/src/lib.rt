@@ -1,4 +1,4 @@
-// Rings in flat arrays: where they begin, their sizes and their neighbours by place, each equal to a definition of the model on the plan that the arrays hold. The cell of a pair in a table of 200 rows of 200 is here too.
+// Rings in flat arrays: where they begin, their sizes and their neighbours by position, each equal to a definition of the model on the plan that the arrays hold. The cell of a pair in a table of 200 rows of 200 is here too.
 #![tactic(auto)]
 
 ghost use Rattle.std.specs.Prelude.{◌≡◌, ◌+◌, ◌-◌, min, ◌<◌, ◌^◌, get_or};
