@@ -1,7 +1,7 @@
 // The successors of a plan's ring entries in one table, so that a face step is one look-up: the table, noted ring by ring.
 #![tactic(auto)]
 
-ghost use Rattle.std.specs.Prelude.{◌≡◌, true, ◌<◌, ◌^◌, get_or, map};
+ghost use Rattle.std.specs.Prelude.{◌≡◌, true, get_or, map};
 ghost use Rattle.model.specs.Plan.{neighbour, ring};
 ghost use Rattle.rings.specs.Tables.{plan_of};
 ghost use Rattle.ring_successors.specs.Successors.{successor_mark, note_at, note_ring, note_rings};

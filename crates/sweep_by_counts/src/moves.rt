@@ -1,5 +1,5 @@
 // A step of the sweep on the arrays of a course, in place.
-ghost use Rattle.std.specs.Prelude.{◌≡◌, ◌≤◌, ◌+◌, ◌-◌, ◌||◌, ℕ, List, Bool, length};
+ghost use Rattle.std.specs.Prelude.{◌≤◌, ◌+◌, ◌-◌, ◌||◌, ℕ, List, Bool, length};
 ghost use Rattle.lists.specs.Tests.{member};
 ghost use Rattle.model.specs.Plan.{ring};
 ghost use Rattle.model.specs.Sweep.{State};

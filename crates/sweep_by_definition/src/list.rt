@@ -1,5 +1,5 @@
 // The list of a pair of positions, and the frontier with that list in place.
-ghost use Rattle.std.specs.Prelude.{◌≡◌, true, List, ℕ, suc, ◌+◌, ◌-◌, ◌<◌, ◌^◌, fold};
+ghost use Rattle.std.specs.Prelude.{◌≡◌, true, List, ℕ, ◌-◌, ◌<◌, fold};
 ghost use Rattle.lists.specs.Spans.{span};
 ghost use Rattle.rings.specs.Tables.{plan_of};
 ghost use Rattle.sweep_frontier.specs.Frontiers.{frontier_of, lent_frontier, pushed};

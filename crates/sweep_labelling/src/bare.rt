@@ -1,5 +1,5 @@
 // The labels before the sweep.
-ghost use Rattle.std.specs.Prelude.{◌≡◌, ℕ, ◌+◌, ◌≤◌, ◌<◌};
+ghost use Rattle.std.specs.Prelude.{◌≡◌, ◌+◌, ◌≤◌};
 ghost use Rattle.lists.specs.Spans.{zero_padded};
 ghost use Rattle.model.specs.Plan.{entry_count};
 ghost use Rattle.model.specs.Sweep.{bare_labels};
