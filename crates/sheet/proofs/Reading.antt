@@ -1,7 +1,6 @@
 -- What a struct reads as, by the number of its stage; and what a call answers and leaves.
 use Prim.Native.Nat.{ℕ, ◌≤◌, ◌<◌, min, max}
 use mathlib.Core.Path.{◌≡◌, refl, sym, ap, ◌∙◌}
-use mathlib.Core.List.{List}
 use mathlib.Core.Bool.{Bool, true, false, cond}
 use native.Mathlib.Omega.{arith}
 use lib.ListN.{length, take, drop, take-append-drop}
@@ -13,11 +12,11 @@ use borrow.Author.Tests.{leb-true, leb-false, lt-leb}
 use Rattle.std.specs.Prelude.{Ok, Err}
 use Rattle.std.specs.Ordering.{partial_lt, ord_max}
 use Rattle.std.proofs.lemmas.Bool.Decides.{nat_tests}
-use Rattle.model.specs.Outcome.{Outcome, accepted, refused, passed, require, rule, taken, ◌>>◌}
+use Rattle.model.specs.Outcome.{Outcome, accepted, refused, passed, require, taken, ◌>>◌}
 use Rattle.std.specs.declared.result.Result.{Result}
 use Rattle.refusal.specs.declared.Refusal.{Refusal}
 use Rattle.refusal.specs.Refusals.{outcome_of}
-use Rattle.model.specs.Plan.{Plan, context_count, entry_count, plan_rules}
+use Rattle.model.specs.Plan.{context_count, entry_count, plan_rules}
 use Rattle.model.specs.Labels.{label_rules}
 use Rattle.model.specs.File as file
 use Rattle.model.specs.Calls.{require_plan, require_labels, require_chart, judge}

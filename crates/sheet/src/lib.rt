@@ -3,7 +3,7 @@
 
 mod making;
 
-ghost use Rattle.std.specs.Prelude.{◌≡◌, ◌≤◌, true, min, max, length, take, leb, IfOk};
+ghost use Rattle.std.specs.Prelude.{◌≡◌, true, min, max, take, leb, IfOk};
 ghost use Rattle.lists.specs.Spans.{stretch};
 ghost use Rattle.model.specs.Outcome.{passed, require};
 ghost use Rattle.model.specs.File.{fresh, labelled, charted};
