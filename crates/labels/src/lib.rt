@@ -15,10 +15,10 @@ pub const UP: u8 = 0;
 pub const RIGHT: u8 = 1;
 
 // The label down.
-pub const DOWN: u8 = 2;
+const DOWN: u8 = 2;
 
 // The label left.
-pub const LEFT: u8 = 3;
+const LEFT: u8 = 3;
 
 // The label between border contexts.
 pub const BORDER: u8 = 4;
