@@ -29,20 +29,20 @@ use Rattle.plan_check.specs.Sound.{unconfirmed, some_unconfirmed, has_unconfirme
 
 -- ---- one dart
 module _ (t : List ℕ) (u w v : ℕ) where
-  pub doubt_self : u ≡ v → true ≡ unconfirmed t u w v
+  pub unconfirmed_self : u ≡ v → true ≡ unconfirmed t u w v
   unfolding unconfirmed
-  doubt_self e = sym (rw (eq-eqb u v e))
+  unconfirmed_self e = sym (rw (eq-eqb u v e))
 
   module _ (other : u ≡ v → ⊥) {x : ℕ} (is : x ≡ get_or t (cell_at v u) 0) where
-    pub doubt_turned : x ≡ w + 1 → false ≡ unconfirmed t u w v
+    pub unconfirmed_turned : x ≡ w + 1 → false ≡ unconfirmed t u w v
     unfolding unconfirmed
-    doubt_turned h = sym (rw (ne_eqb u v other, eq-eqb (get_or t (cell_at v u) 0) (w + 1) (sym is ∙ h)))
+    unconfirmed_turned h = sym (rw (ne_eqb u v other, eq-eqb (get_or t (cell_at v u) 0) (w + 1) (sym is ∙ h)))
 
-    pub doubt_outer : {d : Bool} → (x ≡ w + 1 → ⊥) → d ≡ outer (u, v) → not d ≡ unconfirmed t u w v
+    pub unconfirmed_outer : {d : Bool} → (x ≡ w + 1 → ⊥) → d ≡ outer (u, v) → not d ≡ unconfirmed t u w v
     unfolding unconfirmed
-    doubt_outer f e = ap not e ∙ sym (rw (ne_eqb u v other, ne_eqb (get_or t (cell_at v u) 0) (w + 1) (λ z. f (is ∙ z))))
+    unconfirmed_outer f e = ap not e ∙ sym (rw (ne_eqb u v other, ne_eqb (get_or t (cell_at v u) 0) (w + 1) (λ z. f (is ∙ z))))
 
--- ---- for v in ring { if doubtful(before, v) { return true; } before = v; }
+-- ---- for v in ring { if is_unconfirmed(before, v) { return true; } before = v; }
 pub record Round (t : List ℕ) (u : ℕ) (es : List ℕ) (e : ℕ) (all : Bool) (i before : ℕ) : Type 0 where
   pub near : before < 2 ^ 16
   pub same : all ≡ some_unconfirmed t u before (map neighbour (span es i e))
