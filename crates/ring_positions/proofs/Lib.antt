@@ -1,2 +1,2 @@
 pub mod Notes
-pub mod Look
+pub mod Cells

@@ -1,2 +1,2 @@
-pub mod Looks
+pub mod RingTests
 pub mod Scans

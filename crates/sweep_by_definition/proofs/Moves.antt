@@ -25,8 +25,8 @@ use Rattle.sweep_frontier.proofs.Puts.{below_read}
 use Rattle.sweep_by_definition.specs.Lists.{with_mark, failed, added, below_added, frontier_replaced}
 
 -- a turn of a loop over a range, by what the range says of its next number
-pub goes_next : {A : Type 0} {step : ℕ → A → A} {a e i f d x j : ℕ} {s₀ s s' : A} → FoldsUp step a e s₀ i s → f ≡ e → (d ≡ f) × ((0 < f - i) × (x ≡ i) × (j ≡ i + 1)) → s' ≡ step x s → FoldsUp step a e s₀ j s'
-goes_next {step = step} {a} {e} {s₀ = s₀} {s = s} {s' = s'} inv z (q, (h, p, n)) is = subst (λ (k : ℕ). FoldsUp step a e s₀ k s') (sym n) (folds_up_on inv (omega arith) (is ∙ ap (λ (k : ℕ). step k s) p))
+pub folds_up_next : {A : Type 0} {step : ℕ → A → A} {a e i f d x j : ℕ} {s₀ s s' : A} → FoldsUp step a e s₀ i s → f ≡ e → (d ≡ f) × ((0 < f - i) × (x ≡ i) × (j ≡ i + 1)) → s' ≡ step x s → FoldsUp step a e s₀ j s'
+folds_up_next {step = step} {a} {e} {s₀ = s₀} {s = s} {s' = s'} inv z (q, (h, p, n)) is = subst (λ (k : ℕ). FoldsUp step a e s₀ k s') (sym n) (folds_up_on inv (omega arith) (is ∙ ap (λ (k : ℕ). step k s) p))
 
 -- a list that failed stays as it is where what is below a position would be put at its end
 pub below-off : (p : Plan) (f : List ℕ) (k : ℕ) (v : Frontier) → v.ok ≡ false → below_added p f k v ≡ v

@@ -108,7 +108,8 @@ fn append(
     grown
 }
 
-// Puts the frontier of m contexts, with a list of q in place of positions a to j - 1, in the front of a lent array: how many contexts it has. It fails where the new one has no room for it; the error is how many contexts the frontier has then.
+// Puts the frontier of m contexts, with a list of q in place of positions a to j - 1, in the front of a lent array: how many contexts it has.
+// It fails where the new one has no room for it; the error is how many contexts the frontier has then.
 pub(crate) fn replaced(
     at: &mut [u16],
     f: &[u16],

@@ -29,8 +29,8 @@ module _ (step : ℕ → Frontier → Frontier) (stays : (i : ℕ) (v : Frontier
   down-failed (suc k) v e = down-failed k (step k v) (stays k v e)
 
   -- a loop in which a step fails
-  pub sinks-failed : {n k k' : ℕ} {v w : Frontier} → FoldsDown step n v k w → k ≡ suc k' → (step k' w).ok ≡ false → (each_down step n v).ok ≡ false
-  sinks-failed {n} {k} {k'} {v} {w} inv z f = ap (λ (u : Frontier). u.ok) (folds_down_on inv z refl).same ∙ down-failed k' (step k' w) f
+  pub folds_down-failed : {n k k' : ℕ} {v w : Frontier} → FoldsDown step n v k w → k ≡ suc k' → (step k' w).ok ≡ false → (each_down step n v).ok ≡ false
+  folds_down-failed {n} {k} {k'} {v} {w} inv z f = ap (λ (u : Frontier). u.ok) (folds_down_on inv z refl).same ∙ down-failed k' (step k' w) f
 
 module _ (step : ℕ → Frontier → Frontier) (keeps : (i : ℕ) (v : Frontier) → v.ok ≡ false → step i v ≡ v) where
   -- a frontier that failed is kept where something is done at each of several numbers that leaves it as it is
@@ -40,8 +40,8 @@ module _ (step : ℕ → Frontier → Frontier) (keeps : (i : ℕ) (v : Frontier
   each-kept a (suc k) v e = ap (each step (suc a) k) (keeps a v e) ∙ each-kept (suc a) k v e
 
   -- a loop that stops where a step failed
-  pub goes-kept : {a e i : ℕ} {v w : Frontier} → FoldsUp step a e v i w → w.ok ≡ false → w ≡ through step a e v
-  goes-kept {e = e} {i = i} {w = w} inv f = sym (inv.same ∙ each-kept i (e - i) w f)
+  pub folds_up-kept : {a e i : ℕ} {v w : Frontier} → FoldsUp step a e v i w → w.ok ≡ false → w ≡ through step a e v
+  folds_up-kept {e = e} {i = i} {w = w} inv f = sym (inv.same ∙ each-kept i (e - i) w f)
 
 -- ---- what the code comes to on lent arrays
 module _ {r : Option ℕ} {at marks : List ℕ} {w : Frontier} where

@@ -11,7 +11,7 @@ use Rattle.model.specs.Labels.{put_label}
 use Rattle.model.proofs.Plans.{adjacent-from, adjacent-mem}
 use Rattle.labels.proofs.Darts.{put_label-at-place, put_nowhere}
 use Rattle.ring_positions.specs.Positions.{has_cell, position}
-use Rattle.ring_positions.proofs.Look.{adjacent-cell, index_some}
+use Rattle.ring_positions.proofs.Cells.{adjacent-cell, index_some}
 use Rattle.sweep_labelling.specs.Edges.{Guide}
 
 module _ {p : Plan} {starts : List ℕ} (g : Guide p starts) (u v l : ℕ) (ls : List ℕ) where

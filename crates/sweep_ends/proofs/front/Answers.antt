@@ -10,7 +10,7 @@ use Rattle.rings.specs.declared.Rings.{Rings}
 use Rattle.rings.specs.Tables.{plan_of}
 use Rattle.lists.proofs.Folds.{folds_down_from, folds_down_on, folds_down_end}
 use Rattle.sweep_frontier.specs.Frontiers as run
-use Rattle.sweep_frontier.proofs.Fails.{pushed-off, down-failed, sinks-failed, tried_yes, tried_no, unless_failed_yes, unless_failed_no}
+use Rattle.sweep_frontier.proofs.Fails.{pushed-off, down-failed, folds_down-failed, tried_yes, tried_no, unless_failed_yes, unless_failed_no}
 use Rattle.sweep_ends.specs.Ends.{first_contexts}
 use Rattle.sweep_ends.proofs.Beginning.{north_long}
 use Rattle.sweep_ends.proofs.front.Goals as goal
@@ -49,7 +49,7 @@ returns-in_err-len-2-clause-value c =
     let t = l.t - 1 in
     let y : t + 1 ≡ suc t = omega arith in
     let entry = c.entry_at.ensures ∙ (λ i. get_or (ring (plan_of r) (c.from-north.ensures i)) (y i) 0) in
-    let inner = sinks-failed (step r) (λ i v. pushed-off v _) l.invariant (omega arith) (tried_no l.len (c.push-in-loop-t.ensures (zeros 256) ∙ ap (run.pushed (run.frontier_of true l.len l.at (zeros 256))) entry) c.in_err-len-2.was) in
+    let inner = folds_down-failed (step r) (λ i v. pushed-off v _) l.invariant (omega arith) (tried_no l.len (c.push-in-loop-t.ensures (zeros 256) ∙ ap (run.pushed (run.frontier_of true l.len l.at (zeros 256))) entry) c.in_err-len-2.was) in
     unless_failed_no (first_contexts (plan_of r)) c.from_residual-in_err-len-2.ensures (pushed-off _ 1 inner)
 
 pub returns-in_err-len-3-clause-value : goal.returns-in_err-len-3-clause-value

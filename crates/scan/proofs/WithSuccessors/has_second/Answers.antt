@@ -10,7 +10,7 @@ use Rattle.lists.proofs.Chains.{any_in_range}
 use Rattle.model.specs.Plan.{neighbour}
 use Rattle.rings.specs.Tables.{plan_of}
 use Rattle.scan.specs.Scanned.{has_third, has_second}
-use Rattle.scan.proofs.Looks.{third_near, any_above}
+use Rattle.scan.proofs.RingTests.{third_near, any_above}
 use Rattle.scan.proofs.WithSuccessors.has_second.Goals as goal
 
 pub returns : goal.returns

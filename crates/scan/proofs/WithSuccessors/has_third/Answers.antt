@@ -11,7 +11,7 @@ use Rattle.model.specs.Plan.{neighbour, adjacent}
 use Rattle.model.specs.Scan.{enclosing}
 use Rattle.rings.specs.Tables.{plan_of}
 use Rattle.scan.specs.Scanned.{has_third}
-use Rattle.scan.proofs.Looks.{enclosing_near, any_above}
+use Rattle.scan.proofs.RingTests.{enclosing_near, any_above}
 use Rattle.scan.proofs.WithSuccessors.has_third.Goals as goal
 use Rattle.scan.proofs.WithSuccessors.has_third.Goals.{then-size_of, else-size_of}
 

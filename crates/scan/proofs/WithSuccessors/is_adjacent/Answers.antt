@@ -1,6 +1,6 @@
 -- is_adjacent meets its contract.
 use Rattle.rings.specs.Tables.{plan_of}
-use Rattle.scan.proofs.Looks.{successor_lists}
+use Rattle.scan.proofs.RingTests.{successor_lists}
 use Rattle.scan.proofs.WithSuccessors.is_adjacent.Goals as goal
 
 pub returns : goal.returns

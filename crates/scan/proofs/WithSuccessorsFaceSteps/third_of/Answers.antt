@@ -1,7 +1,7 @@
 -- third_of meets its contract.
 use Rattle.rings.specs.Tables.{plan_of}
 use native.Mathlib.Omega.{arith}
-use Rattle.scan.proofs.Looks.{successor_third}
+use Rattle.scan.proofs.RingTests.{successor_third}
 use Rattle.scan.proofs.WithSuccessorsFaceSteps.third_of.Goals as goal
 
 pub returns-in-Some : goal.returns-in-Some

@@ -1,7 +1,7 @@
 -- is_listed meets its contract.
 use mathlib.Core.Path.{refl, ◌∙◌}
 use Rattle.file_rings.specs.Plans.{plan_of_file}
-use Rattle.ring_positions.proofs.Look.{cell-told, adjacent-cell}
+use Rattle.ring_positions.proofs.Cells.{cell-position, adjacent-cell}
 use Rattle.file_ring_rules.proofs.Whole.{whole_adjacent}
 use Rattle.file_ring_rules.proofs.located.Located.is_listed.Goals as goal
 
@@ -9,7 +9,7 @@ pub returns-in-Some : goal.returns-in-Some
 returns-in-Some c =
     let a = c.args in
     let s = a.self.now in
-    adjacent-cell (plan_of_file s.rings) a.u a.v (cell-told _ _ s.own a.u a.v c.cell.ensures c.in-Some.is c.number_at.ensures.value)
+    adjacent-cell (plan_of_file s.rings) a.u a.v (cell-position _ _ s.own a.u a.v c.cell.ensures c.in-Some.is c.number_at.ensures.value)
 
 pub returns-in-None : goal.returns-in-None
 returns-in-None c =

@@ -18,8 +18,8 @@ use Rattle.ring_positions.specs.Positions.{position, Finds}
 use Rattle.ring_positions.proofs.Notes.{position_absent, position-present}
 
 -- the cell of a pair, where it has one, holds the position
-pub cell-told : (p : Plan) (t : List ℕ) → Finds t p → (u v : ℕ) {o : Option ℕ} {at x : ℕ} → o ≡ cell u v → o ≡ Some at → x ≡ get_or t at 0 → x ≡ position v (ring p u)
-cell-told p t finds u v is some read = let (h, k, e) = cell_some u v is some in read ∙ ap (λ (at : ℕ). get_or t at 0) e ∙ finds u v h k
+pub cell-position : (p : Plan) (t : List ℕ) → Finds t p → (u v : ℕ) {o : Option ℕ} {at x : ℕ} → o ≡ cell u v → o ≡ Some at → x ≡ get_or t at 0 → x ≡ position v (ring p u)
+cell-position p t finds u v is some read = let (h, k, e) = cell_some u v is some in read ∙ ap (λ (at : ℕ). get_or t at 0) e ∙ finds u v h k
 
 -- the position of an entry by whether it is there; one that is not has the length for its index
 position-cases : (v : ℕ) (l : List ℕ) → (member v l ≡ true) × (position v l ≡ suc (index_of v l)) ⊎ (member v l ≡ false) × (position v l ≡ 0) × (index_of v l ≡ length l)
