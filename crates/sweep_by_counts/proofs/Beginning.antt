@@ -19,7 +19,7 @@ use Rattle.sweep_labelling.specs.Labelling.{Labelled, first_labels, swept}
 use Rattle.sweep_labelling.proofs.Frontiers.{first_labelled}
 use Rattle.sweep_theory.specs.Counter.{counted}
 use Rattle.sweep_theory.specs.Ready.{Ready}
-use Rattle.sweep_theory.proofs.FirstLine.{once_first}
+use Rattle.sweep_theory.proofs.FirstTrail.{once_first}
 use Rattle.sweep_theory.proofs.Tells.{counted_size}
 use Rattle.sweep_theory.proofs.CountSweep.{ready_first}
 use Rattle.sweep_by_counts.specs.declared.course.Course.{Course}

@@ -22,9 +22,9 @@ use Rattle.sweep_theory.specs.Quick.{single, candidate, open_at, landing, reach,
 use Rattle.sweep_theory.specs.Counter.{counted, local_by, pick_by}
 use Rattle.sweep_theory.specs.Cost.{test_count_below, after_pair, test_count_from, test_count}
 use Rattle.sweep_theory.specs.Ready.{Ready}
-use Rattle.sweep_theory.proofs.Lines.{at}
+use Rattle.sweep_theory.proofs.Trails.{at}
 use Rattle.sweep_theory.proofs.CountSweep.{ready_first, picked_chosen, ready_on}
-use Rattle.sweep_theory.proofs.FirstLine.{first-frontier}
+use Rattle.sweep_theory.proofs.FirstTrail.{first-frontier}
 use Rattle.sweep_theory.proofs.Eligibility.{listed_some}
 
 -- ---- open positions
@@ -52,20 +52,20 @@ module _ (p : Plan) (f : List ℕ) where
   opens_rise a zero = let e : a ≡ a + 0 = omega arith in subst (λ (k : ℕ). opens p f a ≤ opens p f k) e (omega arith)
   opens_rise a (suc b) = let e : suc (a + b) ≡ a + suc b = omega arith in let x = opens_rise a b in subst (λ (k : ℕ). opens p f a ≤ opens p f k) e (omega arith)
 
-  -- between positions that are shut there is none
-  opens_shut : (a b : ℕ) → ((t : ℕ) → a ≤ t → t < a + b → open_at p f t ≡ false) → opens p f (a + b) ≡ opens p f a
+  -- between positions that are not open there is none
+  opens_closed : (a b : ℕ) → ((t : ℕ) → a ≤ t → t < a + b → open_at p f t ≡ false) → opens p f (a + b) ≡ opens p f a
   unfolding opens
-  opens_shut a zero h = let e : a + 0 ≡ a = omega arith in ap (opens p f) e
-  opens_shut a (suc b) h =
+  opens_closed a zero h = let e : a + 0 ≡ a = omega arith in ap (opens p f) e
+  opens_closed a (suc b) h =
       let e : a + suc b ≡ suc (a + b) = omega arith in
       let x : ◌≡◌ {A = ℕ} (cond (open_at p f (a + b)) 1 0) 0 = ap (λ (t : Bool). cond {A = ℕ} t 1 0) (h (a + b) (omega arith) (omega arith)) in
-      let y = opens_shut a b (λ t c d. h t c (omega arith)) in
+      let y = opens_closed a b (λ t c d. h t c (omega arith)) in
       ap (opens p f) e ∙ omega arith
 
-  -- a single one that is not the last is shut
-  single_shut : (t : ℕ) → suc t < length f → single p f t ≡ true → open_at p f t ≡ false
+  -- a single one that is not the last is not open
+  single_closed : (t : ℕ) → suc t < length f → single p f t ≡ true → open_at p f t ≡ false
   unfolding open_at
-  single_shut t h e = let x : ltb (suc t) (length f) ≡ true = lt-ltb (suc t) (length f) h in rw (x, e) (off (leb 2 t))
+  single_closed t h e = let x : ltb (suc t) (length f) ≡ true = lt-ltb (suc t) (length f) h in rw (x, e) (off (leb 2 t))
     where
       off : (v : Bool) → (v && false) ≡ false
       off true = refl
@@ -184,7 +184,7 @@ module _ (p : Plan) (s : State) (i j : ℕ) (c : Chosen p s i j) where
       go : (R < length g) ⊎ (length g ≤ R) → opens p g (min (suc (suc R)) (length g)) ≤ opens p g J + 2
       go (inl b) =
           let (low, high, one) = reached in
-          let none = opens_shut p g J (R - J) (λ t v w. single_shut p g t (omega arith) (one t v (omega arith))) in
+          let none = opens_closed p g J (R - J) (λ t v w. single_closed p g t (omega arith) (one t v (omega arith))) in
           let x : J + (R - J) ≡ R = omega arith in
           let none' : opens p g R ≡ opens p g J = ap (opens p g) (sym x) ∙ none in
           let m : ℕ = min (suc (suc R)) (length g) in
@@ -197,7 +197,7 @@ module _ (p : Plan) (s : State) (i j : ℕ) (c : Chosen p s i j) where
           let sz = size in
           let w = inside in
           let la = landing_is in
-          let none = opens_shut p g J (n - J) (λ t v w. single_shut p g t (omega arith) (one t v (omega arith))) in
+          let none = opens_closed p g J (n - J) (λ t v w. single_closed p g t (omega arith) (one t v (omega arith))) in
           let x : J + (n - J) ≡ n = omega arith in
           let none' : opens p g n ≡ opens p g J = ap (opens p g) (sym x) ∙ none in
           let y : n + 1 ≡ min (suc (suc R)) (length g) = omega arith in

@@ -17,7 +17,7 @@ use Rattle.model.specs.Sweep.{State, listed, replaced, eligible, advance}
 use Rattle.model.specs.SweepStates.{Positions}
 use Rattle.model.proofs.Eligible.{mem-get_or, below-listed}
 use Rattle.sweep_theory.specs.Local.{touching}
-use Rattle.sweep_theory.proofs.Lines.{at}
+use Rattle.sweep_theory.proofs.Trails.{at}
 use Rattle.sweep_theory.proofs.Touches.{tally-append}
 use Rattle.sweep_theory.proofs.Frontiers.{Flat, new_below}
 

@@ -25,7 +25,7 @@ use Rattle.model.specs.Sweep.{State, below, listed, chordless, eligible}
 use Rattle.model.specs.SweepStates.{Positions}
 use Rattle.model.proofs.Eligible.{get_or-mem, below-listed}
 use Rattle.sweep_theory.proofs.Faces.{Fan}
-use Rattle.sweep_theory.proofs.Lines.{at, fan_at, once-below}
+use Rattle.sweep_theory.proofs.Trails.{at, fan_at, once-below}
 use Rattle.sweep_theory.proofs.Strips.{raw, Listed, strip_of}
 use Rattle.sweep_theory.proofs.Eligibility.{some_in, Fits, fits, fits_eligible}
 use Rattle.sweep_theory.proofs.Squeezes.{raw_split, apart, chordless_end, last_end}
@@ -68,8 +68,8 @@ module _ (p : Plan) (sound : Sound p) (s : State) (h : Flat p s) (i j : ℕ) (o 
       go (suc k) q (c ∷ []) r =
           let a = o.apart in
           let b = o.inside in
-          let under = subst (λ (w : List ℕ). Fan p (at f (suc k)) (at f k ∷ w ++ (at f (suc (suc k)) ∷ []))) (sym (ap (below p f) q) ∙ r) (fan_at p sound (Above s) f h.line k (omega arith)) in
-          let g = strip_of p sound (Above s) f h.line own i j a b t.full in
+          let under = subst (λ (w : List ℕ). Fan p (at f (suc k)) (at f k ∷ w ++ (at f (suc (suc k)) ∷ []))) (sym (ap (below p f) q) ∙ r) (fan_at p sound (Above s) f h.trail k (omega arith)) in
+          let g = strip_of p sound (Above s) f h.trail own i j a b t.full in
           let same : g.first ≡ c = sym g.turn ∙ ap (λ (x : ℕ). next (at f (suc x)) (ring p (at f x))) q ∙ under.1.0.at_u in
           let on : Memᴰ c l = subst (Memᴰ c) (sym g.is) (Memᴰ.head (sym same)) in
           both (adjacent p (at f k) c) under.0.near (t.left k c (omega arith) on)
@@ -80,14 +80,14 @@ module _ (p : Plan) (sound : Sound p) (s : State) (h : Flat p s) (i j : ℕ) (o 
     where
       last_below : (k : ℕ) → j ≡ suc k → 0 < length (below p f k) → Ended p (at f k) (below p f k) (at f (suc k))
       last_below zero q b = let a = o.apart in absurd (omega arith)
-      last_below (suc k) q b = let c = o.inside in fan_end p (at f (suc k)) (at f k) (below p f (suc k)) (at f (suc (suc k))) (fan_at p sound (Above s) f h.line k (omega arith)) b
+      last_below (suc k) q b = let c = o.inside in fan_end p (at f (suc k)) (at f k) (below p f (suc k)) (at f (suc (suc k))) (fan_at p sound (Above s) f h.trail k (omega arith)) b
 
       go : (k : ℕ) → j ≡ suc k → (v : List ℕ) → below p f j ≡ v → ⊥
       go k q [] r = let x = ap length r in absurd (omega arith)
       go k q (c ∷ d ∷ v) r = let x = ap length r in absurd (omega arith)
       go k q (c ∷ []) r =
           let a = o.apart in
-          let under = subst (λ (w : List ℕ). Fan p (at f (suc k)) (at f k ∷ w ++ (at f (suc (suc k)) ∷ []))) (sym (ap (below p f) q) ∙ r) (fan_at p sound (Above s) f h.line k (omega arith)) in
+          let under = subst (λ (w : List ℕ). Fan p (at f (suc k)) (at f k ∷ w ++ (at f (suc (suc k)) ∷ []))) (sym (ap (below p f) q) ∙ r) (fan_at p sound (Above s) f h.trail k (omega arith)) in
           let x = last_below k q (some_in (below p f k) (t.full k (omega arith) (omega arith))) in
           let same : c ≡ x.end = sym under.0.at_x ∙ x.turn in
           let here : Memᴰ c (below p f k) = subst (Memᴰ c) (sym x.is) (Memᴰ.append_right x.most (Memᴰ.head same)) in
@@ -134,8 +134,8 @@ module _ (p : Plan) (sound : Sound p) (s : State) (h : Flat p s) (i j : ℕ) (o 
     full v a b = t.full v (omega arith) b
 
     -- the strip from k on
-    it : Listed p sound (Above s) f h.line own k j
-    it = strip_of p sound (Above s) f h.line own k j high inside full
+    it : Listed p sound (Above s) f h.trail own k j
+    it = strip_of p sound (Above s) f h.trail own k j high inside full
 
     some : 0 < length m
     some = let z = ap length it.is in omega arith
@@ -157,7 +157,7 @@ module _ (p : Plan) (sound : Sound p) (s : State) (h : Flat p s) (i j : ℕ) (o 
         go (suc x) q =
             let w = two in
             let under : Fan p (at f k) (at f x ∷ below p f k ++ (at f (suc k) ∷ [])) =
-            subst (λ (y : ℕ). Fan p (at f y) (at f x ∷ below p f y ++ (at f (suc y) ∷ []))) (sym q) (fan_at p sound (Above s) f h.line x (let z = inside in omega arith)) in
+            subst (λ (y : ℕ). Fan p (at f y) (at f x ∷ below p f y ++ (at f (suc y) ∷ []))) (sym q) (fan_at p sound (Above s) f h.trail x (let z = inside in omega arith)) in
             fan_end p (at f k) (at f x) (below p f k) (at f (suc k)) under (omega arith)
 
     once_k : Once (below p f k)
@@ -165,7 +165,7 @@ module _ (p : Plan) (sound : Sound p) (s : State) (h : Flat p s) (i j : ℕ) (o 
       where
         go : (x : ℕ) → k ≡ x → Once (below p f k)
         go zero q = absurd (omega arith)
-        go (suc x) q = subst (λ (y : ℕ). Once (below p f y)) (sym q) (once-below p sound (Above s) f h.line x (let z = inside in omega arith))
+        go (suc x) q = subst (λ (y : ℕ). Once (below p f y)) (sym q) (once-below p sound (Above s) f h.trail x (let z = inside in omega arith))
 
     abbrev most : List ℕ
     most = end.most

@@ -20,7 +20,7 @@ use Rattle.model.specs.Plan.{Plan, adjacent, border}
 use Rattle.model.specs.Sweep.{State, below, listed, replaced, chordless, eligible}
 use Rattle.model.specs.SweepStates.{Positions}
 use Rattle.model.proofs.Eligible.{get_or-mem, mem-get_or, chordless-apart, replaced-left, replaced-list, replaced-right, replaced-length, below-listed}
-use Rattle.sweep_theory.proofs.Lines.{at}
+use Rattle.sweep_theory.proofs.Trails.{at}
 
 -- ---- lists that are not empty
 pub some_in : (v : List ℕ) → is_empty v ≡ false → 0 < length v

@@ -1,4 +1,4 @@
--- The frontier of every state that the sweep reaches is a line: above it are North and what was on the frontier, and every neighbour that never was on it lies below.
+-- The frontier of every state that the sweep reaches is a trail: above it are North and what was on the frontier, and every neighbour that never was on it lies below.
 -- A first frontier with a chord has no eligible pair; later frontiers have no chord.
 use Prim.Native.Nat.{ℕ, zero, suc, ◌+◌, ◌-◌, ◌≤◌, ◌<◌}
 use mathlib.Core.Path.{◌≡◌, refl, sym, ap, ◌∙◌, subst}
@@ -19,28 +19,28 @@ use Rattle.model.specs.Sweep.{State, first_state, below, listed, replaced, chord
 use Rattle.model.specs.SweepStates.{Positions, NoneEligible, Reached, first, further}
 use Rattle.model.proofs.Eligible.{get_or-mem, chordless-apart, replaced-left, replaced-right, replaced-length, below-listed}
 use Rattle.sweep_theory.proofs.Around.{over_wide}
-use Rattle.sweep_theory.proofs.Lines.{Line, at, other_below}
-use Rattle.sweep_theory.proofs.Steps.{line_on}
-use Rattle.sweep_theory.proofs.FirstLine.{first-frontier, once_first, first_near, first-line}
+use Rattle.sweep_theory.proofs.Trails.{Trail, at, other_below}
+use Rattle.sweep_theory.proofs.Steps.{trail_on}
+use Rattle.sweep_theory.proofs.FirstTrail.{first-frontier, once_first, first_near, first-trail}
 use Rattle.sweep_theory.proofs.Eligibility.{Chord, chord_found, same_position, fits, listed_some, no_chord}
 
 -- what may be above the frontier: North, and what is or was on it
 abbrev pub Above : State → ℕ → Type 0
 Above s c = (c ≡ north) ⊎ Memᴰ c s.seen
 
--- The frontier of a state is a line, and all of it is seen
+-- The frontier of a state is a trail, and all of it is seen
 pub record Flat (p : Plan) (s : State) : Type 0 where
-  pub line : Line p (Above s) s.frontier
+  pub trail : Trail p (Above s) s.frontier
   pub seen : (c : ℕ) → Memᴰ c s.frontier → Memᴰ c s.seen
 
--- the same line, with a wider kind above
-line_wide : {p : Plan} {S T : ℕ → Type 0} {f : List ℕ} → ((c : ℕ) → S c → T c) → Line p S f → Line p T f
-line_wide h w = record { link = w.link; over = λ k b. over_wide h (w.over k b); inner = w.inner }
+-- the same trail, with a wider kind above
+trail_wide : {p : Plan} {S T : ℕ → Type 0} {f : List ℕ} → ((c : ℕ) → S c → T c) → Trail p S f → Trail p T f
+trail_wide h w = record { link = w.link; over = λ k b. over_wide h (w.over k b); inner = w.inner }
 
 module _ (p : Plan) (sound : Sound p) where
-  -- ---- every frontier is a line
+  -- ---- every frontier is a trail
   flat_first : Flat p (first_state p)
-  flat_first = record { line = line_wide (λ c e. inl e) (first-line p sound); seen = λ c m. subst (Memᴰ c) (first-frontier p) m }
+  flat_first = record { trail = trail_wide (λ c e. inl e) (first-trail p sound); seen = λ c m. subst (Memᴰ c) (first-frontier p) m }
 
   flat_further : (s : State) (i j : ℕ) → Flat p s → Positions s i j → eligible p s i j ≡ true → Flat p (advance p s i j)
   unfolding advance replaced
@@ -48,7 +48,7 @@ module _ (p : Plan) (sound : Sound p) where
       let t = fits p s i j o e in
       let f = s.frontier in
       record {
-        line = line_wide wider (line_on p sound (Above s) f h.line (λ k b. inr (h.seen (at f k) (get_or-mem f k b))) i j o.apart o.inside t.full t.inner);
+        trail = trail_wide wider (trail_on p sound (Above s) f h.trail (λ k b. inr (h.seen (at f k) (get_or-mem f k b))) i j o.apart o.inside t.full t.inner);
         seen = λ c m. go c (Memᴰ.append_cases (take (suc i) f ++ listed p f i j) m);
       }
     where
@@ -75,7 +75,7 @@ module _ (p : Plan) (sound : Sound p) where
       let f = s.frontier in
       let unseen : Memᴰ c s.seen → ⊥ = λ m. both (member c s.seen) (mem-member c s.seen m) new in
       let off : (t : ℕ) → t < length f → c ≢ at f t = λ t q e. unseen (subst (λ (x : ℕ). Memᴰ x s.seen) (sym e) (h.seen (at f t) (get_or-mem f t q))) in
-      other_below p sound (Above s) f h.line k b c near (off k (omega arith)) (off (suc (suc k)) b) (kind unseen)
+      other_below p sound (Above s) f h.trail k b c near (off k (omega arith)) (off (suc (suc k)) b) (kind unseen)
     where
       kind : (Memᴰ c s.seen → ⊥) → Above s c → ⊥
       kind u (inl e) = both (border c) (ap border e) inner
@@ -97,7 +97,7 @@ module _ (p : Plan) (sound : Sound p) where
         let w = o.apart in
         let on = once_first p sound in
         let m : Memᴰ (at f b) f = get_or-mem f b inside in
-        let under = other_below p sound (λ c. c ≡ north) f (first-line p sound) a (omega arith) (at f b) near
+        let under = other_below p sound (λ c. c ≡ north) f (first-trail p sound) a (omega arith) (at f b) near
         (λ x. na (let y = same_position f on b a inside (omega arith) x in omega arith)) (λ x. nb (let y = same_position f on b (suc (suc a)) inside (omega arith) x in omega arith))
         (λ x. sound.other north (at f b) (first_near p sound (at f b) m) (sym x)) in
         both (member (at f b) s₀.seen) (mem-member (at f b) s₀.seen (subst (Memᴰ (at f b)) (first-frontier p) m)) ((fits p s₀ i j o e).new (at f b) (below-listed p s₀ i j o e (suc a) (at f b) h k under))

@@ -1,10 +1,10 @@
 pub mod Turns
 pub mod Faces
 pub mod Around
-pub mod Lines
+pub mod Trails
 pub mod Strips
 pub mod Steps
-pub mod FirstLine
+pub mod FirstTrail
 pub mod Eligibility
 pub mod Frontiers
 pub mod Squeezes

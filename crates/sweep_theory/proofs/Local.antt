@@ -23,7 +23,7 @@ use Rattle.model.proofs.Eligible.{get_or-mem}
 use Rattle.sweep_theory.specs.Quick.{candidate}
 use Rattle.sweep_theory.specs.Local.{touching, low_due, high_due, positions_due, fair, good, local}
 use Rattle.sweep_theory.proofs.Faces.{Fan}
-use Rattle.sweep_theory.proofs.Lines.{at, below_near, fan_at, once-below}
+use Rattle.sweep_theory.proofs.Trails.{at, below_near, fan_at, once-below}
 use Rattle.sweep_theory.proofs.Eligibility.{some_in, not_empty, Fits, fits, fits_eligible}
 use Rattle.sweep_theory.proofs.Frontiers.{Above, Flat, new_below}
 use Rattle.sweep_theory.proofs.Cuts.{Ended, fan_end}
@@ -72,14 +72,14 @@ module _ (p : Plan) (sound : Sound p) (s : State) (h : Flat p s) (clean : chordl
   module _ (some : 0 < length l) where
     -- the list is what is below the position before j
     list_is : listed p f i j ≡ l
-    list_is = run_listed p sound (Above s) f h.line i j low inside one some
+    list_is = run_listed p sound (Above s) f h.trail i j low inside one some
 
     once_l : Once l
     once_l = go (j - 1) refl
       where
         go : (k : ℕ) → j - 1 ≡ k → Once l
         go zero q = let x = low in absurd (omega arith)
-        go (suc k) q = subst (λ (t : ℕ). Once (below p f t)) (sym q) (once-below p sound (Above s) f h.line k (omega arith))
+        go (suc k) q = subst (λ (t : ℕ). Once (below p f t)) (sym q) (once-below p sound (Above s) f h.trail k (omega arith))
 
     -- its last context touches j
     end : Ended p (at f (j - 1)) l (at f j)
@@ -90,7 +90,7 @@ module _ (p : Plan) (sound : Sound p) (s : State) (h : Flat p s) (clean : chordl
         go (suc k) q =
             let x : j ≡ suc (suc k) = omega arith in
             subst (λ (t : ℕ). Ended p (at f (j - 1)) l (at f t)) (sym x) (subst (λ (t : ℕ). Ended p (at f t) (below p f t) (at f (suc (suc k)))) (sym q)
-            (fan_end p (at f (suc k)) (at f k) (below p f (suc k)) (at f (suc (suc k))) (fan_at p sound (Above s) f h.line k (omega arith)) (subst (λ (t : ℕ). 0 < length (below p f t)) q some)))
+            (fan_end p (at f (suc k)) (at f k) (below p f (suc k)) (at f (suc (suc k))) (fan_at p sound (Above s) f h.trail k (omega arith)) (subst (λ (t : ℕ). 0 < length (below p f t)) q some)))
 
     last_is : at l (length l - 1) ≡ end.end
     last_is = ap (λ (v : List ℕ). at v (length v - 1)) end.is ∙ last_at end.most end.end
@@ -113,7 +113,7 @@ module _ (p : Plan) (sound : Sound p) (s : State) (h : Flat p s) (clean : chordl
         go [] q v r = let x = one (suc k) a (omega arith) in let y = ap length q in absurd (omega arith)
         go (c ∷ b ∷ u) q v r = let x = one (suc k) a (omega arith) in let y = ap length q in absurd (omega arith)
         go (c ∷ []) q [] r = let x = something (suc (suc k)) (omega arith) (omega arith) in let y = ap length r in absurd (omega arith)
-        go (c ∷ []) q (b ∷ v) r = ap (λ (w : List ℕ). at w 0) q ∙ same_run p sound (Above s) f h.line k c b v (omega arith) q r ∙ ap (λ (w : List ℕ). at w 0) (sym r)
+        go (c ∷ []) q (b ∷ v) r = ap (λ (w : List ℕ). at w 0) q ∙ same_run p sound (Above s) f h.trail k c b v (omega arith) q r ∙ ap (λ (w : List ℕ). at w 0) (sym r)
 
     first_of : (t : ℕ) → i < t → t < j → at (below p f t) 0 ≡ at l 0
     first_of t a b = first_same (j - 1 - t) t (omega arith) a
@@ -133,7 +133,7 @@ module _ (p : Plan) (sound : Sound p) (s : State) (h : Flat p s) (clean : chordl
             under [] q = let y = low in let x = something (suc i) (omega arith) (omega arith) in let w = ap length q in absurd (omega arith)
             under (c ∷ v) q =
                 let y = low in
-                let fans = subst (λ (w : List ℕ). Fan p (at f (suc i)) (at f i ∷ w ++ (at f (suc (suc i)) ∷ []))) q (fan_at p sound (Above s) f h.line i (omega arith)) in
+                let fans = subst (λ (w : List ℕ). Fan p (at f (suc i)) (at f i ∷ w ++ (at f (suc (suc i)) ∷ []))) q (fan_at p sound (Above s) f h.trail i (omega arith)) in
                 ap (λ (w : List ℕ). adjacent p (at f i) (at w 0)) q ∙ fans.0.near
 
     module _ (c : ℕ) (on : Memᴰ c l) where

@@ -20,7 +20,7 @@ use Rattle.model.specs.Sweep.{State, finished, below, listed, replaced, eligible
 use Rattle.model.specs.SweepStates.{Positions, Chosen, Reached, further}
 use Rattle.model.proofs.Eligible.{replaced-left, replaced-right, replaced-length, below-listed}
 use Rattle.sweep_theory.specs.Quick.{landing}
-use Rattle.sweep_theory.proofs.Lines.{at}
+use Rattle.sweep_theory.proofs.Trails.{at}
 use Rattle.sweep_theory.proofs.Strips.{raw}
 use Rattle.sweep_theory.proofs.Eligibility.{Fits, fits, fits_eligible}
 use Rattle.sweep_theory.proofs.Frontiers.{flat, new_below, clean}

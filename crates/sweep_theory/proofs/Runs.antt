@@ -13,7 +13,7 @@ use Rattle.model.specs.Plan.{Plan}
 use Rattle.model.specs.Sound.{Sound}
 use Rattle.model.specs.Sweep.{below, listed}
 use Rattle.sweep_theory.proofs.Faces.{Fan}
-use Rattle.sweep_theory.proofs.Lines.{Line, at, fan_at, once-below}
+use Rattle.sweep_theory.proofs.Trails.{Trail, at, fan_at, once-below}
 use Rattle.sweep_theory.proofs.Strips.{raw}
 
 -- a list without repeats is not squeezed
@@ -25,7 +25,7 @@ squeeze-once : (l : List ℕ) → Once l → squeeze l ≡ l
 squeeze-once [] o = refl
 squeeze-once (a ∷ l) o = ap {B = List ℕ} (λ k. a ∷ k) (squeeze-after-once a l o)
 
-module _ (p : Plan) (s : Sound p) (S : ℕ → Type 0) (f : List ℕ) (w : Line p S f) where
+module _ (p : Plan) (s : Sound p) (S : ℕ → Type 0) (f : List ℕ) (w : Trail p S f) where
   -- the single context below a position is the first below the next
   pub same_run : (k c d : ℕ) (l : List ℕ) → suc (suc (suc k)) < length f → below p f (suc k) ≡ c ∷ [] → below p f (suc (suc k)) ≡ d ∷ l → c ≡ d
   same_run k c d l h q r =

@@ -19,7 +19,7 @@ use Rattle.model.specs.Plan.{Plan, adjacent}
 use Rattle.model.specs.Sweep.{below, chordless}
 use Rattle.model.proofs.Eligible.{squeeze-mem}
 use Rattle.sweep_theory.proofs.Turns.{cut}
-use Rattle.sweep_theory.proofs.Lines.{at}
+use Rattle.sweep_theory.proofs.Trails.{at}
 use Rattle.sweep_theory.proofs.Strips.{raw}
 
 -- the positions from a on, cut after x of them

@@ -1,4 +1,4 @@
--- A line with the list of a pair put in place of the positions between is a line again.
+-- A trail with the list of a pair put in place of the positions between is a trail again.
 use Prim.Native.Nat.{ℕ, zero, suc, ◌+◌, ◌-◌, ◌≤◌, ◌<◌}
 use mathlib.Core.Path.{◌≡◌, refl, sym, ap, ◌∙◌, subst}
 use mathlib.Core.List.{List, [], ◌∷◌, ◌++◌, Memᴰ}
@@ -14,7 +14,7 @@ use Rattle.model.specs.Sound.{Sound}
 use Rattle.model.specs.Sweep.{below, listed, replaced}
 use Rattle.model.proofs.Eligible.{get_or-mem, replaced-left, replaced-list, replaced-right, replaced-length}
 use Rattle.sweep_theory.proofs.Around.{Over, one, more, over_join}
-use Rattle.sweep_theory.proofs.Lines.{Line, at}
+use Rattle.sweep_theory.proofs.Trails.{Trail, at}
 use Rattle.sweep_theory.proofs.Strips.{Laid, Listed, strip_of}
 
 -- ---- a laid list, position by position
@@ -38,10 +38,10 @@ module _ (p : Plan) (S : ℕ → Type 0) where
   over_same : {a a' u u' b b' : ℕ} → a' ≡ a → u' ≡ u → b' ≡ b → Over S (ring p u) a b → Over S (ring p u') a' b'
   over_same {a} {a'} {u} {u'} {b} {b'} e g h o = subst (λ (z : ℕ). Over S (ring p u') a' z) (sym h) (subst (λ (z : ℕ). Over S (ring p u') z b) (sym e) (subst (λ (z : ℕ). Over S (ring p z) a b) (sym g) o))
 
-module _ (p : Plan) (s : Sound p) (S : ℕ → Type 0) (f : List ℕ) (w : Line p S f) (own : (k : ℕ) → k < length f → S (at f k))
+module _ (p : Plan) (s : Sound p) (S : ℕ → Type 0) (f : List ℕ) (w : Trail p S f) (own : (k : ℕ) → k < length f → S (at f k))
     (i j : ℕ) (two : i + 2 ≤ j) (inside : j < length f) (full : (t : ℕ) → i < t → t < j → is_empty (below p f t) ≡ false)
     (inner : (c : ℕ) → Memᴰ c (listed p f i j) → border c ≡ false) where
-  -- the list, and the new line
+  -- the list, and the new trail
   abbrev l : List ℕ
   l = listed p f i j
 
@@ -69,7 +69,7 @@ module _ (p : Plan) (s : Sound p) (S : ℕ → Type 0) (f : List ℕ) (w : Line 
   some : 0 < length l
   some = let e = ap length it.is in omega arith
 
-  -- where things stand on the new line
+  -- where things stand on the new trail
   new_left : (t : ℕ) → t ≤ i → at g t ≡ at f t
   new_left t h = replaced-left f l i j two inside t h
 
@@ -152,6 +152,6 @@ module _ (p : Plan) (s : Sound p) (S : ℕ → Type 0) (f : List ℕ) (w : Line 
           over_same p S (new_list k (length l - 1) (omega arith) (omega arith)) (new_right (suc k) j (omega arith) (omega arith)) (new_right (suc (suc k)) (suc j) (omega arith) (omega arith))
           (more (at f v) last_turn (own v (omega arith)) (over_same p S {a = at f v} refl (ap (at f) (sym x)) (ap (λ (y : ℕ). at f (suc y)) (sym x)) (w.over v (omega arith))))
 
-  -- THE NEW LINE
-  pub line_on : Line p S g
-  line_on = record { link = link; over = over; inner = inner_new }
+  -- THE NEW TRAIL
+  pub trail_on : Trail p S g
+  trail_on = record { link = link; over = over; inner = inner_new }

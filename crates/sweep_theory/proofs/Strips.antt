@@ -1,4 +1,4 @@
--- The strip between a line and the list of a pair of its positions: seen from each context of the list, the contexts of the line above it follow each other from its left neighbour on the list to its right one.
+-- The strip between a trail and the list of a pair of its positions: seen from each context of the list, the contexts of the trail above it follow each other from its left neighbour on the list to its right one.
 use Prim.Native.Nat.{ℕ, zero, suc, ◌+◌, ◌-◌, ◌≤◌, ◌<◌}
 use mathlib.Core.Path.{◌≡◌, refl, sym, ap, ◌∙◌, subst}
 use mathlib.Core.List.{List, [], ◌∷◌, ◌++◌, map}
@@ -16,7 +16,7 @@ use Rattle.model.specs.Sound.{Sound}
 use Rattle.model.specs.Sweep.{below, listed}
 use Rattle.sweep_theory.proofs.Faces.{Face, Fan}
 use Rattle.sweep_theory.proofs.Around.{Over, one, over_join}
-use Rattle.sweep_theory.proofs.Lines.{Line, at, fan_at}
+use Rattle.sweep_theory.proofs.Trails.{Trail, at, fan_at}
 
 -- a list of neighbours, with the kind S above each
 abbrev pub Laid : Plan → (ℕ → Type 0) → List ℕ → Type 0
@@ -34,19 +34,19 @@ pub record Strip (p : Plan) (S : ℕ → Type 0) (a e : ℕ) (m : List ℕ) (b z
   pub laid : Laid p S (a ∷ e ∷ m ++ (b ∷ []))
   pub last : next (get_or (e ∷ m) (length m) 0) (ring p b) ≡ z
 
-module _ (p : Plan) (s : Sound p) (S : ℕ → Type 0) (f : List ℕ) (w : Line p S f) (own : (k : ℕ) → k < length f → S (at f k)) where
+module _ (p : Plan) (s : Sound p) (S : ℕ → Type 0) (f : List ℕ) (w : Trail p S f) (own : (k : ℕ) → k < length f → S (at f k)) where
   -- the same with positions that are called otherwise
   strip_at : {a e : ℕ} {m : List ℕ} {j k j′ k′ : ℕ} → j ≡ j′ → k ≡ k′ → Strip p S a e m (at f j) (at f k) → Strip p S a e m (at f j′) (at f k′)
   strip_at {a} {e} {m} {j} {k} {j′} {k′} x y h = subst (λ (v : ℕ). Strip p S a e m (at f j′) (at f v)) y (subst (λ (v : ℕ). Strip p S a e m (at f v) (at f k)) x h)
 
   -- from the context e below position k on, which has a on its left, to the position after the d next ones
-  abbrev Goes : ℕ → ℕ → ℕ → ℕ → List ℕ → Type 0
-  Goes d k a e l = Strip p S a e (squeeze_after e (l ++ raw p f (suc k) d)) (at f (suc k + d)) (at f (k + d))
+  abbrev StripFrom : ℕ → ℕ → ℕ → ℕ → List ℕ → Type 0
+  StripFrom d k a e l = Strip p S a e (squeeze_after e (l ++ raw p f (suc k) d)) (at f (suc k + d)) (at f (k + d))
 
   module _ (k : ℕ) (here : k < length f) where
     -- the rest of what is below position k
     within : (d : ℕ) (l : List ℕ) (a e : ℕ) → adjacent p a e ≡ true → Over S (ring p e) a (at f k) → Fan p (at f k) (e ∷ l ++ (at f (suc k) ∷ []))
-        → ((a e : ℕ) → adjacent p a e ≡ true → Over S (ring p e) a (at f k) → Face p (at f k) e (at f (suc k)) → Goes d k a e []) → Goes d k a e l
+        → ((a e : ℕ) → adjacent p a e ≡ true → Over S (ring p e) a (at f k) → Face p (at f k) e (at f (suc k)) → StripFrom d k a e []) → StripFrom d k a e l
     within d [] a e near o fans end = end a e near o fans.0
     within d (c ∷ l) a e near o fans end =
         let t = fans.0 in
@@ -59,19 +59,19 @@ module _ (p : Plan) (s : Sound p) (S : ℕ → Type 0) (f : List ℕ) (w : Line 
   abbrev Along : ℕ → ℕ → Type 0
   Along d k =
       suc k + d < length f → ((t : ℕ) → k < t → t < suc k + d → is_empty (below p f t) ≡ false)
-      → (a e : ℕ) (l : List ℕ) → adjacent p a e ≡ true → Over S (ring p e) a (at f k) → Fan p (at f k) (e ∷ l ++ (at f (suc k) ∷ [])) → Goes d k a e l
+      → (a e : ℕ) (l : List ℕ) → adjacent p a e ≡ true → Over S (ring p e) a (at f k) → Fan p (at f k) (e ∷ l ++ (at f (suc k) ∷ [])) → StripFrom d k a e l
 
   along : (d k : ℕ) → Along d k
   along zero k h full a e l near o fans = within k (omega arith) zero l a e near o fans end
     where
-      end : (a e : ℕ) → adjacent p a e ≡ true → Over S (ring p e) a (at f k) → Face p (at f k) e (at f (suc k)) → Goes zero k a e []
+      end : (a e : ℕ) → adjacent p a e ≡ true → Over S (ring p e) a (at f k) → Face p (at f k) e (at f (suc k)) → StripFrom zero k a e []
       end a e near o t =
           let x : suc k ≡ suc k + 0 = omega arith in
           let y : k ≡ k + 0 = omega arith in
           strip_at x y (record { laid = (near, over_join o (own k (omega arith)) (one t.at_x), t.near); last = t.at_y })
   along (suc d) k h full a e l near o fans = within k (omega arith) (suc d) l a e near o fans (λ a e near o t. end (along d (suc k)) a e near o t (below p f (suc k)) refl)
     where
-      first : Along d (suc k) → (a e : ℕ) → adjacent p a e ≡ true → Over S (ring p e) a (at f k) → Face p (at f k) e (at f (suc k)) → (c : ℕ) (m : List ℕ) → below p f (suc k) ≡ c ∷ m → Goes (suc d) k a e []
+      first : Along d (suc k) → (a e : ℕ) → adjacent p a e ≡ true → Over S (ring p e) a (at f k) → Face p (at f k) e (at f (suc k)) → (c : ℕ) (m : List ℕ) → below p f (suc k) ≡ c ∷ m → StripFrom (suc d) k a e []
       first next_one a e near o t c m q =
           let under = subst (λ (x : List ℕ). Fan p (at f (suc k)) (at f k ∷ x ++ (at f (suc (suc k)) ∷ []))) q (fan_at p s S f w k (omega arith)) in
           let same : e ≡ c = sym t.at_u ∙ under.0.at_x in
@@ -84,7 +84,7 @@ module _ (p : Plan) (s : Sound p) (S : ℕ → Type 0) (f : List ℕ) (w : Line 
           let rest : squeeze_after e tail ≡ squeeze_after e (below p f (suc k) ++ raw p f (suc (suc k)) d) = sym dropped ∙ ap (λ (v : List ℕ). squeeze_after e (v ++ raw p f (suc (suc k)) d)) (sym q) in
           subst (λ (v : List ℕ). Strip p S a e v (at f (suc k + suc d)) (at f (k + suc d))) rest (strip_at x y more)
 
-      end : Along d (suc k) → (a e : ℕ) → adjacent p a e ≡ true → Over S (ring p e) a (at f k) → Face p (at f k) e (at f (suc k)) → (v : List ℕ) → below p f (suc k) ≡ v → Goes (suc d) k a e []
+      end : Along d (suc k) → (a e : ℕ) → adjacent p a e ≡ true → Over S (ring p e) a (at f k) → Face p (at f k) e (at f (suc k)) → (v : List ℕ) → below p f (suc k) ≡ v → StripFrom (suc d) k a e []
       end r a e near o t [] q = both (is_empty (below p f (suc k))) (ap is_empty q) (full (suc k) (omega arith) (omega arith))
       end r a e near o t (c ∷ m) q = first r a e near o t c m q
 

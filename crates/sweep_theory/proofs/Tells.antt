@@ -27,7 +27,7 @@ use Rattle.sweep_theory.specs.Local.{touching, positions_due, fair, good, local,
 use Rattle.sweep_theory.specs.Counter.{raised, counted, fair_by, good_by, local_by, pick_by}
 use Rattle.sweep_theory.specs.Ready.{Tells}
 use Rattle.sweep_theory.proofs.Faces.{once-ring}
-use Rattle.sweep_theory.proofs.Lines.{at, below_near}
+use Rattle.sweep_theory.proofs.Trails.{at, below_near}
 use Rattle.sweep_theory.proofs.Frontiers.{flat}
 use Rattle.sweep_theory.proofs.Counters.{touching_on}
 

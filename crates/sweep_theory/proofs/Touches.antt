@@ -10,7 +10,7 @@ use lib.Seq.{length-take-le, get_or-take, get_or-drop}
 use Rattle.lists.specs.Tests.{tally}
 use Rattle.lists.proofs.Sums.{tally-none}
 use Rattle.model.proofs.Eligible.{get_or-mem, mem-get_or}
-use Rattle.sweep_theory.proofs.Lines.{at}
+use Rattle.sweep_theory.proofs.Trails.{at}
 
 module _ (q : ℕ → Bool) where
   pub tally-append : (l m : List ℕ) → tally q (l ++ m) ≡ tally q l + tally q m

@@ -1,4 +1,4 @@
--- The first frontier, North's ring read in reverse: a line with North alone above.
+-- The first frontier, North's ring read in reverse: a trail with North alone above.
 use Prim.Native.Nat.{ℕ, zero, suc, ◌+◌, ◌%◌, ◌<◌}
 use mathlib.Core.Path.{◌≡◌, refl, sym, ap, ◌∙◌, subst}
 use mathlib.Core.List.Memᴰ
@@ -20,7 +20,7 @@ use Rattle.model.proofs.Eligible.{get_or-mem}
 use Rattle.sweep_theory.proofs.Turns.{Backs, turns-ring, backs_reverse}
 use Rattle.sweep_theory.proofs.Faces.{Face, face, once-ring}
 use Rattle.sweep_theory.proofs.Around.{one, more}
-use Rattle.sweep_theory.proofs.Lines.{Line, at}
+use Rattle.sweep_theory.proofs.Trails.{Trail, at}
 
 backs_at : (r l : List ℕ) → Backs r l → (k : ℕ) → suc k < length l → next (at l (suc k)) r ≡ at l k
 backs_at r [] t k h = absurd (omega arith)
@@ -111,9 +111,9 @@ module _ (p : Plan) (s : Sound p) where
       go false e = refl
       go true e = absurd (none c refl (ltb-true c 4 e))
 
-  -- THE FIRST LINE
-  pub first-line : Line p (λ c. c ≡ north) f
-  first-line =
+  -- THE FIRST TRAIL
+  pub first-trail : Trail p (λ c. c ≡ north) f
+  first-trail =
       record {
         link = λ k h. (face_at k h).near;
         over = λ k h. more north (face_at k (omega arith)).at_y refl (one (face_at (suc k) h).at_x);

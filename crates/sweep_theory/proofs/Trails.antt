@@ -1,4 +1,4 @@
--- Lines of neighbours across the plan, from West to East: above each context of one, from its left to its right neighbour, there is one kind of context alone; all others lie below.
+-- Trails of neighbours across the plan, from West to East: above each context of one, from its left to its right neighbour, there is one kind of context alone; all others lie below.
 use Prim.Native.Nat.{ℕ, suc, ◌-◌, ◌<◌}
 use mathlib.Core.Path.{◌≡◌, sym, ap, ◌∙◌, subst}
 use mathlib.Core.List.Memᴰ
@@ -18,12 +18,12 @@ use Rattle.sweep_theory.proofs.Turns.{Backs, strictly_between_backs, once-revers
 use Rattle.sweep_theory.proofs.Faces.{Fan, fan, once-ring}
 use Rattle.sweep_theory.proofs.Around.{Over, other_side}
 
--- position k of a line
+-- position k of a trail
 abbrev pub at : List ℕ → ℕ → ℕ
 at f k = get_or f k 0
 
--- f is a line with the kind S above
-pub record Line (p : Plan) (S : ℕ → Type 0) (f : List ℕ) : Type 0 where
+-- f is a trail with the kind S above
+pub record Trail (p : Plan) (S : ℕ → Type 0) (f : List ℕ) : Type 0 where
   -- consecutive contexts are neighbours
   pub link : (k : ℕ) → suc k < length f → adjacent p (at f k) (at f (suc k)) ≡ true
   -- above are only contexts of the kind
@@ -47,8 +47,8 @@ below_near p f k c m =
 reverse-mem : (l : List ℕ) (c : ℕ) → Memᴰ c l → Memᴰ c (reverse l)
 reverse-mem l c m = mem-reverse (reverse l) c (subst (Memᴰ c) (sym (reverse-reverse l)) m)
 
-module _ (p : Plan) (s : Sound p) (S : ℕ → Type 0) (f : List ℕ) (w : Line p S f) (k : ℕ) (h : suc (suc k) < length f) where
-  -- a context of the line and its two neighbours on it
+module _ (p : Plan) (s : Sound p) (S : ℕ → Type 0) (f : List ℕ) (w : Trail p S f) (k : ℕ) (h : suc (suc k) < length f) where
+  -- a context of the trail and its two neighbours on it
   abbrev u : ℕ
   u = at f (suc k)
 
@@ -80,7 +80,7 @@ module _ (p : Plan) (s : Sound p) (S : ℕ → Type 0) (f : List ℕ) (w : Line 
       go (inr (Memᴰ.tail m)) = elim m [ ]
       go (inr (Memᴰ.head e)) = ap (adjacent p u) e ∙ right
 
-  -- the faces under a context of the line, from left to right
+  -- the faces under a context of the trail, from left to right
   pub fan_at : Fan p u (a ∷ below p f (suc k) ++ (b ∷ []))
   fan_at = fan p s u (w.inner k h) (a ∷ below p f (suc k) ++ (b ∷ [])) backs near_all
 
