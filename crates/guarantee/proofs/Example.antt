@@ -1,26 +1,25 @@
--- The guarantee speaks of something: trench B is opened, swept and drawn, a turn is refused, and its chart stands; the file that is then written holds it.
+-- The guarantee speaks of something: trench B is opened, swept and drawn, a turn is refused, and its chart stands.
 use Prim.Native.Nat.{ℕ}
 use mathlib.Core.Path.{◌≡◌, refl, ap}
 use mathlib.Core.List.{List, [], ◌∷◌}
-use mathlib.Core.Bool.{true, false}
-use Rattle.std.specs.Prelude.{Some, None}
+use mathlib.Core.Bool.{true}
+use Rattle.std.specs.Prelude.{Some}
 use Rattle.lists.specs.Ranges.{first_from}
 use Rattle.lists.specs.Tests.{tally}
 use Rattle.model.specs.Outcome.{refused, passed, taken}
 use Rattle.model.specs.Plan.{Plan, plan_computes, faces}
 use Rattle.model.specs.Labels.{labels_computes}
 use Rattle.model.specs.Chart.{Chart, chart_computes}
-use Rattle.model.specs.Geometry.{Point, in_rectangle, on_some_line, in_face, geometry_computes}
+use Rattle.model.specs.Geometry.{Point, in_rectangle, in_face, geometry_computes}
 use Rattle.model.specs.Sweep.{sweep_computes}
 use Rattle.model.specs.Turn.{turn_computes}
 use Rattle.model.specs.File.{fresh, opened, encode, file_computes}
 use Rattle.model.specs.Calls.{calls_computes}
-use Rattle.model.specs.CallLists.{Call, open_file, sweep-labels, turn_edges, draw_chart, run, standing, neither, both, ledger, call_lists_computes}
+use Rattle.model.specs.CallLists.{Call, open_file, sweep-labels, turn_edges, draw_chart, standing, neither, both, ledger, call_lists_computes}
 use Rattle.model.specs.Trenches.{B}
 use Rattle.sheet.specs.Sheets.{reads}
 use Rattle.sheet.specs.Answers.{answer_of}
 use Rattle.guarantee.specs.Engine.{fresh_sheet, sheet_after, answers_of}
-use Rattle.guarantee.specs.Verdicts.{newer, last_accepted, draws}
 use Rattle.guarantee.specs.Guarantee.{Owed}
 use Rattle.guarantee.proofs.Agreement.{answers}
 use Rattle.guarantee.proofs.Sized.{fresh_good}
@@ -46,22 +45,13 @@ stands = ap standing (sheet_after-reads draw_b)
 pub owed : (p : Plan) × (ls : List ℕ) × (ledger neither draw_b ≡ both p ls) × Owed p ls chart_b
 owed = (guarantee draw_b).such_chart chart_b stands
 
--- written and opened again, it stands
-pub stands_again : draws (last_accepted None neither (open_file (encode (run fresh draw_b)) ∷ [])) ≡ true
-unfolding draw_b draws newer last_accepted taken first_from plan_computes labels_computes sweep_computes chart_computes turn_computes file_computes calls_computes call_lists_computes
-stands_again = refl
-
--- the point (1, 1/2) is strictly inside the rectangle and on no line, and one of the inner faces holds it
+-- the point (1, 1/2) is strictly inside the rectangle, and one of the inner faces holds it
 pub point : Point
 point = record { p = 2; q = 1; d = 2 }
 
 pub inside : in_rectangle chart_b point ≡ true
 unfolding chart_b point geometry_computes
 inside = refl
-
-pub off_lines : on_some_line chart_b B point ≡ false
-unfolding chart_b point geometry_computes plan_computes
-off_lines = refl
 
 pub held : tally (in_face chart_b point) (faces B) ≡ 1
 unfolding chart_b point geometry_computes plan_computes
