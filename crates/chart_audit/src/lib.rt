@@ -1,11 +1,13 @@
-// What a look at a sheet finds without the engine's calls: the areas of its chart's inner faces, whether three contexts enclose others, and what sweep and chart are to answer.
+// What a look at a sheet finds without the engine's calls: the areas of its chart's inner faces, and what scan, sweep, turn and chart are to answer.
 #![tactic(auto)]
 
-ghost use Rattle.std.specs.Prelude.{◌≡◌};
+ghost use Rattle.std.specs.Prelude.{◌≡◌, true, [], ◌∷◌};
 ghost use Rattle.model.specs.Plan.{faces_from};
-ghost use Rattle.model.specs.Scan.{enclosing};
-ghost use Rattle.model.specs.Calls.{sweep_call, chart_call};
-ghost use Rattle.rings.specs.Tables.{plan_of};
+ghost use Rattle.model.specs.Scan.{enclosing, scan};
+ghost use Rattle.model.specs.Calls.{scan_call, sweep_call, turn_call, chart_call};
+ghost use Rattle.rings.specs.Tables.{plan_of, table_of};
+ghost use Rattle.plan_bounds.specs.Fits.{fit};
+ghost use Rattle.scan.specs.Scanned.{has_third, has_second};
 ghost use Rattle.chart_areas.specs.Corners.{points_only};
 ghost use Rattle.refusal.specs.Refusals.{outcome_of};
 ghost use Rattle.sheet.specs.Sheets.{held_plan, reads};
@@ -14,6 +16,7 @@ ghost use Rattle.chart_audit.specs.Surveys.{with_area, with_faces, faces_on, sur
 
 use chart_points::Points;
 use faces::FaceSteps;
+use plan_bounds::Fit;
 use refusal::Refusal;
 use rings::Rings;
 use sheet::{Sheet, Stage};
@@ -46,14 +49,60 @@ fn rings_enclose(rings: &Rings, a: usize, b: usize, c: usize) -> bool
         && !faces::is_face(rings, a, c, b)
 }
 
-// Are a, b, c neighbours of each other on the sheet's plan and no inner face, walked either way?
-#[tactic(auto, using(crate::proofs::Counts::rings_of))]
-pub fn encloses(sheet: &Sheet, a: usize, b: usize, c: usize) -> bool
-    ensures { result ≡ enclosing (held_plan sheet.now) (a, b, c) }
+// The rings of a plan that fits.
+#[derive(Clone, Copy)]
+struct FitRings<'a> {
+    rings: Rings<'a>,
+    ghost fits: { fit (plan_of rings) ≡ true },
+}
+
+impl FitRings<'_> {
+    // Do a, b and some c above b enclose? Every context is tried.
+    fn tries_thirds(&self, a: usize, b: usize) -> bool
+        ensures { result ≡ has_third (plan_of self.now.rings) a b }
+    {
+        (0..self.rings.n).any(|c| b < c && rings_enclose(&self.rings, a, b, c))
+    }
+
+    // The same. Where a and b are no neighbours there is no such c, and none is tried.
+    #[tactic(auto, using(crate::proofs::Triples::no_third))]
+    fn has_third(&self, a: usize, b: usize) -> bool
+        ensures { result ≡ has_third (plan_of self.now.rings) a b }
+    {
+        if ring_search::is_adjacent(&self.rings, a, b) {
+            return self.tries_thirds(a, b);
+        }
+        false
+    }
+
+    // Does a enclose with some b above it and some c above b?
+    fn has_second(&self, a: usize) -> bool
+        ensures { result ≡ has_second (plan_of self.now.rings) a }
+    {
+        (0..self.rings.n).any(|b| a < b && self.has_third(a, b))
+    }
+
+    // The triple of the lowest first context, then the lowest second, then the lowest third.
+    fn first_triple(&self) -> Option<(usize, usize, usize)>
+        ensures { result ≡ scan (plan_of self.now.rings) }
+    {
+        let n = self.rings.n;
+        let a = (0..n).find(|a| self.has_second(*a))?;
+        let b = (a + 1..n).find(|b| self.has_third(a, *b))?;
+        let c = (b + 1..n).find(|c| rings_enclose(&self.rings, a, b, *c))?;
+        Some((a, b, c))
+    }
+}
+
+// The first triple a < b < c, by a, then b, then c, of neighbours of each other that are no inner face.
+fn triple_of(fit: &Fit) -> Option<(usize, usize, usize)>
+    ensures { result ≡ scan (table_of fit.now.plan) }
 {
-    let plan = sheet::table_of(sheet);
+    let plan = fit.plan;
     let starts = rings::starts_of(plan.sizes);
-    rings_enclose(&plan.rings(&starts), a, b, c)
+    let rings = plan.rings(&starts);
+    let fit_rings = FitRings { rings };
+    fit_rings.first_triple()
 }
 
 impl Areas {
@@ -127,6 +176,15 @@ pub fn areas_of(sheet: &Sheet) -> Areas
     drawn.areas()
 }
 
+// What scan is to answer of a sheet: the triple that its definition gives, or that there is none; or the refusal that is due. The triples are gone through, without the table of `scan`.
+#[tactic(auto, using(sheet_queries::proofs::Scans::steps), unfolding(sheet::specs::Sheets::rank, sheet::specs::Answers::answer_of))]
+pub fn scan_due(sheet: &Sheet) -> Result<Option<(usize, usize, usize)>, Refusal>
+    ensures { outcome_of result ≡ scan_call (reads sheet.now) }
+{
+    let fitting = sheet::require_fitting(sheet, Stage::Open)?;
+    Ok(triple_of(&fitting.fit()))
+}
+
 // What sweep is to answer of a sheet: the sheet with the labels that the sweep's definition, gone through step by step, gives for its plan; or the refusal that is due.
 #[tactic(auto, using(sheet::proofs::Sweeps::steps), unfolding(sheet::specs::Sheets::rank, sheet::specs::Answers::answer_of))]
 pub fn swept_due(sheet: &Sheet) -> Result<Sheet, Refusal>
@@ -135,6 +193,16 @@ pub fn swept_due(sheet: &Sheet) -> Result<Sheet, Refusal>
     let fitting = sheet::require_fitting(sheet, Stage::Open)?;
     let labels = sweep::sweep_by_definition(&fitting.fit())?;
     Ok(fitting.with_labels(&labels))
+}
+
+// What turn of one edge is to answer of a sheet: the sheet with the labels of both darts turned, or the refusal that is due.
+#[tactic(auto, using(sheet_updates::proofs::Turns::steps), unfolding(sheet::specs::Sheets::rank, sheet::specs::Answers::answer_of))]
+pub fn turned_due(sheet: &Sheet, u: u16, v: u16, direction: u8) -> Result<Sheet, Refusal>
+    ensures { outcome_of result ≡ packed_as (turn_call (reads sheet.now) (u ∷ v ∷ []) direction) }
+{
+    let fitting = sheet::require_fitting(sheet, Stage::Labelled)?;
+    let turned = turn::turn_labels(sheet.labels, &fitting.fit(), &[u, v], direction)?;
+    Ok(fitting.with_labels(&turned))
 }
 
 // What chart is to answer of a sheet: the sheet with the chart of its plan and labels, or the refusal that is due.

@@ -2,15 +2,18 @@
 // the program prints a line with its number, its n and what open answers, then a line for each check that applies, with the
 // numbers found, which ends in `ok` or `WRONG`. The last line says how many checks there were and how many were wrong. The checks:
 //
-//    opened   a file without a chart is not drawn yet: its width and height are 0, and same is refused 13 at 0
-//    scan     the three contexts that enclose others, if there are any, are neighbours of each other and no face
+//    opened   a file without a chart is not drawn yet: it is not EMPTY, its width and height are 0, and same is refused 13 at 0
+//    scan     the lowest three contexts that are neighbours of each other and no face, or none, as going through all triples finds
 //    drawn    sweep, then chart: CHARTED where it is drawn; LABELLED where it cannot be drawn, 11; OPEN where there are no labels, 13.
 //             Sweep leaves the very sheet that its definition, gone through step by step, gives for the sheet that was opened, or
 //             is refused as that is; and so does chart by its definition for the sheet before it
 //    areas    every inner face of the chart has a positive doubled area, and with their signs they sum to 2wh
-//    turned   the first edge that turns alone, 0 clockwise or 1 counterclockwise: it is not drawn yet, nothing of the chart stands
+//    turned   the first edge that turns alone, 0 clockwise or 1 counterclockwise: turn leaves the very sheet that its definition
+//             gives for the sheet before it, and that is not drawn yet, nothing of the chart stands
 //    afresh   drawn again it is the chart of the new labels: the same as when they are offered to the sheet that was opened
 //    written  and the two are accepted by write, as the same file, byte for byte
+//
+// A file that open refuses is not judged, and neither is that no edge turns alone: that line says ok of every engine that says so.
 //
 // An answer is the number of a refusal and its place: 0 at 0 is accepted, or yes, and 1 at 0 is no. stdin beside this crate is
 // made by tools/checklist_plans.py.
@@ -18,15 +21,17 @@
 
 use checklist_lines::{Compared, DrawnSheet, Opened, Turn, Turned};
 use checklist_rules::{Filed, Tally};
+use refusal::Refusal;
 use sheet::Sheet;
 
-// The first turn of one edge that is accepted, if there is one, and the sheet that it leaves.
-fn first_turn(sheet: &Sheet) -> Option<(Turn, Sheet)> {
+// The first turn of one edge that is accepted, if there is one, and what it answers.
+fn first_turn(sheet: &Sheet) -> Option<(Turn, Result<Sheet, Refusal>)> {
     for u in 0..200u16 {
         for v in 0..256u16 {
             for direction in 0..2u8 {
-                if let Ok(left) = sheet_updates::turn(*sheet, &[u, v], direction) {
-                    return Some((Turn { u, v, direction }, left));
+                let answer = sheet_updates::turn(*sheet, &[u, v], direction);
+                if answer.is_ok() {
+                    return Some((Turn { u, v, direction }, answer));
                 }
             }
         }
@@ -64,6 +69,7 @@ fn check_turn<'a>(
     opened: &Sheet,
     sheet: &'a Sheet,
     turn: Turn,
+    answer: &'a Result<Sheet, Refusal>,
     left: &'a Sheet,
 ) -> Tally {
     let new = charted(left);
@@ -71,6 +77,7 @@ fn check_turn<'a>(
     let turned = Turned {
         turn,
         old: sheet,
+        answer,
         left: Compared {
             sheet: left,
             same: sheet_queries::same(left, left),
@@ -86,7 +93,10 @@ fn check_turn<'a>(
 // The checks of the turn of a chart's first edge that turns alone.
 fn check_turns(tally: Tally, opened: &Sheet, sheet: &Sheet) -> Tally {
     match first_turn(sheet) {
-        Some((turn, left)) => check_turn(tally, opened, sheet, turn, &left),
+        Some((turn, answer)) => {
+            let left = answer.unwrap_or(*sheet);
+            check_turn(tally, opened, sheet, turn, &answer, &left)
+        }
         None => checklist_lines::tell_turn(tally, None),
     }
 }

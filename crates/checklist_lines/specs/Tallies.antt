@@ -1,8 +1,8 @@
 -- The checks of each line of the checklist, counted.
-use Rattle.std.specs.Prelude.{◌*◌, pos, Bool, true, false, cond, ◌&&◌, Option, Some, None, Ok, Err}
+use Rattle.std.specs.Prelude.{◌*◌, pos, Bool, true, false, cond, ◌&&◌, [], ◌∷◌, Option, Some, None, Ok, Err}
 use Rattle.std.specs.declared.result.Result.{Result}
 use Rattle.model.specs.Scan.{Triple}
-use Rattle.model.specs.Calls.{sweep_call, chart_call}
+use Rattle.model.specs.Calls.{scan_call, sweep_call, turn_call, chart_call}
 use Rattle.refusal.specs.declared.Refusal.{Refusal}
 use Rattle.refusal.specs.Refusals.{number_of, place_of}
 use Rattle.sheet.specs.declared.Sheet.{Sheet}
@@ -13,7 +13,7 @@ use Rattle.sheet.specs.Answers.{packed_as}
 use Rattle.chart_areas.specs.Corners.{points_only}
 use Rattle.chart_audit.specs.Surveys.{surveyed}
 use Rattle.checklist_rules.specs.declared.Tally.{Tally}
-use Rattle.checklist_rules.specs.Audit.{tallied, undrawn, triple, answered_as_due, fills_rectangle, afresh}
+use Rattle.checklist_rules.specs.Audit.{tallied, undrawn, scanned_as_due, answered_as_due, fills_rectangle, afresh}
 use Rattle.checklist_lines.specs.declared.Shown.{Shown}
 use Rattle.checklist_lines.specs.declared.DrawnSheet.{DrawnSheet}
 use Rattle.checklist_lines.specs.declared.Turned.{Turned}
@@ -34,9 +34,9 @@ is_charted Stage.Charted = true
 abbrev pub opened_tally : Tally → Sheet → Result Bool Refusal → Tally
 opened_tally t s c = cond (is_charted (stage_read s)) t (tallied t (undrawn s c))
 
--- a file: where it is accepted, the two checks
+-- a file: where it is accepted, the two checks; scan has answered what the model's call gives of the sheet
 abbrev pub file_tally : Tally → Result Sheet Refusal → Result Bool Refusal → Result (Option Triple) Refusal → Tally
-file_tally t (Ok s) c f = tallied (opened_tally t s c) (triple s f)
+file_tally t (Ok s) c f = tallied (opened_tally t s c) (scanned_as_due f (scan_call (reads s)))
 file_tally t (Err r) c f = t
 
 -- the sheet that chart leaves: the one that it answers, or the one before where it is refused
@@ -60,7 +60,13 @@ areas_tally t s = tallied t (fills_rectangle (surveyed (held_plan s) (points_onl
 abbrev pub chart_tally : Tally → DrawnSheet → Tally
 chart_tally t d = cond (is_charted (stage_read (left_by d))) (areas_tally (drawn_tally t d) (left_by d)) (drawn_tally t d)
 
--- turned, and afresh: a turn, if there is one, leaves the sheet undrawn, and the new chart is the one drawn anew; if there is none, one check that is right
+-- turned: the turn has answered what the model's call gives of the sheet before it, and leaves the sheet undrawn
+abbrev pub turned_tally : Tally → Turned → Tally
+turned_tally t s =
+    let due = packed_as (turn_call (reads s.old.now) (s.turn.u ∷ s.turn.v ∷ []) s.turn.direction) in
+    tallied t (undrawn s.left.sheet.now s.left.same && answered_as_due s.answer.now due)
+
+-- turned, and afresh: the new chart is the one drawn anew. Where no turn is handed over, which is not judged, one check that is right
 abbrev pub turn_tally : Tally → Option Turned → Tally
-turn_tally t (Some s) = tallied (tallied t (undrawn s.left.sheet.now s.left.same)) (afresh s.new.same)
+turn_tally t (Some s) = tallied (turned_tally t s) (afresh s.new.same)
 turn_tally t None = tallied t true

@@ -4,8 +4,10 @@
 #![tactic(auto)]
 
 ghost use Rattle.std.specs.Prelude.{◌≡◌, ◌++◌, codes, decimal, Some};
-ghost use Rattle.checklist_rules.specs.Audit.{tallied, undrawn, triple, afresh, same_files};
-ghost use Rattle.checklist_lines.specs.Tallies.{shown_as, opened_tally, file_tally, left_by, drawn_tally, areas_tally, chart_tally, turn_tally};
+ghost use Rattle.model.specs.Calls.{scan_call};
+ghost use Rattle.sheet.specs.Sheets.{reads};
+ghost use Rattle.checklist_rules.specs.Audit.{tallied, undrawn, scanned_as_due, afresh, same_files};
+ghost use Rattle.checklist_lines.specs.Tallies.{shown_as, opened_tally, file_tally, left_by, drawn_tally, areas_tally, chart_tally, turned_tally, turn_tally};
 
 use checklist_rules::{Filed, Tally};
 use refusal::Refusal;
@@ -45,11 +47,12 @@ pub struct Turn {
     pub direction: u8,
 }
 
-// A turn of one edge, and what is seen of it: the turn, the sheet before it, the sheet that it leaves, and the new chart of that sheet beside the one drawn anew.
+// A turn of one edge, and what is seen of it: the turn, the sheet before it, what turn answers, the sheet that it leaves, and the new chart of that sheet beside the one drawn anew.
 #[derive(Clone, Copy)]
 pub struct Turned<'a> {
     pub turn: Turn,
     pub old: &'a Sheet,
+    pub answer: &'a Result<Sheet, Refusal>,
     pub left: Compared<'a>,
     pub new: Compared<'a>,
 }
@@ -94,6 +97,16 @@ fn answer_of<A>(answer: &Result<A, Refusal>) -> Shown
     }
 }
 
+// The name of a stage.
+fn name_of(stage: Stage) -> &'static str {
+    match stage {
+        Stage::Empty => "EMPTY",
+        Stage::Open => "OPEN",
+        Stage::Labelled => "LABELLED",
+        Stage::Charted => "CHARTED",
+    }
+}
+
 impl Compared<'_> {
     // Writes what same answers.
     fn show_same(&self) {
@@ -108,22 +121,15 @@ impl Compared<'_> {
         console::print(format_args!(", same {shown}"));
     }
 
-    // The check that the sheet has no width and no height, and that same of it is refused 13 at 0. It writes LABELLED at that stage, else OPEN; then width and height, and what same answers.
-    fn check_undrawn(&self, tally: Tally) -> Tally
-        ensures { result ≡ tallied tally (undrawn self.now.sheet.now self.now.same) }
-    {
+    // Writes the stage, the width and the height of a sheet that is to have no chart, and what same answers.
+    fn show_undrawn(&self) {
         let (w, h) = (self.sheet.w, self.sheet.h);
-        let stage = if sheet::stage_of(self.sheet) == Stage::Labelled {
-            "LABELLED"
-        } else {
-            "OPEN"
-        };
+        let stage = name_of(sheet::stage_of(self.sheet));
         console::print(format_args!("{stage} {w}x{h}, not drawn yet"));
         self.show_same();
-        judge(tally, checklist_rules::is_undrawn(self.sheet, self.same))
     }
 
-    // The same check of the sheet as a file opens it, where that is not CHARTED.
+    // The check of the sheet as a file opens it, where that is not CHARTED: it is not EMPTY, it has no width and no height, and same of it is refused 13 at 0.
     fn check_opened(&self, tally: Tally) -> Tally
         ensures { result ≡ opened_tally tally self.now.sheet.now self.now.same }
     {
@@ -131,17 +137,18 @@ impl Compared<'_> {
             return tally;
         }
         console::print("  opened: ");
-        self.check_undrawn(tally)
+        self.show_undrawn();
+        judge(tally, checklist_rules::is_undrawn(self.sheet, self.same))
     }
 }
 
-// The check of a scan of a sheet. It writes the three contexts, or that there are none; of a refused scan it writes nothing.
+// The check of a scan of a sheet, by what is due. It writes the three contexts, or that there are none; of a refused scan it writes nothing.
 fn check_scan(
     tally: Tally,
     sheet: &Sheet,
     scan: Result<Option<(usize, usize, usize)>, Refusal>,
 ) -> Tally
-    ensures { result ≡ tallied tally (triple sheet.now scan) }
+    ensures { result ≡ tallied tally (scanned_as_due scan (scan_call (reads sheet.now))) }
 {
     match scan {
         Ok(Some((a, b, c))) => {
@@ -152,7 +159,10 @@ fn check_scan(
         }
         Err(_) => {}
     }
-    judge(tally, checklist_rules::is_triple(sheet, scan))
+    judge(
+        tally,
+        checklist_rules::is_scan_due(scan, chart_audit::scan_due(sheet)),
+    )
 }
 
 // The line of a file: its number, n and what open answers; where it is accepted, the checks of what same and scan say of the sheet.
@@ -182,12 +192,15 @@ pub fn tell_file(tally: Tally, opened: &Opened) -> Tally
 
 // Writes the stage, width and height of the sheet that chart leaves, and what they mean.
 fn show_left(left: &Sheet) {
-    let (stage, meaning) = match sheet::stage_of(left) {
-        Stage::Charted => ("CHARTED", "drawn"),
-        Stage::Labelled => ("LABELLED", "cannot be drawn"),
-        Stage::Empty | Stage::Open => ("OPEN", "no labels"),
+    let stage = sheet::stage_of(left);
+    let name = name_of(stage);
+    let meaning = match stage {
+        Stage::Charted => "drawn",
+        Stage::Labelled => "cannot be drawn",
+        Stage::Open => "no labels",
+        Stage::Empty => "no plan",
     };
-    console::print(format_args!("  drawn: {stage} {}x{}, {meaning}", left.w, left.h));
+    console::print(format_args!("  drawn: {name} {}x{}, {meaning}", left.w, left.h));
 }
 
 // The check of the areas: every inner face is positive, and with their signs they sum to the rectangle. As the least of no faces it writes 2 to the 32, which no area reaches: a coordinate of a chart is at most 200.
@@ -255,15 +268,25 @@ pub fn tell_chart(tally: Tally, drawn: &DrawnSheet) -> Tally
 }
 
 impl<'a> Turned<'a> {
-    // The check that the sheet that the turn leaves has no width and no height, and that same of it is refused 13 at 0.
+    // The check of the turn, by what is due, and that the sheet that it leaves is not EMPTY, has no width and no height, and that same of it is refused 13 at 0. Where turn has answered otherwise, it writes the number and the place that are due too.
     fn check_left(&self, tally: Tally) -> Tally
-        ensures { result ≡ tallied tally (undrawn self.now.left.sheet.now self.now.left.same) }
+        ensures { result ≡ turned_tally tally self.now }
     {
         console::print(format_args!(
             "  turned: edge {},{} direction {}, ",
             self.turn.u, self.turn.v, self.turn.direction,
         ));
-        self.left.check_undrawn(tally)
+        self.left.show_undrawn();
+        let Turn { u, v, direction } = self.turn;
+        let due = chart_audit::turned_due(self.old, u, v, direction);
+        let is_turned = checklist_rules::is_due(self.answer, &due);
+        if !is_turned {
+            console::print(format_args!(", turn due {}", answer_of(&due)));
+        }
+        judge(
+            tally,
+            checklist_rules::is_undrawn(self.left.sheet, self.left.same) && is_turned,
+        )
     }
 
     // The check that the chart drawn after the turn, in place of an old one, is the one that is drawn anew.
@@ -279,7 +302,7 @@ impl<'a> Turned<'a> {
     }
 }
 
-// The checks of a turn of one edge; where no edge turns alone, one that is right.
+// The checks of a turn of one edge. Where none is handed over it writes that no edge turns alone, and counts a check that is right: that is not judged.
 pub fn tell_turn(tally: Tally, turned: Option<Turned>) -> Tally
     ensures { result ≡ turn_tally tally turned.entry }
 {

@@ -1,14 +1,14 @@
 -- What is right in the checklist, and how checks are counted.
-use Rattle.std.specs.Prelude.{ℕ, ◌+◌, ◌%◌, ◌^◌, ℤ, Bool, true, false, cond, ◌&&◌, ◌==◌, nat_eq, is_ok, Option, Some, None, Ok, Err}
+use Rattle.std.specs.Prelude.{ℕ, ◌+◌, ◌%◌, ◌^◌, ℤ, Bool, true, false, cond, ◌&&◌, ◌==◌, nat_eq, leb, is_ok, Option, Some, None, Ok, Err}
 use Rattle.std.specs.Cmp.Lexicographic.{pointwise}
 use Rattle.std.specs.Ordering.{int_eq}
 use Rattle.std.specs.declared.result.Result.{Result}
 use Rattle.model.specs.Outcome.{Outcome, accepted, refused}
-use Rattle.model.specs.Scan.{Triple, enclosing}
+use Rattle.model.specs.Scan.{Triple}
 use Rattle.refusal.specs.declared.Refusal.{Refusal}
 use Rattle.refusal.specs.Refusals.{number_of, place_of}
 use Rattle.sheet.specs.declared.Sheet.{Sheet}
-use Rattle.sheet.specs.Sheets.{held_plan, rank}
+use Rattle.sheet.specs.Sheets.{stage_read, rank}
 use Rattle.chart_audit.specs.declared.Areas.{Areas}
 use Rattle.comparison.specs.Bytes.{agreeing}
 use Rattle.checklist_rules.specs.declared.Tally.{Tally}
@@ -23,15 +23,23 @@ abbrev pub is_early : {A : Type 0} → Result A Refusal → Bool
 is_early (Ok a) = false
 is_early (Err r) = number_of r == 13 && place_of r == 0
 
--- a sheet without a chart has no width and no height, and same is refused 13 at 0
+-- a sheet that is not EMPTY and has no chart: no width and no height, and same is refused 13 at 0
 abbrev pub undrawn : Sheet → Result Bool Refusal → Bool
-undrawn s c = s.w == 0 && (s.h == 0 && is_early c)
+undrawn s c = s.w == 0 && (s.h == 0 && (is_early c && leb 1 (rank (stage_read s))))
 
--- scan: the contexts, if there are any, enclose others
-abbrev pub triple : Sheet → Result (Option Triple) Refusal → Bool
-triple s (Ok (Some x)) = enclosing (held_plan s) x
-triple s (Ok None) = true
-triple s (Err r) = false
+-- the same three contexts, or none and none
+abbrev pub same_triple : Option Triple → Option Triple → Bool
+same_triple (Some x) (Some y) = let (a, b, c) = x in let (d, e, f) = y in a == d && (b == e && c == f)
+same_triple (Some x) None = false
+same_triple None (Some y) = false
+same_triple None None = true
+
+-- scan has answered what is due: this very triple, or none; or the refusal of this number at this place
+abbrev pub scanned_as_due : Result (Option Triple) Refusal → Outcome (Option Triple) → Bool
+scanned_as_due (Ok x) (accepted y) = same_triple x y
+scanned_as_due (Ok x) (refused k at) = false
+scanned_as_due (Err r) (accepted y) = false
+scanned_as_due (Err r) (refused k at) = number_of r == k && place_of r == at
 
 -- two structs are equal, field by field
 abbrev pub same_sheets : Sheet → Sheet → Bool

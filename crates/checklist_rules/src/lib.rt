@@ -4,7 +4,7 @@
 ghost use Rattle.std.specs.Prelude.{◌≡◌};
 ghost use Rattle.refusal.specs.Refusals.{outcome_of};
 ghost use Rattle.comparison.specs.Bytes as bytes;
-ghost use Rattle.checklist_rules.specs.Audit.{tallied, is_early, undrawn, triple, same_sheets, answered_as_due, fills_rectangle, afresh, file_length, same_files};
+ghost use Rattle.checklist_rules.specs.Audit.{tallied, is_early, undrawn, same_triple, scanned_as_due, same_sheets, answered_as_due, fills_rectangle, afresh, file_length, same_files};
 
 use chart_audit::Areas;
 use refusal::Refusal;
@@ -43,21 +43,37 @@ fn is_early<A: Copy>(answer: &Result<A, Refusal>) -> bool
     answer.err() == Some(Refusal::TooEarly)
 }
 
-// Has a sheet no chart? It has no width and no height, and same is refused 13 at 0.
+// Is a sheet there that has no chart? It is not EMPTY, it has no width and no height, and same is refused 13 at 0.
 pub fn is_undrawn(sheet: &Sheet, same: Result<bool, Refusal>) -> bool
     ensures { result ≡ undrawn sheet.now same }
 {
-    sheet.w == 0 && sheet.h == 0 && is_early(&same)
+    sheet.w == 0 && sheet.h == 0 && is_early(&same) && 1 <= sheet::rank_of(sheet::stage_of(sheet))
 }
 
-// Are the three contexts of a scan neighbours of each other and no face, if there are any?
-pub fn is_triple(sheet: &Sheet, scan: Result<Option<(usize, usize, usize)>, Refusal>) -> bool
-    ensures { result ≡ triple sheet.now scan }
+// Are two answers of a scan the same three contexts, or none and none?
+fn is_same_triple(one: Option<(usize, usize, usize)>, other: Option<(usize, usize, usize)>) -> bool
+    ensures { result ≡ same_triple one other }
 {
-    match scan {
-        Ok(Some((a, b, c))) => chart_audit::encloses(sheet, a, b, c),
-        Ok(None) => true,
-        Err(_) => false,
+    match (one, other) {
+        (Some((a, b, c)), Some((d, e, f))) => a == d && b == e && c == f,
+        (None, None) => true,
+        (Some(_), None) | (None, Some(_)) => false,
+    }
+}
+
+// Has scan answered what is due: this very triple, or none; or the refusal of this number at this place?
+pub fn is_scan_due(
+    answer: Result<Option<(usize, usize, usize)>, Refusal>,
+    due: Result<Option<(usize, usize, usize)>, Refusal>,
+) -> bool
+    ensures { result ≡ scanned_as_due answer (outcome_of due) }
+{
+    match (answer, due) {
+        (Ok(triple), Ok(triple_due)) => is_same_triple(triple, triple_due),
+        (Err(refusal), Err(refusal_due)) => {
+            refusal.number() == refusal_due.number() && refusal.place() == refusal_due.place()
+        }
+        (Ok(_), Err(_)) | (Err(_), Ok(_)) => false,
     }
 }
 
