@@ -206,14 +206,8 @@ fn chart_with(
 {
     let n = fit.plan.n;
     let count = constraints_of(fit, labels, x, y);
-    let mut xs = [0; 200];
-    if !chart_solver::solve(n, &x[..count], 2, &mut xs) {
-        return Err(Refusal::NoPlacement);
-    }
-    let mut ys = [0; 200];
-    if !chart_solver::solve(n, &y[..count], 2, &mut ys) {
-        return Err(Refusal::NoPlacement);
-    }
+    let xs = chart_solver::solve(n, &x[..count], 2).ok_or(Refusal::NoPlacement)?;
+    let ys = chart_solver::solve(n, &y[..count], 2).ok_or(Refusal::NoPlacement)?;
     with_corners(xs, ys)
 }
 

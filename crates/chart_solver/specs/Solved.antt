@@ -1,5 +1,5 @@
 -- The answer of the solver.
-use Rattle.std.specs.Prelude.{ℕ, List, Bool, cond, leb, Option, Some, None}
+use Rattle.std.specs.Prelude.{ℕ, List, cond, leb, Option, Some, None}
 use Rattle.lists.specs.Spans.{zero_padded}
 use Rattle.model.specs.Outcome.{Outcome, accepted, refused}
 use Rattle.std.specs.List.{list_all}
@@ -13,10 +13,6 @@ solved n cs = cond (leb n 200) (least_numbers n cs) (refused 11 0)
 unfoldable pub numbers_of : Outcome (List ℕ) → Option (List ℕ)
 numbers_of (accepted ks) = Some (zero_padded 200 ks)
 numbers_of (refused k place) = None
-
--- the numbers of an array, where a test says that it holds some
-abbrev pub found : Bool → List ℕ → Option (List ℕ)
-found t ks = cond t (Some ks) None
 
 -- the numbers found, if they meet the constraints
 abbrev pub kept_at : List Constraint → Option (List ℕ) → Option (List ℕ)

@@ -5,7 +5,7 @@ ghost use Rattle.std.specs.Prelude.{◌≡◌, ◌+◌, ◌<◌, ◌^◌, drop, 
 ghost use Rattle.std.specs.List.{list_all};
 ghost use Rattle.model.specs.Chart.{meets};
 ghost use Rattle.chart_solver.specs.Constraints.{rise, constraint_of, constraints_in};
-ghost use Rattle.chart_solver.specs.Solved.{solved, found, numbers_of, kept_at};
+ghost use Rattle.chart_solver.specs.Solved.{solved, numbers_of, kept_at};
 ghost use Rattle.chart_solver.specs.Relaxing.{RaisedIn, Relaxed, Passed, pass_index};
 
 mod first;
@@ -116,35 +116,41 @@ impl<'a> System<'a> {
         Some(rose)
     }
 
-    // Raises numbers that the constraints have raised to the least that meet them, by passes until none rises. Are there such numbers?
-    fn settle(&self, at: &mut [u16; 200]) -> bool
-        requires { RaisedIn self.now at.old }
-        ensures { found result at.new ≡ numbers_of (solved self.now.n (constraints_in self.now.constraints.now)) }
+    // The least numbers that meet the constraints, if there are such numbers: numbers that the constraints have raised, after passes until none rises.
+    fn settle(&self, raised: [u16; 200]) -> Option<[u16; 200]>
+        requires { RaisedIn self.now raised }
+        ensures { result ≡ numbers_of (solved self.now.n (constraints_in self.now.constraints.now)) }
     {
+        let mut at = raised;
         let mut back = false;
-        while let Some(rose) = self.pass(at, back) {
+        while let Some(rose) = self.pass(&mut at, back) {
             if !rose {
-                return true;
+                return Some(at);
             }
             back = !back;
         }
-        false
+        None
     }
 }
 
-// Puts the least numbers, n of them, that meet the constraints into an array. Are there such numbers, and do they meet the constraints behind so many, whatever number those are on? Mostly the first pass has settled all, and nothing is raised any more.
-pub fn solve(n: usize, constraints: &[Constraint], behind: usize, at: &mut [u16; 200]) -> bool
-    ensures { found result at.new ≡ kept_at (constraints_in (drop behind constraints.now)) (numbers_of (solved n (constraints_in constraints.now))) }
+// The least numbers that meet the constraints, n of them and zeros after them, if there are such numbers and they meet the constraints behind so many, whatever number those are on. Mostly the first pass has settled all, and nothing is raised any more.
+pub fn solve(n: usize, constraints: &[Constraint], behind: usize) -> Option<[u16; 200]>
+    ensures { result ≡ kept_at (constraints_in (drop behind constraints.now)) (numbers_of (solved n (constraints_in constraints.now))) }
 {
     if 200 < n {
-        return false;
+        return None;
     }
     let system = System { n, constraints };
-    *at = [0; 200];
-    first::first_pass(&system, at);
-    if all_met(constraints, at) {
-        return true;
+    let mut at = [0; 200];
+    first::first_pass(&system, &mut at);
+    if all_met(constraints, &at) {
+        return Some(at);
     }
     let rest = &constraints[behind.min(constraints.len())..];
-    system.settle(at) && all_met(rest, at)
+    let least = system.settle(at)?;
+    if all_met(rest, &least) {
+        Some(least)
+    } else {
+        None
+    }
 }
