@@ -23,15 +23,24 @@ struct WithSuccessors<'a, 'b> {
     ghost own: { zero_padded 40000 table.now ≡ successors_of (plan_of rings) },
 }
 
+// The context after v on the face of the dart from u to v, by a search: for a v that does not list u, which no accepted plan has.
+#[cold]
+#[inline(never)]
+fn third_by_search(rings: &Rings, u: usize, v: usize) -> usize
+    ensures { result ≡ (step (plan_of rings.now) (u, v)).1 }
+{
+    rings.third_of(u, v)
+}
+
 impl FaceSteps for WithSuccessors<'_, '_> {
     ghost plan = { λ f. plan_of f.rings };
 
-    // By the table; where v does not list u, which no accepted plan has, by a search.
-    #[tactic(auto, unfolding(model::specs::Plan::step))]
+    // By the table, where v lists u.
+    #[inline(always)]
     fn third_of(&self, u: usize, v: usize) -> usize {
         match self.successor(v, u).checked_sub(1) {
             Some(w) => w,
-            None => self.rings.third_of(u, v),
+            None => third_by_search(&self.rings, u, v),
         }
     }
 }
