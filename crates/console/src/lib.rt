@@ -34,7 +34,9 @@ fn size_of(low: u8, middle: u8, high: u8) -> usize
     usize::from_le_bytes([low, middle, high, 0, 0, 0, 0, 0])
 }
 
-// Reads an item: its kind (1 byte), the length of its argument (3 bytes, little-endian), and the argument, to the start of a space. None where there is no item, or not all of it, or the space is too short. What stands in the space behind the argument stays, and where there is none, what stands behind the longest argument that there could be.
+// Reads an item: its kind (1 byte), the length of its argument (3 bytes, little-endian), and the argument, to the start of a space.
+// None where there is no item, or not all of it, or the space is too short.
+// What stands in the space behind the argument stays, and where there is none, what stands behind the longest argument that there could be.
 pub fn read_item(space: &mut [u8]) -> Option<Item>
     ensures size { IfSome result (λ item. item.size ≤ length space.old) }
     ensures short { IfSome result (λ item. item.size < 2 ^ 24) }
@@ -53,7 +55,8 @@ pub fn read_item(space: &mut [u8]) -> Option<Item>
     Some(Item { kind, size })
 }
 
-// Runs the items of standard input, one after another, each with its kind and its argument, which is read into a space; how many there were. The run ends at an item that is cut or too long for the space, at one of a kind that is not known, or after 100,000 items.
+// Runs the items of standard input, one after another, each with its kind and its argument, which is read into a space; how many there were.
+// The run ends at an item that is cut or too long for the space, at one of a kind that is not known, or after 100,000 items.
 pub fn run_items<F: FnMut(u8, &[u8]) -> bool>(space: &mut [u8], mut run: F) -> usize
     requires { F.IsAlwaysCallable run }
     ensures most { result ≤ 100000 }
@@ -72,7 +75,8 @@ pub fn run_items<F: FnMut(u8, &[u8]) -> bool>(space: &mut [u8], mut run: F) -> u
     MOST
 }
 
-// The first file of an input that holds files one after another, each behind its length in two bytes, little-endian, and what stands behind that file; None where the input is empty. A file that is cut is empty, and nothing stands behind it.
+// The first file of an input that holds files one after another, each behind its length in two bytes, little-endian, and what stands behind that file; None where the input is empty.
+// A file that is cut is empty, and nothing stands behind it.
 pub fn next_file(input: &[u8]) -> Option<(&[u8], &[u8])>
     ensures file { IfSome result (λ next. next.0.now ≡ part_at input.now 2 (size_at input.now)) }
     ensures rest { IfSome result (λ next. next.1.now ≡ drop (2 + size_at input.now) input.now) }

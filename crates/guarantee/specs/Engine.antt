@@ -1,4 +1,5 @@
--- The engine over a list of calls: what the calls answer and the struct that they leave. The contracts of open_file, offer, sweep, turn and chart say that a result tells packed_as of the model's call; by outcome_of-answers of crate sheet its answer and the sheet after it are those here, one call after the other.
+-- The engine over a list of calls: what the calls answer and the struct that they leave.
+-- The contracts of open_file, offer, sweep, turn and chart say that a result tells packed_as of the model's call; by outcome_of-answers of crate sheet its answer and the sheet after it are those here, one call after the other.
 use Rattle.std.specs.Prelude.{List, [], ◌∷◌}
 use Rattle.model.specs.Outcome.{Outcome}
 use Rattle.model.specs.File.{fresh}

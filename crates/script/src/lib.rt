@@ -6,7 +6,8 @@
 //   3 sweep: no argument
 //   4 turn: the direction (1 byte), then numbers of 2 bytes, little-endian, at most 1200 (a good list has at most 3 * 200 - 11 pairs)
 //   5 chart: no argument
-// An item is malformed where fewer than 4 bytes are left, where its argument reaches past the end, and where its kind is none of these or its argument not one of its kind. A script ends at its first malformed item, or else at its end. A call that is refused is run like any other: the script goes on.
+// An item is malformed where fewer than 4 bytes are left, where its argument reaches past the end, and where its kind is none of these or its argument not one of its kind.
+// A script ends at its first malformed item, or else at its end. A call that is refused is run like any other: the script goes on.
 #![tactic(auto)]
 
 ghost use Rattle.std.specs.Prelude.{◌≡◌, ◌+◌, ◌*◌, IfSome, None};

@@ -33,7 +33,8 @@ fn is_ruled(fit: &Fit) -> bool
         && plan_check::is_sound(&plan)
 }
 
-// The labels of the sweep before the label rules are tested, by a table of positions of N cells, which has a row for each context: with few tests where the plan is known to keep the rules. The table is made first, so that it is cleared once.
+// The labels of the sweep before the label rules are tested, by a table of positions of N cells, which has a row for each context: with few tests where the plan is known to keep the rules.
+// The table is made first, so that it is cleared once.
 fn swept_in<const N: usize>(fit: &Fit, ruled: bool) -> Result<[u8; 1186], Refusal>
     requires sound { ruled ≡ true → Sound (table_of fit.now.plan) }
     requires room { (200 * fit.now.plan.n ≤ N) × (N ≤ 40000) }
