@@ -3,7 +3,6 @@ use Rattle.std.specs.Prelude.{◌≡◌, ℕ, ◌^◌, ◌<◌, Bool, Ok, Err}
 use Rattle.std.specs.declared.result.Result.{Result}
 use Rattle.model.specs.Outcome.{Outcome, accepted, refused, rule}
 use Rattle.refusal.specs.declared.Refusal.{Refusal}
-use Rattle.refusal.specs.declared.Refusal.TheVariants as Refusal
 
 -- the refusal's number
 abbrev pub number_of : Refusal → ℕ
