@@ -1,5 +1,5 @@
 -- What the loops of the engine keep, each with a law for its start, its steps and its end:
--- the lowest number that passes (Looks), an array that is filled from the front (Fills).
+-- the lowest number that passes (FindsLowest), an array that is filled from the front (Fills).
 use Prim.Native.Nat.{ℕ, suc, ◌+◌, ◌-◌, ◌≤◌, ◌<◌}
 use mathlib.Core.Path.{◌≡◌, refl, sym, ap, ◌∙◌}
 use mathlib.Core.List.{List, [], ◌∷◌, ◌++◌, map, append-nil}
