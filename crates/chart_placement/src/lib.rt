@@ -206,8 +206,12 @@ fn chart_with(
 {
     let n = fit.plan.n;
     let count = constraints_of(fit, labels, x, y);
-    let xs = chart_solver::solve(n, &x[..count], 2).ok_or(Refusal::NoPlacement)?;
-    let ys = chart_solver::solve(n, &y[..count], 2).ok_or(Refusal::NoPlacement)?;
+    let Some(xs) = chart_solver::solve(n, &x[..count], 2) else {
+        return Err(Refusal::NoPlacement);
+    };
+    let Some(ys) = chart_solver::solve(n, &y[..count], 2) else {
+        return Err(Refusal::NoPlacement);
+    };
     with_corners(xs, ys)
 }
 
