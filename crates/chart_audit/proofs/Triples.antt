@@ -15,7 +15,7 @@ use Rattle.lists.proofs.Tests.{list_any_of, none_of, of_none, of_list_any}
 use Rattle.model.specs.Plan.{Plan, context_count, adjacent}
 use Rattle.model.specs.Scan.{contexts_after}
 use Rattle.scan.specs.Scanned.{has_third}
-use Rattle.scan.proofs.Looks.{third_near}
+use Rattle.scan.proofs.RingTests.{third_near}
 
 range_from : (a k : ℕ) → range_with_len a k ≡ from a k
 range_from a zero = refl
