@@ -1,10 +1,9 @@
 -- A search of all contexts for one above another, and what neighbours settle.
-use Prim.Native.Nat.{ℕ, zero, suc, ◌+◌, ◌-◌}
+use Prim.Native.Nat.{ℕ, suc, ◌-◌}
 use mathlib.Core.Path.{◌≡◌, refl, sym, ap, ◌∙◌}
-use mathlib.Core.List.{List, [], ◌∷◌, Memᴰ}
+use mathlib.Core.List.{Memᴰ}
 use mathlib.Core.Bool.{Bool, true, false, ◌&&◌, true≢false}
 use native.Mathlib.Omega.{arith}
-use native.Mathlib.Numerals.{add-one}
 use lib.Dec.{ltb}
 use borrow.Author.Tests.{ltb-true, lt-ltb}
 use Rattle.std.specs.List.{list_any, range_with_len}
@@ -16,10 +15,7 @@ use Rattle.model.specs.Plan.{Plan, context_count, adjacent}
 use Rattle.model.specs.Scan.{contexts_after}
 use Rattle.scan.specs.Scanned.{has_third}
 use Rattle.scan.proofs.RingTests.{third_near}
-
-range_from : (a k : ℕ) → range_with_len a k ≡ from a k
-range_from a zero = refl
-range_from a (suc k) = ap (a ∷◌) (range_from (a + 1) k ∙ ap (λ (b : ℕ). from b k) (add-one a))
+use Rattle.scan.proofs.Scans.{range_from}
 
 -- some context above b passes
 pub any_after : (p : Plan) (n b : ℕ) (f : ℕ → Bool) → n ≡ context_count p → list_any (λ (c : ℕ). ltb b c && f c) (range_with_len 0 (n - 0)) ≡ list_any f (contexts_after p b)

@@ -25,7 +25,7 @@ use Rattle.model.specs.Scan.{Triple, contexts_after, triples, enclosing, scan}
 use Rattle.scan.specs.Scanned.{has_third, has_second}
 
 -- ---- what `find` gives of the numbers from a up to e
-range_from : (a k : ℕ) → range_with_len a k ≡ from a k
+pub range_from : (a k : ℕ) → range_with_len a k ≡ from a k
 range_from a zero = refl
 range_from a (suc k) = ap (a ∷◌) (range_from (a + 1) k ∙ ap (λ (b : ℕ). from b k) (add-one a))
 
