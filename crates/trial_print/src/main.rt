@@ -1,7 +1,8 @@
 // Runs vectors over printing::print_sheet. Standard input holds inputs of sheetprint, each behind its length in two bytes,
 // little-endian. Each is printed three times: into a buffer of 4,096 bytes, into one that its text just fits, and into one that
 // is a byte short. Each time come the text, if it fits, and a line with the length that is answered and how many bytes of the
-// buffer, which is filled with 170 before, are still 170.
+// buffer, which is filled with 170 before, are still 170. Where the last input is cut, zeros stand for the rest of it, as far as
+// the 65,536 bytes that are read reach.
 #![tactic(auto)]
 
 ghost use Rattle.std.specs.Prelude.{◌≤◌};
@@ -37,7 +38,19 @@ fn print_input(input: &[u8]) {
     }
 }
 
-// Runs the inputs of standard input, one after another.
+// Runs the inputs of standard input, one after another: each that begins within what was read, of which each takes a byte at least.
 fn main() {
-    console::run_files(&mut io::large_buffer(), |_, input| print_input(input));
+    let mut space = io::large_buffer();
+    let got = io::read_full(0, &mut space);
+    let mut rest = &space[..];
+    for _ in 0..got {
+        let at = space.len().saturating_sub(rest.len());
+        match console::next_file(rest) {
+            Some((input, behind)) if at < got => {
+                print_input(input);
+                rest = behind;
+            }
+            _ => return,
+        }
+    }
 }

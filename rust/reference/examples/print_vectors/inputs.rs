@@ -9,14 +9,22 @@ use generate::odd::{trench_d, trench_d_labels};
 use generate::{Random, Rings};
 use reference::{encode, open, sweep, turn, PRINT_LIMIT};
 
-/// All inputs, each behind its length in two bytes.
+/// All inputs, each behind its length in two bytes, and one more, which is cut.
 pub fn framed() -> Vec<u8> {
     let mut bytes = Vec::new();
     for input in inputs() {
         bytes.extend((input.len() as u16).to_le_bytes());
         bytes.extend(input);
     }
+    bytes.extend(cut());
     bytes
+}
+
+/// The plan file of trench B behind a length of six bytes more than it has.
+fn cut() -> Vec<u8> {
+    let plan = file(&trench_b(), None, None);
+    let length = (plan.len() as u16 + 6).to_le_bytes();
+    [&length[..], &plan].concat()
 }
 
 /// All inputs.

@@ -6,13 +6,16 @@ use reference::sheetprint;
 /// The bytes of the widest buffer.
 const ROOM: usize = 4096;
 
-/// The text for inputs, each behind its length in two bytes.
+/// The text for inputs, each behind its length in two bytes. Zeros stand for what is cut of the last one.
 pub fn run(framed: &[u8]) -> String {
     let mut text = String::new();
     let mut rest = framed;
     while let [low, high, after @ ..] = rest {
-        let (input, later) = after.split_at(u16::from_le_bytes([*low, *high]).into());
-        three_times(&sheetprint(input), &mut text);
+        let size = u16::from_le_bytes([*low, *high]).into();
+        let (there, later) = after.split_at(after.len().min(size));
+        let mut input = there.to_vec();
+        input.resize(size, 0);
+        three_times(&sheetprint(&input), &mut text);
         rest = later;
     }
     text
