@@ -1,2 +1,3 @@
+pub mod Lines
 pub mod Reading
 pub mod Writing

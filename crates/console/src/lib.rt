@@ -4,6 +4,7 @@
 ghost use Rattle.std.specs.Prelude.{◌≡◌, ◌+◌, ◌-◌, ◌≤◌, ◌<◌, ◌%◌, ◌^◌, [], drop, length, IfSome, IfNone};
 ghost use Rattle.std.specs.Fmt.{with_newline};
 ghost use Rattle.arrays.specs.ArrayParts.{part_at};
+ghost use Rattle.console.specs.Lines.{behind, shown};
 ghost use Rattle.console.specs.Reading.{size_at};
 ghost use Rattle.console.specs.Writing.{Counts};
 
@@ -13,11 +14,16 @@ use std::fmt::Write;
 // How many items a run takes at most.
 const MOST: usize = 100000;
 
-// Fills a space with bytes that are read: something where there were as many as it holds.
-fn read_bytes(space: &mut [u8]) -> Option<()>
-    ensures { length space.new ≡ length space.old }
+// Reads so many bytes to the start of a space: something where the space has room for them and they were there. What stands behind them stays.
+fn read_bytes(space: &mut [u8], size: usize) -> Option<()>
+    ensures fits { IfSome result (λ _. size ≤ length space.old) }
+    ensures rest { drop size space.new ≡ drop size space.old }
+    ensures room { length space.new ≡ length space.old }
 {
-    (io::read_full(0, space) == space.len()).then_some(())
+    if space.len() < size {
+        return None;
+    }
+    (io::read_full(0, &mut space[..size]) == size).then_some(())
 }
 
 // An item of the input: its kind, and the length of its argument.
@@ -37,6 +43,7 @@ fn size_of(low: u8, middle: u8, high: u8) -> usize
 // Reads an item: its kind (1 byte), the length of its argument (3 bytes, little-endian), and the argument, to the start of a space.
 // None where there is no item, or not all of it, or the space is too short.
 // What stands in the space behind the argument stays, and where there is none, what stands behind the longest argument that there could be.
+#[tactic(auto, using(crate::proofs::Reading::none_read))]
 pub fn read_item(space: &mut [u8]) -> Option<Item>
     ensures size { IfSome result (λ item. item.size ≤ length space.old) }
     ensures short { IfSome result (λ item. item.size < 2 ^ 24) }
@@ -45,13 +52,10 @@ pub fn read_item(space: &mut [u8]) -> Option<Item>
     ensures room { length space.new ≡ length space.old }
 {
     let mut head = [0u8; 4];
-    read_bytes(&mut head)?;
+    read_bytes(&mut head, 4)?;
     let [kind, low, middle, high] = head;
     let size = size_of(low, middle, high);
-    if space.len() < size {
-        return None;
-    }
-    read_bytes(&mut space[..size])?;
+    read_bytes(space, size)?;
     Some(Item { kind, size })
 }
 
@@ -142,4 +146,30 @@ pub fn println<D: fmt::Display + Drop>(text: D) -> Option<usize>
     ensures { Counts (with_newline (D.output text)) result }
 {
     print(format_args!("{text}\n"))
+}
+
+// Writes a text from an index on, up to its next `#`, and a number in place of that; the index behind it.
+fn show_part(text: &[u8], from: usize, x: usize) -> usize
+    ensures { result ≡ behind text.now from }
+{
+    for i in from..text.len() {
+        if text[i] == b'#' {
+            io::print_decimal(1, x as u64);
+            return i + 1;
+        }
+        io::write_all(1, &text[i..i + 1]);
+    }
+    from.max(text.len())
+}
+
+// Writes a text with these numbers for its first five `#`; the index behind what is written. Unlike `print` it cannot fail.
+pub fn show(text: &[u8], a: usize, b: usize, c: usize, d: usize, e: usize) -> usize
+    ensures { result ≡ shown text.now }
+{
+    let after_a = show_part(text, 0, a);
+    let after_b = show_part(text, after_a, b);
+    let after_c = show_part(text, after_b, c);
+    let after_d = show_part(text, after_c, d);
+    let after_e = show_part(text, after_d, e);
+    show_part(text, after_e, 0)
 }
