@@ -12,7 +12,7 @@
  *     export PKG_CONFIG_PATH=PREFIX/lib/pkgconfig
  *     cc draw.c $(pkg-config --cflags --libs touchchart) -o draw
  *
- * The archive needs memcpy, memmove and memset and nothing else. It has no state: any thread may call anything at any time.
+ * The archive needs memcpy and memset and nothing else. It has no state: any thread may call anything at any time.
  * A call takes at most about 240 KB of stack (measured with this compiler, not proved), and no heap.
  *
  * SHEETS
