@@ -22,7 +22,9 @@ module _ (t : List ℕ) (i : ℕ) where
   unfolding behind up_to_mark
   behind-on h e =
       let z : i + 1 ≡ suc i = omega arith in
-      ap (λ (l : List ℕ). i + up_to_mark l) (drop-cons t i 0 h) ∙ rw (ne_eqb (get_or t i 0) 35 e, z) (let s : i + suc (up_to_mark (drop (suc i) t)) ≡ suc i + up_to_mark (drop (suc i) t) = omega arith in s)
+      let rest = up_to_mark (drop (suc i) t) in
+      let s : i + suc rest ≡ suc i + rest = omega arith in
+      ap (λ (l : List ℕ). i + up_to_mark l) (drop-cons t i 0 h) ∙ rw (ne_eqb (get_or t i 0) 35 e, z) s
 
   -- the text is at its end
   pub behind_end : length t ≤ i → behind t i ≡ i

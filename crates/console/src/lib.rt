@@ -14,10 +14,11 @@ use std::fmt::Write;
 // How many items a run takes at most.
 const MOST: usize = 100000;
 
-// Reads so many bytes to the start of a space: something where the space has room for them and they were there. What stands behind them stays.
+// Reads so many bytes to the start of a space: something where the space has room for them and they were there. What stands behind them stays, and all stays where the space is too short.
 fn read_bytes(space: &mut [u8], size: usize) -> Option<()>
     ensures fits { IfSome result (λ _. size ≤ length space.old) }
     ensures rest { drop size space.new ≡ drop size space.old }
+    ensures short { length space.old < size → space.new ≡ space.old }
     ensures room { length space.new ≡ length space.old }
 {
     if space.len() < size {
