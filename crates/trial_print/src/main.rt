@@ -38,7 +38,7 @@ fn print_input(input: &[u8]) {
     }
 }
 
-// Runs the inputs of standard input, one after another: each that begins within what was read, of which each takes a byte at least.
+// Runs the inputs of standard input, one after another, as long as one begins within what was read. Each takes a byte of that at least.
 fn main() {
     let mut space = io::large_buffer();
     let got = io::read_full(0, &mut space);
